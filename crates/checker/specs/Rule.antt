@@ -1,0 +1,87 @@
+-- The checker's rule for a network, a class and a test set: as document 01 says it, and computed.
+use Prim.Native.Nat.{ℕ, _^_, _<_}
+use mathlib.Core.Path.{_≡_}
+use mathlib.Core.Logic.{_⊎_, _≢_}
+use mathlib.Core.Bool.{Bool, not, _&&_, cond}
+use mathlib.Core.List.{List}
+use lib.Dec.{eqb}
+use lib.ListN.{length}
+use Rattle.words.specs.Bits.{at}
+use Rattle.words.specs.Searching.{least, is-found, among}
+use Rattle.words.specs.declared.Search.{Search}
+use Rattle.words.specs.declared.Search.the-variants.{Found, Missing}
+use Rattle.network.specs.declared.Network.{Network}
+use Rattle.network.specs.Reading.{all-drivers, all-but, walking-vector, extra-vector, ReadAlike, sequential-response}
+use Rattle.network.specs.States.{DriverSet, few-drivers}
+use Rattle.checker.specs.declared.Verdict.{Verdict}
+use Rattle.checker.specs.declared.Verdict.the-variants.{Pass, Pair}
+
+-- ---- the rule as document 01 says it
+
+-- a vector equal to this word
+abbrev pub Among : ℕ → List ℕ → Type 0
+Among word vectors = (t : ℕ) × (t < length vectors) × (at vectors t ≡ word)
+
+-- k = n: without the extra vector, the empty set and all drivers; else, for the smallest net without its walking vector,
+-- all drivers but that one, and all drivers; else pass
+abbrev pub FullRule : Network → List ℕ → Verdict → Type 0
+FullRule net vectors Pass = Among (extra-vector net) vectors × ((i : ℕ) → i < net .nets → Among (walking-vector net i) vectors)
+FullRule net vectors (Pair a b) =
+    ((¬ Among (extra-vector net) vectors) × (a ≡ 0) × (b ≡ all-drivers net))
+    ⊎ (Among (extra-vector net) vectors
+    × ((i : ℕ)
+    × (i < net .nets)
+    × (¬ Among (walking-vector net i) vectors)
+    × ((j : ℕ) → j < i → Among (walking-vector net j) vectors)
+    × (a ≡ all-but net i)
+    × (b ≡ all-drivers net)))
+
+-- a and b are sets of the class, a is the smaller, and both read the same on every vector
+pub record Confused (net : Network) (k : ℕ) (vectors : List ℕ) (a b : ℕ) : Type 0 where
+  pub smaller : a < b
+  pub first-set : DriverSet net k a
+  pub second-set : DriverSet net k b
+  pub read-alike : ReadAlike net vectors a b
+
+-- k below n: the smallest b with which a smaller set is confused, and the smallest such a; if there is none, pass
+abbrev pub BoundedRule : Network → ℕ → List ℕ → Verdict → Type 0
+BoundedRule net k vectors Pass = (a b : ℕ) → ¬ Confused net k vectors a b
+BoundedRule net k vectors (Pair a b) =
+    Confused net k vectors a b
+    × ((x y : ℕ) → y < b → ¬ Confused net k vectors x y)
+    × ((x : ℕ) → x < a → ¬ Confused net k vectors x b)
+
+-- the rule for k = n first, even if n is 2 or 3
+abbrev pub Rule : Network → ℕ → List ℕ → Verdict → Type 0
+Rule net k vectors verdict = ((k ≡ net .nets) × FullRule net vectors verdict) ⊎ ((k ≢ net .nets) × BoundedRule net k vectors verdict)
+
+-- ---- the rule computed
+
+-- the smallest set of the class, below b, that reads as b does
+unfoldable pub smaller-alike : Network → ℕ → List ℕ → ℕ → Search
+smaller-alike net k vectors b =
+    least b 0 (λ a. few-drivers net k a && eqb (sequential-response net vectors a) (sequential-response net vectors b))
+
+abbrev pub pair-with : Search → ℕ → Verdict
+pair-with (Found a) b = Pair a b
+pair-with Missing b = Pass
+
+abbrev pub pair-at : Search → (ℕ → Search) → Verdict
+pair-at (Found b) smaller = pair-with (smaller b) b
+pair-at Missing smaller = Pass
+
+unfoldable pub bounded-verdict : Network → ℕ → List ℕ → Verdict
+bounded-verdict net k vectors =
+    pair-at (least (2 ^ (net .nets)) 0 (λ b. few-drivers net k b && is-found (smaller-alike net k vectors b))) (smaller-alike net k vectors)
+
+abbrev pub pair-without : Network → Search → Verdict
+pair-without net (Found i) = Pair (all-but net i) (all-drivers net)
+pair-without net Missing = Pass
+
+unfoldable pub full-verdict : Network → List ℕ → Verdict
+full-verdict net vectors =
+    let by-net = pair-without net (least (net .nets) 0 (λ i. not (among (walking-vector net i) vectors))) in
+    cond (among (extra-vector net) vectors) by-net (Pair 0 (all-drivers net))
+
+unfoldable pub verdict : Network → ℕ → List ℕ → Verdict
+verdict net k vectors = let bounded = bounded-verdict net k vectors in cond (eqb k (net .nets)) (full-verdict net vectors) bounded

@@ -1,0 +1,193 @@
+-- Laws of a word's bits. What stands above goes by `has` and these laws, and not by `/` and `%`.
+use mathlib.Core.Path.{_≡_, refl, sym, ap, ap₂, _∙_}
+use mathlib.Core.Bool.{Bool, true, false, not, _&&_, _||_, true≢false, false≢true}
+use mathlib.Core.Logic.{_⊎_, inl, inr, ⊎-elim, _≢_}
+use Prim.Native.Nat.{ℕ, zero, suc, _+_, _-_, _*_, _/_, _%_, _^_, _≤_, _<_, min, max}
+use native.Mathlib.Nat.{mod-lt, zero-div, zero-lt-suc, div-one, le-of-suc-le-suc, not-suc-le-zero}
+use native.Mathlib.Numerals.{one-add}
+use native.Mathlib.Omega.{arith}
+use lib.Dec.{eqb, eqb·zero-suc, eqb·suc-zero, eqb·suc-suc}
+use lib.Arith.{digits-mod, lt-one}
+use lib.Bits.{bitAnd, and-step, and-shr}
+use lib.Pow.{pow-pos, pow-lt, shr-shr}
+use borrow.Author.Tests.{eq-eqb, eqb-true}
+use Rattle.words.specs.Bits.{bit, has, digit}
+
+pub two-positive : zero < 2
+two-positive = zero-lt-suc 1
+
+bit-below-two : (w i : ℕ) → bit w i < 2
+bit-below-two w i = mod-lt (w / 2 ^ i) two-positive
+
+bit-half : (w i : ℕ) → bit w (suc i) ≡ bit (w / 2) i
+bit-half w i = sym (ap (λ (x : ℕ). x % 2) (shr-shr w 1 i ∙ ap (λ (x : ℕ). w / 2 ^ x) (one-add i)))
+
+bit-low : (w : ℕ) → bit w 0 ≡ w % 2
+bit-low w = ap (λ (x : ℕ). x % 2) (div-one w)
+
+half-below : {w : ℕ} (n : ℕ) → w < 2 ^ suc n → w / 2 < 2 ^ n
+half-below n h = omega arith
+
+bits-equal : (n a b : ℕ) → a < 2 ^ n → b < 2 ^ n → ((i : ℕ) → i < n → bit a i ≡ bit b i) → a ≡ b
+bits-equal zero a b ha hb e = lt-one ha ∙ sym (lt-one hb)
+bits-equal (suc n) a b ha hb e =
+    let rest : a / 2 ≡ b / 2 =
+    bits-equal n (a / 2) (b / 2) (half-below n ha) (half-below n hb) (λ i h. sym (bit-half a i) ∙ e (suc i) (omega arith) ∙ bit-half b i) in
+    let here : a % 2 ≡ b % 2 = sym (bit-low a) ∙ e 0 (omega arith) ∙ bit-low b in
+    omega arith
+
+same-bit : (x y : ℕ) → x < 2 → y < 2 → eqb x 1 ≡ eqb y 1 → x ≡ y
+same-bit zero zero h k e = refl
+same-bit zero (suc zero) h k e = absurd (false≢true e)
+same-bit zero (suc (suc y)) h k e = absurd (not-suc-le-zero {n = 0} (omega arith))
+same-bit (suc zero) zero h k e = absurd (true≢false e)
+same-bit (suc zero) (suc zero) h k e = refl
+same-bit (suc zero) (suc (suc y)) h k e = absurd (not-suc-le-zero {n = 0} (omega arith))
+same-bit (suc (suc x)) y h k e = absurd (not-suc-le-zero {n = 0} (omega arith))
+
+-- two words below 2 ^ n are equal if all bits below n are
+pub words-equal : (n a b : ℕ) → a < 2 ^ n → b < 2 ^ n → ((i : ℕ) → i < n → has a i ≡ has b i) → a ≡ b
+unfolding has
+words-equal n a b ha hb e = bits-equal n a b ha hb (λ i l. same-bit (bit a i) (bit b i) (bit-below-two a i) (bit-below-two b i) (e i l))
+
+pub has-zero : (i : ℕ) → has 0 i ≡ false
+unfolding has
+has-zero i = rw zero-div
+
+pub has-half : (w i : ℕ) → has w (suc i) ≡ has (w / 2) i
+unfolding has
+has-half w i = ap (λ (x : ℕ). eqb x 1) (bit-half w i)
+
+pub has-low : (w : ℕ) → has w 0 ≡ eqb (w % 2) 1
+unfolding has
+has-low w = ap (λ (x : ℕ). eqb x 1) (bit-low w)
+
+-- ---- a word made of its lowest bit and the rest
+
+pub digit-below-two : (b : Bool) → digit b < 2
+unfolding digit
+digit-below-two true = omega arith
+digit-below-two false = omega arith
+
+pub digit-is : (b : Bool) → eqb (digit b) 1 ≡ b
+unfolding digit
+digit-is true = refl
+digit-is false = refl
+
+lowest : (d w : ℕ) → d < 2 → (d + 2 * w) % 2 ≡ d
+lowest d w h = omega arith
+
+rest-of : (d w : ℕ) → d < 2 → (d + 2 * w) / 2 ≡ w
+rest-of d w h = omega arith
+
+pub has-lowest : (d w : ℕ) → d < 2 → has (d + 2 * w) 0 ≡ eqb d 1
+has-lowest d w h = has-low (d + 2 * w) ∙ ap (λ (x : ℕ). eqb x 1) (lowest d w h)
+
+pub has-rest : (d w i : ℕ) → d < 2 → has (d + 2 * w) (suc i) ≡ has w i
+has-rest d w i h = has-half (d + 2 * w) i ∙ ap (λ (x : ℕ). has x i) (rest-of d w h)
+
+-- ---- a single bit, and all bits but one
+
+pub has-power : (j i : ℕ) → has (2 ^ j) i ≡ eqb j i
+has-power zero zero = has-low 1
+has-power zero (suc i) = has-half 1 i ∙ has-zero i ∙ sym (eqb·zero-suc i)
+has-power (suc j) zero = has-low (2 ^ suc j) ∙ ap (λ (x : ℕ). eqb x 1) even ∙ sym (eqb·suc-zero j)
+  where
+    even : 2 ^ suc j % 2 ≡ 0
+    even = omega arith
+has-power (suc j) (suc i) = has-half (2 ^ suc j) i ∙ ap (λ (x : ℕ). has x i) half ∙ has-power j i ∙ sym (eqb·suc-suc j i)
+  where
+    half : 2 ^ suc j / 2 ≡ 2 ^ j
+    half = omega arith
+
+pub has-own : (i : ℕ) → has (2 ^ i) i ≡ true
+has-own i = has-power i i ∙ eq-eqb i i refl
+
+pub has-only : (i j : ℕ) → has (2 ^ i) j ≡ true → i ≡ j
+has-only i j e = eqb-true i j (sym (has-power i j) ∙ e)
+
+pub power-not-zero : (i : ℕ) → 2 ^ i ≢ 0
+power-not-zero i e = let h = pow-pos i in omega arith
+
+-- a word that has a bit is not 0, and one that is not 0 has a bit
+pub has-not-zero : (a j : ℕ) → has a j ≡ true → a ≢ 0
+has-not-zero a j p e = true≢false (sym p ∙ ap (λ (x : ℕ). has x j) e ∙ has-zero j)
+
+all-suc : (n : ℕ) → 2 ^ suc n - 1 ≡ 1 + 2 * (2 ^ n - 1)
+all-suc n = let h = pow-pos n in omega arith
+
+pub has-all : (n i : ℕ) → i < n → has (2 ^ n - 1) i ≡ true
+has-all zero i l = absurd (not-suc-le-zero l)
+has-all (suc n) zero l = ap (λ (x : ℕ). has x 0) (all-suc n) ∙ has-lowest 1 (2 ^ n - 1) (omega arith)
+has-all (suc n) (suc i) l = ap (λ (x : ℕ). has x (suc i)) (all-suc n) ∙ has-rest 1 (2 ^ n - 1) i (omega arith) ∙ has-all n i (le-of-suc-le-suc l)
+
+but-zero : (n : ℕ) → 2 ^ suc n - 1 - 2 ^ 0 ≡ 0 + 2 * (2 ^ n - 1)
+but-zero n = let h = pow-pos n in omega arith
+
+but-suc : (n i : ℕ) → i < n → 2 ^ suc n - 1 - 2 ^ suc i ≡ 1 + 2 * (2 ^ n - 1 - 2 ^ i)
+but-suc n i l = let h = pow-lt l in omega arith
+
+pub has-all-but : (n i j : ℕ) → i < n → j < n → has (2 ^ n - 1 - 2 ^ i) j ≡ not (eqb i j)
+has-all-but zero i j l m = absurd (not-suc-le-zero l)
+has-all-but (suc n) zero zero l m = ap (λ (x : ℕ). has x 0) (but-zero n) ∙ has-lowest 0 (2 ^ n - 1) (omega arith)
+has-all-but (suc n) zero (suc j) l m =
+    ap (λ (x : ℕ). has x (suc j)) (but-zero n) ∙ has-rest 0 (2 ^ n - 1) j (omega arith) ∙ has-all n j (le-of-suc-le-suc m) ∙ sym (ap not (eqb·zero-suc j))
+has-all-but (suc n) (suc i) zero l m =
+    ap (λ (x : ℕ). has x 0) (but-suc n i (le-of-suc-le-suc l)) ∙ has-lowest 1 (2 ^ n - 1 - 2 ^ i) (omega arith) ∙ sym (ap not (eqb·suc-zero i))
+has-all-but (suc n) (suc i) (suc j) l m =
+    ap (λ (x : ℕ). has x (suc j)) (but-suc n i (le-of-suc-le-suc l)) ∙ has-rest 1 (2 ^ n - 1 - 2 ^ i) j (omega arith)
+    ∙ has-all-but n i j (le-of-suc-le-suc l) (le-of-suc-le-suc m) ∙ sym (ap not (eqb·suc-suc i j))
+
+-- ---- two words that differ
+
+pub some-bit-differs : (n a b : ℕ) → a < 2 ^ n → b < 2 ^ n → a ≢ b → (i : ℕ) × (i < n) × (has a i ≢ has b i)
+some-bit-differs zero a b ha hb d = absurd (d (lt-one ha ∙ sym (lt-one hb)))
+some-bit-differs (suc n) a b ha hb d = go (has a 0) (has b 0) refl refl (some-bit-differs n (a / 2) (b / 2) (half-below n ha) (half-below n hb))
+  where
+    Differs : Type 0
+    Differs = (i : ℕ) × (i < suc n) × (has a i ≢ has b i)
+
+    later : (a / 2 ≢ b / 2 → (i : ℕ) × (i < n) × (has (a / 2) i ≢ has (b / 2) i)) → has a 0 ≡ has b 0 → (i : ℕ) × (i < suc n) × (has a i ≢ has b i)
+    later ih e =
+        let low : a % 2 ≡ b % 2 =
+        same-bit (a % 2) (b % 2) (mod-lt a two-positive) (mod-lt b two-positive) (sym (has-low a) ∙ e ∙ has-low b) in
+        let r = ih (λ q. d (omega arith)) in
+        (suc (r .0), omega (arith, r .1), λ q. r .2 (sym (has-half a (r .0)) ∙ q ∙ has-half b (r .0)))
+
+    go : (x y : Bool) → has a 0 ≡ x → has b 0 ≡ y → (a / 2 ≢ b / 2 → (i : ℕ) × (i < n) × (has (a / 2) i ≢ has (b / 2) i))
+        → (i : ℕ) × (i < suc n) × (has a i ≢ has b i)
+    go true true p q ih = later ih (p ∙ sym q)
+    go true false p q ih = (0, omega arith, λ e. true≢false (sym p ∙ e ∙ q))
+    go false true p q ih = (0, omega arith, λ e. false≢true (sym p ∙ e ∙ q))
+    go false false p q ih = later ih (p ∙ sym q)
+
+-- a word that is not 0 has a bit
+pub some-bit : (n a : ℕ) → a < 2 ^ n → a ≢ 0 → (i : ℕ) × (i < n) × (has a i ≡ true)
+some-bit n a ha d = let r = some-bit-differs n a 0 ha (pow-pos n) d in (r .0, r .1, on (r .0) (has a (r .0)) refl (r .2))
+  where
+    on : (i : ℕ) (x : Bool) → has a i ≡ x → has a i ≢ has 0 i → x ≡ true
+    on i true e h = refl
+    on i false e h = absurd (h (e ∙ sym (has-zero i)))
+
+-- ---- `&`
+
+min-below : (a b : ℕ) → a < 2 → min a b < 2
+min-below a b h = omega arith
+
+and-low : (a b : ℕ) → bitAnd a b % 2 ≡ min (a % 2) (b % 2)
+and-low a b = ap (λ (x : ℕ). x % 2) (and-step a b) ∙ digits-mod (bitAnd (a / 2) (b / 2)) (min-below _ _ (mod-lt a two-positive))
+
+min-and : (x y : ℕ) → x < 2 → y < 2 → eqb (min x y) 1 ≡ eqb x 1 && eqb y 1
+min-and zero zero h k = refl
+min-and zero (suc zero) h k = refl
+min-and zero (suc (suc y)) h k = absurd (not-suc-le-zero {n = 0} (omega arith))
+min-and (suc zero) zero h k = refl
+min-and (suc zero) (suc zero) h k = refl
+min-and (suc zero) (suc (suc y)) h k = absurd (not-suc-le-zero {n = 0} (omega arith))
+min-and (suc (suc x)) y h k = absurd (not-suc-le-zero {n = 0} (omega arith))
+
+pub has-and : (a b i : ℕ) → has (bitAnd a b) i ≡ has a i && has b i
+unfolding has
+has-and a b i =
+    ap (λ (x : ℕ). eqb (x % 2) 1) (and-shr a b i) ∙ ap (λ (x : ℕ). eqb x 1) (and-low (a / 2 ^ i) (b / 2 ^ i))
+    ∙ min-and (bit a i) (bit b i) (bit-below-two a i) (bit-below-two b i)

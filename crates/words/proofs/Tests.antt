@@ -1,0 +1,77 @@
+-- Laws of Boolean tests.
+use mathlib.Core.Path.{_≡_, refl, sym, _∙_}
+use mathlib.Core.Bool.{Bool, true, false, not, _&&_, _||_, true≢false, false≢true}
+use mathlib.Core.Logic.{_⊎_, inl, inr, ⊎-elim, _≢_}
+use Prim.Native.Nat.{ℕ, _≤_, _<_}
+use native.Mathlib.Nat.{eq-or-lt-of-le}
+use lib.Dec.{ltb, leb, eqb}
+use borrow.Author.Tests.{ltb-true, ltb-false, leb-true, leb-false, eqb-true, eqb-false}
+use Rattle.words.specs.Answers.{Decides}
+
+pub cases : (b : Bool) → (b ≡ true) ⊎ (b ≡ false)
+cases true = inl refl
+cases false = inr refl
+
+-- a test that both passes and fails
+pub contrary : {A : Type 0} {b : Bool} → b ≡ true → b ≡ false → A
+contrary p q = absurd (true≢false (sym p ∙ q))
+
+pub and-left : (a b : Bool) → a && b ≡ true → a ≡ true
+and-left true b e = refl
+and-left false b e = e
+
+pub and-right : (a b : Bool) → a && b ≡ true → b ≡ true
+and-right true b e = e
+and-right false b e = absurd (false≢true e)
+
+pub and-both : {a b : Bool} → a ≡ true → b ≡ true → a && b ≡ true
+and-both p q = rw (p, q)
+
+pub and-false : (a : Bool) → a && false ≡ false
+and-false true = refl
+and-false false = refl
+
+pub or-cases : (a b : Bool) → a || b ≡ true → (a ≡ true) ⊎ (b ≡ true)
+or-cases true b e = inl refl
+or-cases false b e = inr e
+
+pub or-right : (a b : Bool) → b ≡ true → a || b ≡ true
+or-right true b e = refl
+or-right false b e = e
+
+pub neither : (a b : Bool) → a || b ≡ false → (a ≡ false) × (b ≡ false)
+neither true b e = absurd (true≢false e)
+neither false b e = (refl, e)
+
+pub same-truth : (a b : Bool) → (a ≡ true → b ≡ true) → (b ≡ true → a ≡ true) → a ≡ b
+same-truth true b f g = sym (f refl)
+same-truth false true f g = g refl
+same-truth false false f g = refl
+
+pub less-or-not : (a b : ℕ) → (a < b) ⊎ (b ≤ a)
+less-or-not a b = ⊎-elim (λ e. inl (ltb-true a b e)) (λ e. inr (ltb-false a b e)) (cases (ltb a b))
+
+pub three-ways : (a b : ℕ) → (a < b) ⊎ ((a ≡ b) ⊎ (b < a))
+three-ways a b = ⊎-elim inl (λ l. inr (⊎-elim (λ q. inl (sym q)) inr (eq-or-lt-of-le l))) (less-or-not a b)
+
+-- ---- tests that decide
+
+pub decides-less : (a b : ℕ) → Decides (ltb a b) (a < b)
+decides-less a b = (ltb-true a b, λ e l. contrary (borrow.Author.Tests.lt-ltb a b l) e)
+
+pub decides-at-most : (a b : ℕ) → Decides (leb a b) (a ≤ b)
+decides-at-most a b = (leb-true a b, λ e l. contrary (borrow.Author.Tests.le-leb a b l) e)
+
+pub decides-equal : (a b : ℕ) → Decides (eqb a b) (a ≡ b)
+decides-equal a b = (eqb-true a b, eqb-false a b)
+
+pub decides-or : {a b : Bool} {A B : Type 0} → Decides a A → Decides b B → Decides (a || b) (A ⊎ B)
+decides-or {a} {b} f g =
+    (λ e. ⊎-elim (λ p. inl (f .0 p)) (λ q. inr (g .0 q)) (or-cases a b e), λ e w. ⊎-elim (f .1 (neither a b e .0)) (g .1 (neither a b e .1)) w)
+
+pub decides-not : {a : Bool} {A : Type 0} → Decides a A → Decides (not a) (¬ A)
+decides-not {a} f = (λ e. f .1 (borrow.Author.Tests.not-true a e), λ e n. n (f .0 (borrow.Author.Tests.not-false a e)))
+
+-- the same test for what says the same
+pub decides-same : {a : Bool} {A B : Type 0} → Decides a A → (A → B) → (B → A) → Decides a B
+decides-same f to from = (λ e. to (f .0 e), λ e b. f .1 e (from b))

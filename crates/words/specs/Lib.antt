@@ -1,0 +1,5 @@
+pub mod Bits
+pub mod Searching
+pub mod Turning
+pub mod Answers
+pub mod Open

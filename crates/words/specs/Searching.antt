@@ -1,0 +1,30 @@
+-- The smallest number that passes a test, and what is said with it.
+use Prim.Native.Nat.{ℕ, zero, suc}
+use mathlib.Core.Bool.{Bool, true, false}
+use mathlib.Core.List.{List}
+use lib.Dec.{eqb}
+use lib.ListN.{length}
+use Rattle.words.specs.Bits.{at}
+use Rattle.words.specs.declared.Search.{Search}
+use Rattle.words.specs.declared.Search.the-variants.{Found, Missing}
+
+-- of the d numbers from x on, the smallest that passes
+unfoldable pub least : ℕ → ℕ → (ℕ → Bool) → Search
+least zero x p = Missing
+least (suc d) x p = elim (p x) [ true ↦ Found x | false ↦ least d (suc x) p ]
+
+unfoldable pub is-found : Search → Bool
+is-found (Found x) = true
+is-found Missing = false
+
+-- some number below n passes
+unfoldable pub any : ℕ → (ℕ → Bool) → Bool
+any n p = is-found (least n 0 p)
+
+-- where a word stands first in a list
+unfoldable pub position : ℕ → List ℕ → Search
+position w ws = least (length ws) 0 (λ t. eqb (at ws t) w)
+
+-- whether a word stands in a list
+unfoldable pub among : ℕ → List ℕ → Bool
+among w ws = is-found (position w ws)
