@@ -39,10 +39,18 @@ few-drivers net k set = leb (driver-count net set) k
 unfoldable pub meet-and-differ : Network → ℕ → ℕ → Bool
 meet-and-differ net a b = meets net a b && not (eqb a b)
 
--- not n words, a bit at or above n, more than k drivers, or two reaches that meet and differ
+unfoldable pub has-wrong-reach : Network → ℕ → List ℕ → Bool
+has-wrong-reach net k state = any (length state) (λ i. not (ltb (at state i) (2 ^ (net .nets)) && few-drivers net k (at state i)))
+
+unfoldable pub conflicts : Network → List ℕ → ℕ → Bool
+conflicts net state reach = any (length state) (λ j. meet-and-differ net reach (at state j))
+
+unfoldable pub has-conflict : Network → List ℕ → Bool
+has-conflict net state = any (length state) (λ i. conflicts net state (at state i))
+
+-- not n words; a bit at or above n, or more than k drivers; or two reaches that meet and differ
 unfoldable pub not-a-state : Network → ℕ → List ℕ → Bool
 not-a-state net k state =
-    let receivers = length state in
-    let wrong-set = any receivers (λ i. not (ltb (at state i) (2 ^ (net .nets)) && few-drivers net k (at state i))) in
-    let wrong-pair = any receivers (λ i. any receivers (λ j. meet-and-differ net (at state i) (at state j))) in
-    not (eqb receivers (net .nets)) || (wrong-set || wrong-pair)
+    let wrong = has-wrong-reach net k state in
+    let conflict = has-conflict net state in
+    not (eqb (length state) (net .nets)) || (wrong || conflict)

@@ -31,15 +31,16 @@ has-word [] i = has-zero i
 has-word (b ∷ bs) zero = has-lowest (digit b) (word bs) (digit-below-two b) ∙ digit-is b
 has-word (b ∷ bs) (suc i) = has-rest (digit b) (word bs) i (digit-below-two b) ∙ has-word bs i
 
-getD-map-below : (f : ℕ → Bool) (xs : List ℕ) (i : ℕ) → i < length xs → getD (map f xs) i false ≡ f (at xs i)
-getD-map-below f [] i l = absurd (not-suc-le-zero l)
-getD-map-below f (x ∷ xs) zero l = refl
-getD-map-below f (x ∷ xs) (suc i) l = getD-map-below f xs i (le-of-suc-le-suc l)
+-- entry i of a list worked out entry by entry
+pub map-at : {B : Type 0} (f : ℕ → B) (d : B) (xs : List ℕ) (i : ℕ) → i < length xs → getD (map f xs) i d ≡ f (at xs i)
+map-at f d [] i l = absurd (not-suc-le-zero l)
+map-at f d (x ∷ xs) zero l = refl
+map-at f d (x ∷ xs) (suc i) l = map-at f d xs i (le-of-suc-le-suc l)
 
 -- the word that has bit i where f passes at entry i
 module _ (f : ℕ → Bool) (xs : List ℕ) where
   pub has-made : (i : ℕ) → i < length xs → has (word (map f xs)) i ≡ f (at xs i)
-  has-made i l = has-word (map f xs) i ∙ getD-map-below f xs i l
+  has-made i l = has-word (map f xs) i ∙ map-at f false xs i l
 
   pub made-below : word (map f xs) < 2 ^ length xs
   made-below = rw (length-map xs f) at (word-below (map f xs))
@@ -48,10 +49,10 @@ module _ (f : ℕ → Bool) (xs : List ℕ) where
   pub made-equal : (g : ℕ → Bool) → ((i : ℕ) → i < length xs → f (at xs i) ≡ g (at xs i)) → word (map f xs) ≡ word (map g xs)
   made-equal g h =
       words-equal (length xs) (word (map f xs)) (word (map g xs)) made-below (rw (length-map xs g) at (word-below (map g xs)))
-      (λ i l. has-made i l ∙ h i l ∙ sym (has-word (map g xs) i ∙ getD-map-below g xs i l))
+      (λ i l. has-made i l ∙ h i l ∙ sym (has-word (map g xs) i ∙ map-at g false xs i l))
 
   pub made-bits : (g : ℕ → Bool) → word (map f xs) ≡ word (map g xs) → (i : ℕ) → i < length xs → f (at xs i) ≡ g (at xs i)
-  made-bits g e i l = sym (has-made i l) ∙ ap (λ (w : ℕ). has w i) e ∙ has-word (map g xs) i ∙ getD-map-below g xs i l
+  made-bits g e i l = sym (has-made i l) ∙ ap (λ (w : ℕ). has w i) e ∙ has-word (map g xs) i ∙ map-at g false xs i l
 
 -- ---- a loop that makes a word, bit t at turn t
 

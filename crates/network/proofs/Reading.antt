@@ -1,0 +1,282 @@
+-- What the rest asks of `reads`: three laws of the definition, and what follows from them.
+use mathlib.Core.Path.{_≡_, refl, sym, ap, _∙_, subst}
+use mathlib.Core.Bool.{Bool, true, false, not, _&&_, _||_, true≢false}
+use mathlib.Core.Logic.{_⊎_, inl, inr, ⊎-elim, _≢_, _↔_}
+use mathlib.Core.List.{List, map}
+use Prim.Native.Nat.{ℕ, zero, suc, _-_, _^_, _≤_, _<_}
+use native.Mathlib.Nat.{lt-of-le-of-lt}
+use native.Mathlib.Omega.{arith}
+use lib.Bits.{bitAnd, and-le-l}
+use lib.Dec.{eqb}
+use lib.ListN.{length, length-map}
+use lib.Pow.{pow-pos, pow-lt}
+use lib.Seq.{ext-getD}
+use borrow.Author.Tests.{eq-eqb, ne-eqb, eqb-true, eqb-false, not-true, not-false}
+use Rattle.words.specs.Bits.{has, word, at}
+use Rattle.words.specs.Searching.{any}
+use Rattle.words.specs.Answers.{Decides}
+use Rattle.words.proofs.Tests.{cases, contrary, and-left, and-right, and-both, or-cases, or-right, same-truth}
+use Rattle.words.proofs.Searching.{any-at, any-some, any-none, any-false}
+use Rattle.words.proofs.Bits.{words-equal, has-zero, has-power, has-own, has-not-zero, has-all, has-all-but, has-and, some-bit}
+use Rattle.words.proofs.Making.{map-at, has-made, made-below, made-equal, made-bits}
+use Rattle.network.specs.declared.Network.{Network}
+use Rattle.network.specs.Reading.{all-drivers, all-but, walking-vector, extra-vector, meets, reads, Reads1, ReadAlike, sequential-response, response-word, response, Response}
+
+-- ---- driver sets and vectors by name
+
+module _ (net : Network) where
+  pub has-walking : (i j : ℕ) → has (walking-vector net i) j ≡ eqb i j
+  unfolding walking-vector
+  has-walking i j = has-power i j
+
+  pub walking-below : (i : ℕ) → i < net .nets → walking-vector net i < 2 ^ (net .nets)
+  unfolding walking-vector
+  walking-below i l = pow-lt l
+
+  pub has-extra : (j : ℕ) → has (extra-vector net) j ≡ false
+  unfolding extra-vector
+  has-extra j = has-zero j
+
+  pub extra-below : extra-vector net < 2 ^ (net .nets)
+  unfolding extra-vector
+  extra-below = pow-pos (net .nets)
+
+  pub all-below : all-drivers net < 2 ^ (net .nets)
+  unfolding all-drivers
+  all-below = let h = pow-pos (net .nets) in omega arith
+
+  pub has-every : (i : ℕ) → i < net .nets → has (all-drivers net) i ≡ true
+  unfolding all-drivers
+  has-every i l = has-all (net .nets) i l
+
+  pub has-every-but : (i j : ℕ) → i < net .nets → j < net .nets → has (all-but net i) j ≡ not (eqb i j)
+  unfolding all-but all-drivers
+  has-every-but i j l m = has-all-but (net .nets) i j l m
+
+  pub all-but-less : (i : ℕ) → i < net .nets → all-but net i < all-drivers net
+  unfolding all-but all-drivers
+  all-but-less i l = let h = pow-lt l in let k = pow-pos i in omega arith
+
+  pub all-not-empty : 0 < net .nets → all-drivers net ≢ 0
+  all-not-empty l = has-not-zero (all-drivers net) 0 (has-every 0 l)
+
+  -- ---- two sets with a driver in common
+
+  pub meets-at : (a b j : ℕ) → j < net .nets → has a j ≡ true → has b j ≡ true → meets net a b ≡ true
+  unfolding meets
+  meets-at a b j l p q = any-at (λ i. has a i && has b i) (net .nets) j l (and-both p q)
+
+  pub meets-some : (a b : ℕ) → meets net a b ≡ true → (j : ℕ) × (j < net .nets) × (has a j ≡ true) × (has b j ≡ true)
+  unfolding meets
+  meets-some a b e =
+      let r = any-some (λ i. has a i && has b i) (net .nets) e in
+      (r .0, r .1, and-left (has a (r .0)) (has b (r .0)) (r .2), and-right (has a (r .0)) (has b (r .0)) (r .2))
+
+  -- as the code tests it: `a & b` is not 0
+  pub meets-and : (a b : ℕ) → a < 2 ^ (net .nets) → meets net a b ≡ not (eqb (bitAnd a b) 0)
+  meets-and a b l = same-truth (meets net a b) (not (eqb (bitAnd a b) 0)) there back
+    where
+      there : meets net a b ≡ true → not (eqb (bitAnd a b) 0) ≡ true
+      there e =
+          let r = meets-some a b e in
+          ap not (ne-eqb (bitAnd a b) 0 (has-not-zero (bitAnd a b) (r .0) (has-and a b (r .0) ∙ and-both (r .2) (r .3))))
+
+      back : not (eqb (bitAnd a b) 0) ≡ true → meets net a b ≡ true
+      back e =
+          let r = some-bit (net .nets) (bitAnd a b) (lt-of-le-of-lt (and-le-l a b) l) (eqb-false (bitAnd a b) 0 (not-true _ e)) in
+          let both : has a (r .0) && has b (r .0) ≡ true = sym (has-and a b (r .0)) ∙ r .2 in
+          meets-at a b (r .0) (r .1) (and-left (has a (r .0)) (has b (r .0)) both) (and-right (has a (r .0)) (has b (r .0)) both)
+
+  -- ---- the definition's own three laws
+
+  -- a floating receiver reads 1
+  pub reads-floating : (vector : ℕ) → reads net 0 vector ≡ true
+  unfolding reads
+  reads-floating vector = refl
+
+  -- so does one with a driver in its reach that drives 1
+  pub reads-driven : (reach vector j : ℕ) → j < net .nets → has reach j ≡ true → has vector j ≡ true → reads net reach vector ≡ true
+  unfolding reads
+  reads-driven reach vector j l p q = or-right (eqb reach 0) (meets net reach vector) (meets-at reach vector j l p q)
+
+  -- and no other
+  pub reads-only : (reach vector : ℕ) → reach ≢ 0 → reads net reach vector ≡ true
+      → (j : ℕ) × (j < net .nets) × (has reach j ≡ true) × (has vector j ≡ true)
+  unfolding reads
+  reads-only reach vector h e =
+      ⊎-elim (λ q. absurd (h (eqb-true reach 0 q))) (λ q. meets-some reach vector q) (or-cases (eqb reach 0) (meets net reach vector) e)
+
+  -- ---- what follows from them
+
+  pub decides-reads : (reach vector : ℕ) → Decides (reads net reach vector) (Reads1 net reach vector)
+  decides-reads reach vector = (there, back)
+    where
+      there : reads net reach vector ≡ true → Reads1 net reach vector
+      there e = ⊎-elim (λ q. inl (eqb-true reach 0 q)) (λ q. inr (reads-only reach vector (eqb-false reach 0 q) e)) (cases (eqb reach 0))
+
+      back : reads net reach vector ≡ false → ¬ (Reads1 net reach vector)
+      back e (inl q) = contrary (ap (λ (x : ℕ). reads net x vector) q ∙ reads-floating vector) e
+      back e (inr (j, l, p, q)) = contrary (reads-driven reach vector j l p q) e
+
+  -- the walking vector of a net tells whether its driver is in a reach that is not empty
+  pub reads-walking : (reach i : ℕ) → i < net .nets → reach ≢ 0 → reads net reach (walking-vector net i) ≡ has reach i
+  reads-walking reach i l h =
+      same-truth (reads net reach (walking-vector net i)) (has reach i) there
+      (λ e. reads-driven reach (walking-vector net i) i l e (has-walking i i ∙ eq-eqb i i refl))
+    where
+      there : reads net reach (walking-vector net i) ≡ true → has reach i ≡ true
+      there e =
+          let r = reads-only reach (walking-vector net i) h e in
+          subst (λ (x : ℕ). has reach x ≡ true) (sym (eqb-true i (r .0) (sym (has-walking i (r .0)) ∙ r .3))) (r .2)
+
+  -- the extra vector tells whether a receiver floats
+  pub reads-extra : (reach : ℕ) → reads net reach (extra-vector net) ≡ eqb reach 0
+  reads-extra reach = go (eqb reach 0) refl
+    where
+      go : (b : Bool) → eqb reach 0 ≡ b → reads net reach (extra-vector net) ≡ b
+      go true e = ap (λ (x : ℕ). reads net x (extra-vector net)) (eqb-true reach 0 e) ∙ reads-floating (extra-vector net)
+      go false e =
+          same-truth _ _ (λ q. let r = reads-only reach (extra-vector net) (eqb-false reach 0 e) q in contrary (r .3) (has-extra (r .0)))
+          (λ q. absurd (true≢false (sym q)))
+
+  -- together they tell any two sets of drivers apart
+  pub walking-apart : (a b : ℕ) → a < 2 ^ (net .nets) → b < 2 ^ (net .nets) → reads net a (extra-vector net) ≡ reads net b (extra-vector net)
+      → ((i : ℕ) → i < net .nets → reads net a (walking-vector net i) ≡ reads net b (walking-vector net i)) → a ≡ b
+  walking-apart a b la lb extra walking = go (eqb a 0) refl
+    where
+      float : eqb a 0 ≡ eqb b 0
+      float = sym (reads-extra a) ∙ extra ∙ reads-extra b
+
+      go : (t : Bool) → eqb a 0 ≡ t → a ≡ b
+      go true e = eqb-true a 0 e ∙ sym (eqb-true b 0 (sym float ∙ e))
+      go false e =
+          words-equal (net .nets) a b la lb
+          (λ i l. sym (reads-walking a i l (eqb-false a 0 e)) ∙ walking i l ∙ reads-walking b i l (eqb-false b 0 (sym float ∙ e)))
+
+  -- on any other vector the empty set reads as all drivers do
+  pub empty-as-all : (vector : ℕ) → vector < 2 ^ (net .nets) → vector ≢ extra-vector net → reads net 0 vector ≡ reads net (all-drivers net) vector
+  unfolding extra-vector
+  empty-as-all vector l h =
+      let r = some-bit (net .nets) vector l h in
+      reads-floating vector ∙ sym (reads-driven (all-drivers net) vector (r .0) (r .1) (has-every (r .0) (r .1)) (r .2))
+
+  -- and on any but the walking vector of net i, all drivers but i read as all do
+  pub all-but-as-all : (i vector : ℕ) → 2 ≤ net .nets → i < net .nets → vector < 2 ^ (net .nets) → vector ≢ walking-vector net i
+      → reads net (all-but net i) vector ≡ reads net (all-drivers net) vector
+  all-but-as-all i vector two l lv h = go (any (net .nets) other) refl
+    where
+      other : ℕ → Bool
+      other j = not (eqb i j) && has vector j
+
+      away : (j : ℕ) × (j < net .nets) × (eqb i j ≡ false)
+      away = elim i as (λ x. (j : ℕ) × (j < net .nets) × (eqb x j ≡ false)) [
+        | zero ↦ (1, omega arith, refl)
+        | suc x ↦ (0, omega arith, ne-eqb (suc x) 0 (λ e. omega arith))
+      ]
+
+      but-not-empty : all-but net i ≢ 0
+      but-not-empty = has-not-zero (all-but net i) (away .0) (has-every-but i (away .0) l (away .1) ∙ ap not (away .2))
+
+      -- no other net drives 1, and the vector is not the walking one: none does
+      quiet : any (net .nets) other ≡ false → (j : ℕ) → j < net .nets → has vector j ≡ false
+      quiet e j lj = ⊎-elim at-i (λ q. off j lj q) (cases (eqb i j))
+        where
+          off : (x : ℕ) → x < net .nets → eqb i x ≡ false → has vector x ≡ false
+          off x lx q = rw q at (any-false other (net .nets) x lx e)
+
+          at-i : eqb i j ≡ true → has vector j ≡ false
+          at-i q = ⊎-elim (λ f. absurd (h (is-walking f))) (λ f. f) (cases (has vector j))
+            where
+              bit-at : has vector j ≡ true → (x : ℕ) → x < net .nets → (b : Bool) → eqb i x ≡ b → has vector x ≡ has (walking-vector net i) x
+              bit-at f x lx true p = subst (λ (y : ℕ). has vector y ≡ true) (sym (eqb-true i j q) ∙ eqb-true i x p) f ∙ sym (has-walking i x ∙ p)
+              bit-at f x lx false p = off x lx p ∙ sym (has-walking i x ∙ p)
+
+              is-walking : has vector j ≡ true → vector ≡ walking-vector net i
+              is-walking f = words-equal (net .nets) vector (walking-vector net i) lv (walking-below i l) (λ x lx. bit-at f x lx (eqb i x) refl)
+
+      reads-nothing : (a : ℕ) → a ≢ 0 → any (net .nets) other ≡ false → reads net a vector ≡ false
+      reads-nothing a nz e =
+          ⊎-elim (λ q. let r = reads-only a vector nz q in contrary (r .3) (quiet e (r .0) (r .1))) (λ q. q) (cases (reads net a vector))
+
+      go : (t : Bool) → any (net .nets) other ≡ t → reads net (all-but net i) vector ≡ reads net (all-drivers net) vector
+      go true e =
+          let r = any-some other (net .nets) e in
+          let on : has vector (r .0) ≡ true = and-right (not (eqb i (r .0))) (has vector (r .0)) (r .2) in
+          reads-driven (all-but net i) vector (r .0) (r .1)
+          (has-every-but i (r .0) l (r .1) ∙ and-left (not (eqb i (r .0))) (has vector (r .0)) (r .2)) on
+          ∙ sym (reads-driven (all-drivers net) vector (r .0) (r .1) (has-every (r .0) (r .1)) on)
+      go false e = reads-nothing (all-but net i) but-not-empty e ∙ sym (reads-nothing (all-drivers net) (all-not-empty (omega arith)) e)
+
+  -- ---- sequential words, and the response by its bits
+
+  -- two sets read the same on every vector exactly where their sequential words are equal
+  pub alike-sequential : (vectors : List ℕ) (a b : ℕ) → ReadAlike net vectors a b → sequential-response net vectors a ≡ sequential-response net vectors b
+  unfolding sequential-response
+  alike-sequential vectors a b h = made-equal (reads net a) vectors (reads net b) h
+
+  pub sequential-alike : (vectors : List ℕ) (a b : ℕ) → sequential-response net vectors a ≡ sequential-response net vectors b → ReadAlike net vectors a b
+  unfolding sequential-response
+  sequential-alike vectors a b e = made-bits (reads net a) vectors (reads net b) e
+
+  pub response-is : (state vectors : List ℕ) → Response net state vectors (response net state vectors)
+  unfolding response response-word
+  response-is state vectors = record {
+    one-a-vector = length-map vectors (response-word net state);
+    no-high-bit = λ t l. rw (at-vector t (rw (length-map vectors (response-word net state)) at l)) (made-below (λ reach. reads net reach (at vectors t)) state);
+    bits = λ t i l m. both t i l m;
+  }
+    where
+      at-vector : (t : ℕ) → t < length vectors → at (map (response-word net state) vectors) t ≡ response-word net state (at vectors t)
+      at-vector t l = map-at (response-word net state) 0 vectors t l
+
+      bit-at : (t i : ℕ) → t < length vectors → i < length state
+          → has (at (map (response-word net state) vectors) t) i ≡ reads net (at state i) (at vectors t)
+      bit-at t i l m = ap (λ (w : ℕ). has w i) (at-vector t l) ∙ has-made (λ reach. reads net reach (at vectors t)) state i m
+
+      both : (t i : ℕ) → t < length vectors → i < length state
+          → (has (at (map (response-word net state) vectors) t) i ≡ true) ↔ Reads1 net (at state i) (at vectors t)
+      both t i l m =
+          let d = decides-reads (at state i) (at vectors t) in (
+            λ e. d .0 (sym (bit-at t i l m) ∙ e),
+            λ h. bit-at t i l m ∙ ⊎-elim (λ q. q) (λ q. absurd (d .1 q h)) (cases (reads net (at state i) (at vectors t))),
+          )
+
+  -- only one list of words has these bits
+  pub response-determined : (state vectors ws us : List ℕ) → Response net state vectors ws → Response net state vectors us → ws ≡ us
+  response-determined state vectors ws us p q =
+      ext-getD 0 ws us (p .one-a-vector ∙ sym (q .one-a-vector))
+      (λ t l. words-equal (length state) (at ws t) (at us t) (p .no-high-bit t l) (q .no-high-bit t (rw (p .one-a-vector ∙ sym (q .one-a-vector)) at l))
+      (λ i m. let lt : t < length vectors = rw (p .one-a-vector) at l in
+      same-truth (has (at ws t) i) (has (at us t) i) (λ e. q .bits t i lt m .1 (p .bits t i lt m .0 e)) (λ e. p .bits t i lt m .1 (q .bits t i lt m .0 e))))
+
+  -- ---- responses of two states
+
+  pub response-alike : (s u vectors : List ℕ) → length s ≡ length u → response net s vectors ≡ response net u vectors
+      → (i : ℕ) → i < length s → ReadAlike net vectors (at s i) (at u i)
+  response-alike s u vectors same e i l t lt =
+      let p = response-is s vectors .bits t i lt l in
+      let q = response-is u vectors .bits t i lt (rw same at l) in
+      let d = decides-reads (at s i) (at vectors t) in
+      let f = decides-reads (at u i) (at vectors t) in
+      let w : has (at (response net s vectors) t) i ≡ has (at (response net u vectors) t) i = ap (λ (ws : List ℕ). has (at ws t) i) e in
+      same-truth (reads net (at s i) (at vectors t)) (reads net (at u i) (at vectors t))
+      (λ y. ⊎-elim (λ z. z) (λ z. absurd (f .1 z (q .0 (sym w ∙ p .1 (d .0 y))))) (cases (reads net (at u i) (at vectors t))))
+      (λ y. ⊎-elim (λ z. z) (λ z. absurd (d .1 z (p .0 (w ∙ q .1 (f .0 y))))) (cases (reads net (at s i) (at vectors t))))
+
+  pub alike-response : (s u vectors : List ℕ) → length s ≡ length u → ((i : ℕ) → i < length s → ReadAlike net vectors (at s i) (at u i))
+      → response net s vectors ≡ response net u vectors
+  alike-response s u vectors same h = response-determined u vectors (response net s vectors) (response net u vectors) as-u (response-is u vectors)
+    where
+      as-u : Response net u vectors (response net s vectors)
+      as-u =
+          let p = response-is s vectors in record {
+            one-a-vector = p .one-a-vector;
+            no-high-bit = λ t l. rw same at (p .no-high-bit t l);
+            bits = λ t i l m.
+                let n : i < length s = rw same m in
+                let d = decides-reads (at s i) (at vectors t) in
+                let f = decides-reads (at u i) (at vectors t) in (
+                  λ e. f .0 (sym (h i n t l) ∙ ⊎-elim (λ z. z) (λ z. absurd (d .1 z (p .bits t i l n .0 e))) (cases (reads net (at s i) (at vectors t)))),
+                  λ r. p .bits t i l n .1 (d .0 (h i n t l ∙ ⊎-elim (λ z. z) (λ z. absurd (f .1 z r)) (cases (reads net (at u i) (at vectors t))))),
+                );
+          }

@@ -1,0 +1,79 @@
+-- The test of a wiring state decides it, and a state is known by its reaches.
+use mathlib.Core.Path.{_≡_, refl, sym, ap, _∙_}
+use mathlib.Core.Bool.{Bool, true, false, not, _&&_, _||_}
+use mathlib.Core.Logic.{_⊎_, inl, inr, ⊎-elim}
+use mathlib.Core.List.{List}
+use Prim.Native.Nat.{ℕ, _^_, _≤_, _<_}
+use lib.Dec.{eqb, leb, ltb}
+use lib.ListN.{length}
+use lib.Seq.{ext-getD}
+use borrow.Author.Tests.{eq-eqb, ne-eqb, eqb-true, leb-true, le-leb, ltb-true, lt-ltb, not-true, not-false}
+use Rattle.words.specs.Bits.{has, at}
+use Rattle.words.specs.Searching.{any}
+use Rattle.words.specs.Answers.{Decides}
+use Rattle.words.proofs.Tests.{cases, contrary, and-left, and-right, and-both, neither}
+use Rattle.words.proofs.Searching.{any-at, any-none, any-false}
+use Rattle.network.specs.declared.Network.{Network}
+use Rattle.network.specs.Reading.{meets}
+use Rattle.network.specs.States.{driver-count, DriverSet, State, few-drivers, meet-and-differ, has-wrong-reach, conflicts, has-conflict, not-a-state}
+use Rattle.network.proofs.Reading.{meets-at, meets-some}
+
+module _ (net : Network) (k : ℕ) where
+  pub few→set : (set : ℕ) → ltb set (2 ^ (net .nets)) && few-drivers net k set ≡ true → DriverSet net k set
+  unfolding few-drivers
+  few→set set e = record {
+    inside = ltb-true set (2 ^ (net .nets)) (and-left (ltb set (2 ^ (net .nets))) _ e);
+    few = leb-true (driver-count net set) k (and-right (ltb set (2 ^ (net .nets))) _ e);
+  }
+
+  pub set→few : (set : ℕ) → DriverSet net k set → ltb set (2 ^ (net .nets)) && few-drivers net k set ≡ true
+  unfolding few-drivers
+  set→few set h = and-both (lt-ltb set (2 ^ (net .nets)) (h .inside)) (le-leb (driver-count net set) k (h .few))
+
+module _ (net : Network) where
+  -- two sets that meet and do not pass as differing are equal
+  pub meet-equal : (a b x : ℕ) → x < net .nets → has a x ≡ true → has b x ≡ true → meet-and-differ net a b ≡ false → a ≡ b
+  unfolding meet-and-differ
+  meet-equal a b x l p q e = eqb-true a b (⊎-elim (λ f. f) (λ f. contrary (and-both (meets-at net a b x l p q) (ap not f)) e) (cases (eqb a b)))
+
+module _ (net : Network) (k : ℕ) (state : List ℕ) where
+  reach-test : ℕ → Bool
+  reach-test i = not (ltb (at state i) (2 ^ (net .nets)) && few-drivers net k (at state i))
+
+  pair-test : ℕ → ℕ → Bool
+  pair-test i j = meet-and-differ net (at state i) (at state j)
+
+  pub test→state : not-a-state net k state ≡ false → State net k state
+  unfolding not-a-state has-wrong-reach has-conflict conflicts reach-test pair-test
+  test→state e =
+      let size = neither (not (eqb (length state) (net .nets))) _ e in
+      let rest = neither (has-wrong-reach net k state) (has-conflict net state) (size .1) in record {
+        size = eqb-true (length state) (net .nets) (not-false _ (size .0));
+        reach = λ i l. few→set net k (at state i) (not-false _ (any-false reach-test (length state) i l (rest .0)));
+        meet-only-if-equal = λ i j x li lj lx p q.
+            meet-equal net (at state i) (at state j) x lx p q
+            (any-false (pair-test i) (length state) j lj (any-false (λ y. any (length state) (pair-test y)) (length state) i li (rest .1)));
+      }
+
+  pub state→test : State net k state → not-a-state net k state ≡ false
+  unfolding not-a-state has-wrong-reach has-conflict conflicts reach-test pair-test meet-and-differ
+  state→test h =
+      rw (
+        eq-eqb (length state) (net .nets) (h .size),
+        any-none reach-test (length state) (λ i l. ap not (set→few net k (at state i) (h .reach i l))),
+        any-none (λ i. any (length state) (pair-test i)) (length state) (λ i l. any-none (pair-test i) (length state) (λ j m. agree i j l m (cases (meets net (at state i) (at state j))))),
+      )
+    where
+      agree : (i j : ℕ) → i < length state → j < length state → (meets net (at state i) (at state j) ≡ true) ⊎ (meets net (at state i) (at state j) ≡ false)
+          → meets net (at state i) (at state j) && not (eqb (at state i) (at state j)) ≡ false
+      agree i j l m (inl e) =
+          let r = meets-some net (at state i) (at state j) e in
+          rw (e, eq-eqb (at state i) (at state j) (h .meet-only-if-equal i j (r .0) l m (r .1) (r .2) (r .3)))
+      agree i j l m (inr e) = rw e
+
+  pub decides-not-a-state : Decides (not-a-state net k state) (¬ (State net k state))
+  decides-not-a-state = (λ e h. contrary e (state→test h), λ e h. h (test→state e))
+
+-- two states of a class with the same reaches are one
+pub states-equal : (net : Network) (k : ℕ) (s u : List ℕ) → State net k s → State net k u → ((i : ℕ) → i < length s → at s i ≡ at u i) → s ≡ u
+states-equal net k s u p q h = ext-getD 0 s u (p .size ∙ sym (q .size)) h
