@@ -4,3 +4,4 @@ pub mod Bits
 pub mod Making
 pub mod Classes
 pub mod Answers
+pub mod Columns
