@@ -2,6 +2,7 @@ pub mod Tests
 pub mod Searching
 pub mod Bits
 pub mod Making
+pub mod Columns
 pub mod Classes
-pub mod Answers
 pub mod Counting
+pub mod Answers
