@@ -1,11 +1,11 @@
 -- The checker's rule for a network, a class and a test set: as document 01 says it, and computed.
-use Prim.Native.Nat.{ℕ, _^_, _<_}
+use Prim.Native.Nat.{ℕ, _-_, _^_, _<_}
 use mathlib.Core.Path.{_≡_}
 use mathlib.Core.Logic.{_⊎_, _≢_}
 use mathlib.Core.Bool.{Bool, not, _&&_, cond}
-use mathlib.Core.List.{List}
+use mathlib.Core.List.{List, _∷_}
 use lib.Dec.{eqb}
-use lib.ListN.{length}
+use lib.ListN.{length, replicate}
 use Rattle.words.specs.Bits.{at}
 use Rattle.words.specs.Searching.{least, is-found, among}
 use Rattle.words.specs.declared.Search.{Search}
@@ -54,6 +54,10 @@ BoundedRule net k vectors (Pair a b) =
 -- the rule for k = n first, even if n is 2 or 3
 abbrev pub Rule : Network → ℕ → List ℕ → Verdict → Type 0
 Rule net k vectors verdict = ((k ≡ net .nets) × FullRule net vectors verdict) ⊎ ((k ≢ net .nets) × BoundedRule net k vectors verdict)
+
+-- the state shown for a set: its reach at receiver 0, all other receivers floating
+unfoldable pub shown-state : Network → ℕ → List ℕ
+shown-state net set = set ∷ replicate (net .nets - 1) 0
 
 -- ---- the rule computed
 

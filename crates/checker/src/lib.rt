@@ -1,4 +1,16 @@
 // The checker: whether a test set tells the wiring states of a class apart.
+ghost use mathlib.Core.Path.{_≡_};
+ghost use Prim.Native.Nat.{_<_, _≤_};
+ghost use mathlib.Core.Logic.{_⊎_};
+ghost use lib.ListN.{length};
+ghost use Rattle.checker.specs.Rule.{verdict};
+ghost use Rattle.checker.specs.Check.{«check-answer», meaning};
+
+pub mod bounded;
+pub mod unbounded;
+
+use network::Admission;
+use network::Network;
 
 // What the checker's rule gives: pass, or the pair of driver sets that it shows.
 pub enum Verdict {
@@ -11,4 +23,29 @@ pub enum Checked {
     Pass,
     Pair(u64, u64),
     Refused(u64),
+}
+
+// The rule on a test set that rows 5 to 8 admit. A helper between crates.
+pub fn verdict_of(net: Network, class: u64, vectors: &[u64]) -> Verdict
+    requires { ⌜ (length (now vectors) ≤ 64) × (net .nets ≤ 48) × (0 < class) × ((class ≤ 3) ⊎ (class ≡ net .nets)) ⌝ }
+    ensures { λ r. ⌜ r ≡ verdict net class (now (vectors .entry)) ⌝ }
+{
+    if class == net.nets {
+        return unbounded::full_verdict(net, vectors);
+    }
+    bounded::bounded_verdict(net, class, vectors)
+}
+
+// The call *check*: whether the vectors tell the states of the class apart. Rows 5, 6, 7, 8.
+pub fn check(net: Network, class: u64, vectors: &[u64]) -> Checked
+    ensures { λ r. ⌜ meaning r ≡ check-answer net class (now (vectors .entry)) ⌝ }
+{
+    let admission = network::refusals::admit_set(net, class, vectors);
+    if let Admission::Refused(number) = admission {
+        return Checked::Refused(number);
+    }
+    match verdict_of(net, class, vectors) {
+        Verdict::Pass => Checked::Pass,
+        Verdict::Pair(a, b) => Checked::Pair(a, b),
+    }
 }

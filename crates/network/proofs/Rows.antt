@@ -1,31 +1,30 @@
 -- Each row's test decides the row, and what rows that do not hold tell.
-use mathlib.Core.Path.{_≡_, refl, sym, ap, _∙_}
-use mathlib.Core.Bool.{Bool, true, false}
+use mathlib.Core.Path.{_≡_, refl}
+use mathlib.Core.Bool.{Bool, _||_}
 use mathlib.Core.Logic.{_⊎_, inl, inr, ⊎-elim}
-use mathlib.Core.List.{List, [], _∷_}
-use Prim.Native.Nat.{ℕ, zero, suc, _^_, _≤_, _<_}
+use mathlib.Core.List.{List, _++_}
+use Prim.Native.Nat.{ℕ, _^_, _≤_, _<_}
 use native.Mathlib.Nat.{lt-of-not-le}
 use native.Mathlib.Omega.{arith}
-use lib.Dec.{leb}
+use lib.Dec.{leb, eqb}
 use lib.ListN.{length}
 use Rattle.words.specs.Bits.{at}
-use Rattle.words.specs.Answers.{Answer, ByTable, NoneHolds, Decides, Decided, Filled, FillsByTable, by-tests, count-of, lent-after}
-use Rattle.words.proofs.Tests.{decides-less, decides-at-most, decides-equal, decides-or, decides-not}
+use Rattle.words.specs.Answers.{Decides, Decided, NoneHolds, refused, full, by-tests}
+use Rattle.words.proofs.Tests.{cases, decides-less, decides-at-most, decides-equal, decides-or, decides-not}
 use Rattle.words.proofs.Searching.{decides-any}
-use Rattle.words.proofs.Answers.{tests-by-table, table-determined}
+use Rattle.words.proofs.Answers.{let-through, shared-refuse, shared-pass}
 use Rattle.network.specs.declared.Network.{Network}
-use Rattle.network.specs.Reading.{response, Response}
-use Rattle.network.specs.Rows.{Row5, Row6, Row7, HighBit, Row11, Row12, bad-net-count, bad-class, bad-vector-count, has-high-bit, no-room, ResponseRows, response-tests, response-answer}
-use Rattle.network.proofs.Reading.{response-is, response-determined}
-use Rattle.network.proofs.States.{decides-not-a-state}
+use Rattle.network.specs.Rows.{Row5, Row6, Row7, HighBit, Row12, bad-net-count, bad-class, bad-vector-count, has-high-bit, no-room, SetRows, set-tests, set-admission}
 
 pub decides-row-5 : (net : Network) → Decides (bad-net-count net) (Row5 net)
 decides-row-5 net = decides-or (decides-less (net .nets) 2) (decides-less 48 (net .nets))
 
+decides-class : (net : Network) (k : ℕ)
+    → Decides (eqb k 1 || (eqb k 2 || (eqb k 3 || eqb k (net .nets)))) ((k ≡ 1) ⊎ ((k ≡ 2) ⊎ ((k ≡ 3) ⊎ (k ≡ net .nets))))
+decides-class net k = decides-or (decides-equal k 1) (decides-or (decides-equal k 2) (decides-or (decides-equal k 3) (decides-equal k (net .nets))))
+
 pub decides-row-6 : (net : Network) (k : ℕ) → Decides (bad-class net k) (Row6 net k)
-decides-row-6 net k =
-    decides-or (decides-not (decides-or (decides-equal k 1) (decides-or (decides-equal k 2) (decides-or (decides-equal k 3) (decides-equal k (net .nets))))))
-    (decides-less (net .nets) k)
+decides-row-6 net k = decides-or (decides-not (decides-class net k)) (decides-less (net .nets) k)
 
 pub decides-row-7 : (vectors : List ℕ) → Decides (bad-vector-count vectors) (Row7 vectors)
 decides-row-7 vectors = decides-or (decides-less (length vectors) 1) (decides-less 64 (length vectors))
@@ -49,26 +48,62 @@ vectors-admitted vectors h = let high : 64 < length vectors → ⊥ = λ l. h (i
 pub no-high-bit : (net : Network) (words : List ℕ) → ¬ (HighBit net words) → (t : ℕ) → t < length words → at words t < 2 ^ (net .nets)
 no-high-bit net words h t l = lt-of-not-le (λ e. h (t, l, e))
 
--- ---- the call *response from a state* answers as its rows and its result say, and nothing is left open
+-- ---- rows 5 to 8
 
-pub response-by-table : (net : Network) (k : ℕ) (vectors state : List ℕ) (room : ℕ)
-    → ByTable (ResponseRows net k vectors state room) (Response net state vectors) (response-answer net k vectors state room)
-unfolding response-answer
-response-by-table net k vectors state room =
-    tests-by-table (Response net state vectors) (ResponseRows net k vectors state room) (response-tests net k vectors state room) (response net state vectors) (
-      refl,
-      decides-row-5 net,
-      (
-        refl,
-        decides-row-6 net k,
-        (
-          refl,
-          decides-row-7 vectors,
-          (
-            refl,
-            decides-high-bit net vectors,
-            (refl, decides-not-a-state net k state, (refl, decides-row-12 (length vectors) room, tt)),
-          ),
-        ),
-      ),
-    ) (λ _. response-is net state vectors)
+pub decides-set : (net : Network) (k : ℕ) (vectors : List ℕ) → Decided (SetRows net k vectors) (set-tests net k vectors)
+decides-set net k vectors =
+    (refl, decides-row-5 net, (refl, decides-row-6 net k, (refl, decides-row-7 vectors, (refl, decides-high-bit net vectors, tt))))
+
+-- what a test set that they admit has
+pub record AdmittedSet (net : Network) (k : ℕ) (vectors : List ℕ) : Type 0 where
+  pub two : 2 ≤ net .nets
+  pub most : net .nets ≤ 48
+  pub class : (k ≤ 3) ⊎ (k ≡ net .nets)
+  pub class-positive : 0 < k
+  pub class-most : k ≤ net .nets
+  pub vectors-most : length vectors ≤ 64
+  pub narrow : (t : ℕ) → t < length vectors → at vectors t < 2 ^ (net .nets)
+
+-- the classes that row 6 admits
+admitted-class : (net : Network) (k : ℕ) → ¬ (Row6 net k) → (k ≡ 1) ⊎ ((k ≡ 2) ⊎ ((k ≡ 3) ⊎ (k ≡ net .nets)))
+admitted-class net k h =
+    let d = decides-class net k in
+    ⊎-elim (d .0) (λ e. absurd (h (inl (d .1 e)))) (cases (eqb k 1 || (eqb k 2 || (eqb k 3 || eqb k (net .nets)))))
+
+pub admitted-set : (net : Network) (k : ℕ) (vectors : List ℕ) → NoneHolds (SetRows net k vectors) → AdmittedSet net k vectors
+admitted-set net k vectors (a, (b, (c, (d, e)))) =
+    let nets = nets-admitted net a in
+    let above : net .nets < k → ⊥ = λ l. b (inr l) in record {
+      two = nets .0;
+      most = nets .1;
+      class = small (admitted-class net k b);
+      class-positive = positive (nets .0) (admitted-class net k b);
+      class-most = omega (arith, above);
+      vectors-most = vectors-admitted vectors c;
+      narrow = no-high-bit net vectors d;
+    }
+  where
+    small : (k ≡ 1) ⊎ ((k ≡ 2) ⊎ ((k ≡ 3) ⊎ (k ≡ net .nets))) → (k ≤ 3) ⊎ (k ≡ net .nets)
+    small (inl q) = inl (omega arith)
+    small (inr (inl q)) = inl (omega arith)
+    small (inr (inr (inl q))) = inl (omega arith)
+    small (inr (inr (inr q))) = inr q
+
+    positive : 2 ≤ net .nets → (k ≡ 1) ⊎ ((k ≡ 2) ⊎ ((k ≡ 3) ⊎ (k ≡ net .nets))) → 0 < k
+    positive l (inl q) = omega arith
+    positive l (inr (inl q)) = omega arith
+    positive l (inr (inr (inl q))) = omega arith
+    positive l (inr (inr (inr q))) = omega arith
+
+-- a call on a test set, by what rows 5 to 8 say
+module _ (net : Network) (k : ℕ) (vectors : List ℕ) where
+  pub set-refuses : {A : Type 0} (more : List (ℕ × Bool)) (x : A) (number : ℕ) → set-admission net k vectors ≡ refused number
+      → by-tests (set-tests net k vectors ++ more) x ≡ refused number
+  set-refuses more x number e = shared-refuse tt x (set-tests net k vectors) more number e
+
+  pub set-admits : {A : Type 0} (more : List (ℕ × Bool)) (x : A) → set-admission net k vectors ≡ full tt
+      → by-tests (set-tests net k vectors ++ more) x ≡ by-tests more x
+  set-admits more x e = shared-pass tt x (set-tests net k vectors) more tt e
+
+  pub set-admitted : set-admission net k vectors ≡ full tt → AdmittedSet net k vectors
+  set-admitted e = admitted-set net k vectors (let-through (SetRows net k vectors) (set-tests net k vectors) tt tt (decides-set net k vectors) e)

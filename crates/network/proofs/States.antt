@@ -4,6 +4,7 @@ use mathlib.Core.Bool.{Bool, true, false, not, _&&_, _||_}
 use mathlib.Core.Logic.{_⊎_, inl, inr, ⊎-elim}
 use mathlib.Core.List.{List}
 use Prim.Native.Nat.{ℕ, _^_, _≤_, _<_}
+use lib.Count.{ones}
 use lib.Dec.{eqb, leb, ltb}
 use lib.ListN.{length}
 use lib.Seq.{ext-getD}
@@ -12,11 +13,17 @@ use Rattle.words.specs.Bits.{has, at}
 use Rattle.words.specs.Searching.{any}
 use Rattle.words.specs.Answers.{Decides}
 use Rattle.words.proofs.Tests.{cases, contrary, and-left, and-right, and-both, neither}
+use Rattle.words.proofs.Classes.{ones-counted}
 use Rattle.words.proofs.Searching.{any-at, any-none, any-false}
 use Rattle.network.specs.declared.Network.{Network}
 use Rattle.network.specs.Reading.{meets}
 use Rattle.network.specs.States.{driver-count, DriverSet, State, few-drivers, meet-and-differ, has-wrong-reach, conflicts, has-conflict, not-a-state}
 use Rattle.network.proofs.Reading.{meets-at, meets-some}
+
+-- the count of ones decides
+pub few-by-ones : (net : Network) (k set : ℕ) → set < 2 ^ (net .nets) → few-drivers net k set ≡ leb (ones set) k
+unfolding few-drivers
+few-by-ones net k set l = ap (λ (x : ℕ). leb x k) (ones-counted (net .nets) set l)
 
 module _ (net : Network) (k : ℕ) where
   pub few→set : (set : ℕ) → ltb set (2 ^ (net .nets)) && few-drivers net k set ≡ true → DriverSet net k set

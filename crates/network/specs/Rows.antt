@@ -1,17 +1,18 @@
--- The refusal rows that calls share: each as document 01's table says it, and as a test. The call *response from a state*.
+-- The refusal rows that calls share: each as document 01's table says it, and as a test.
 use Prim.Native.Nat.{ℕ, _^_, _<_, _≤_}
 use mathlib.Core.Path.{_≡_}
-use mathlib.Core.Logic.{_⊎_, _≢_}
+use mathlib.Core.Logic.{_⊎_}
 use mathlib.Core.Bool.{Bool, not, _||_}
 use mathlib.Core.List.{List, [], _∷_}
 use lib.Dec.{eqb, leb, ltb}
 use lib.ListN.{length}
 use Rattle.words.specs.Bits.{at}
 use Rattle.words.specs.Searching.{any}
-use Rattle.words.specs.Answers.{Answer, by-tests}
+use Rattle.words.specs.Answers.{Answer, refused, full, by-tests}
 use Rattle.network.specs.declared.Network.{Network}
-use Rattle.network.specs.Reading.{response}
-use Rattle.network.specs.States.{State, not-a-state}
+use Rattle.network.specs.declared.Admission.{Admission}
+use Rattle.network.specs.declared.Admission.the-variants.{Admitted, Refused}
+use Rattle.network.specs.States.{State}
 
 -- ---- the rows
 
@@ -56,22 +57,18 @@ has-high-bit net words = any (length words) (λ t. leb (2 ^ (net .nets)) (at wor
 abbrev pub no-room : ℕ → ℕ → Bool
 no-room result room = ltb room result
 
--- ---- the call *response from a state*
+-- ---- rows 5, 6, 7 and 8, with which every call on a test set begins
 
--- rows 5, 6, 7, 8, 11, 12
-abbrev pub ResponseRows : Network → ℕ → (vectors state : List ℕ) → ℕ → List (ℕ × Type 0)
-ResponseRows net k vectors state room =
-    (5, Row5 net) ∷ (6, Row6 net k) ∷ (7, Row7 vectors) ∷ (8, HighBit net vectors) ∷ (11, Row11 net k state) ∷ (12, Row12 (length vectors) room) ∷ []
+abbrev pub SetRows : Network → ℕ → List ℕ → List (ℕ × Type 0)
+SetRows net k vectors = (5, Row5 net) ∷ (6, Row6 net k) ∷ (7, Row7 vectors) ∷ (8, HighBit net vectors) ∷ []
 
-abbrev pub response-tests : Network → ℕ → (vectors state : List ℕ) → ℕ → List (ℕ × Bool)
-response-tests net k vectors state room =
-    (5, bad-net-count net)
-    ∷ (6, bad-class net k)
-    ∷ (7, bad-vector-count vectors)
-    ∷ (8, has-high-bit net vectors)
-    ∷ (11, not-a-state net k state)
-    ∷ (12, no-room (length vectors) room)
-    ∷ []
+abbrev pub set-tests : Network → ℕ → List ℕ → List (ℕ × Bool)
+set-tests net k vectors = (5, bad-net-count net) ∷ (6, bad-class net k) ∷ (7, bad-vector-count vectors) ∷ (8, has-high-bit net vectors) ∷ []
 
-unfoldable pub response-answer : Network → ℕ → (vectors state : List ℕ) → ℕ → Answer (List ℕ)
-response-answer net k vectors state room = by-tests (response-tests net k vectors state room) (response net state vectors)
+-- what they say alone, computed, and as the code's enum means it
+abbrev pub set-admission : Network → ℕ → List ℕ → Answer (Unit {0})
+set-admission net k vectors = by-tests (set-tests net k vectors) tt
+
+abbrev pub admission : Admission → Answer (Unit {0})
+admission Admitted = full tt
+admission (Refused number) = refused number

@@ -31,7 +31,11 @@ pub record Fits (net : Network) (k : ℕ) (vectors responses state : List ℕ) :
   pub of-class : State net k state
   pub gives : response net state vectors ≡ responses
 
--- ---- the same as a test, in the words of row 11
+-- whatever the response, at most one state of the class fits it
+abbrev pub AtMostOneFits : Network → ℕ → List ℕ → Type 0
+AtMostOneFits net k vectors = (responses s u : List ℕ) → Fits net k vectors responses s → Fits net k vectors responses u → s ≡ u
+
+-- ---- a wiring state as a test, in the words of row 11
 
 unfoldable pub few-drivers : Network → ℕ → ℕ → Bool
 few-drivers net k set = leb (driver-count net set) k

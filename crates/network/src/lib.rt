@@ -1,6 +1,51 @@
 // A network of nets, what its receivers read, and the call that works out a response from a wiring state.
+ghost use mathlib.Core.Path.{_≡_};
+ghost use lib.ListN.{length};
+ghost use Rattle.words.specs.Answers.{«count-of», «lent-after»};
+ghost use Rattle.network.specs.Respond.{«response-answer», meaning};
+
+pub mod drivers;
+pub mod receivers;
+pub mod refusals;
 
 // The nets of a network, n in document 01: each has one driver and one receiver.
 pub struct Network {
     pub nets: u64,
+}
+
+// What rows 5 to 8 say of a network, a class and a test set.
+pub enum Admission {
+    Admitted,
+    Refused(u64),
+}
+
+// What the call *response from a state* answers: how many words it wrote, or the refusal.
+pub enum Responded {
+    Wrote(u64),
+    Refused(u64),
+}
+
+// The call *response from a state*: one response word a vector into the front of `out`. Rows 5, 6, 7, 8, 11, 12.
+pub fn response_from_state(
+    net: Network,
+    class: u64,
+    vectors: &[u64],
+    state: &[u64],
+    out: &mut [u64],
+) -> Responded
+    ensures answer { λ r. ⌜ meaning r ≡ count-of (response-answer net class (now (vectors .entry)) (now (state .entry)) (length (now (out .entry)))) ⌝ }
+    ensures list { λ r. ⌜ now (out .exit) ≡ lent-after (response-answer net class (now (vectors .entry)) (now (state .entry)) (length (now (out .entry)))) (now (out .entry)) ⌝ }
+{
+    let admission = refusals::admit_set(net, class, vectors);
+    if let Admission::Refused(number) = admission {
+        return Responded::Refused(number);
+    }
+    if refusals::not_a_state(net, class, state) {
+        return Responded::Refused(11);
+    }
+    if refusals::no_room(vectors.len(), out.len()) {
+        return Responded::Refused(12);
+    }
+    receivers::fill_response(net, vectors, state, out);
+    Responded::Wrote(vectors.len() as u64)
 }

@@ -1,12 +1,13 @@
 -- The table computed is the table said, and it leaves nothing open.
 use mathlib.Core.Path.{_≡_, refl, sym, ap, _∙_}
 use mathlib.Core.Bool.{Bool, true, false, cond}
-use mathlib.Core.Logic.{_⊎_, inl, inr, ⊎-elim}
+use mathlib.Core.Logic.{_⊎_, inl, inr}
 use mathlib.Core.List.{List, [], _∷_, _++_}
-use Prim.Native.Nat.{ℕ, _≤_, _<_}
-use lib.ListN.{length, take, drop, length-append}
+use Prim.Native.Nat.{ℕ}
+use native.Mathlib.Omega.{arith}
+use lib.ListN.{length, take, drop}
 use lib.Seq.{drop-append-seam, take-append-seam}
-use Rattle.words.specs.Answers.{Answer, refused, full, ByTable, NoneHolds, by-tests, Decides, Decided, lent-after, count-of, Filled, FillsByTable}
+use Rattle.words.specs.Answers.{Answer, refused, full, ByTable, NoneHolds, by-tests, Decided, lent-after, count-of}
 
 module _ {A : Type 0} (result : A → Type 0) where
   -- tests that decide their rows give the answer that the rows allow
@@ -32,6 +33,49 @@ module _ {A : Type 0} (result : A → Type 0) where
   table-determined ((number, holds) ∷ rows) a b one (inr (h, p)) (inl (k, q)) = absurd (h k)
   table-determined ((number, holds) ∷ rows) a b one (inr (h, p)) (inr (k, q)) = table-determined rows a b (λ n. one (h, n)) p q
 
+pub decided-append : (rows more : List (ℕ × Type 0)) (tests others : List (ℕ × Bool)) → Decided rows tests → Decided more others
+    → Decided (rows ++ more) (tests ++ others)
+decided-append [] more [] others d e = e
+decided-append [] more (t ∷ tests) others d e = absurd d
+decided-append (r ∷ rows) more [] others d e = absurd d
+decided-append ((number, holds) ∷ rows) more ((number′, test) ∷ tests) others (same, decides, rest) e =
+    (same, decides, decided-append rows more tests others rest e)
+
+-- where the tests let a call through, no row holds
+pub let-through : {A : Type 0} (rows : List (ℕ × Type 0)) (tests : List (ℕ × Bool)) (x y : A) → Decided rows tests → by-tests tests x ≡ full y → NoneHolds rows
+unfolding by-tests
+let-through [] [] x y d e = tt
+let-through [] (t ∷ tests) x y d e = absurd d
+let-through (r ∷ rows) [] x y d e = absurd d
+let-through ((number, holds) ∷ rows) ((number′, test) ∷ tests) x y (same, decides, rest) e = go test (decides .1) e (let-through rows tests x y rest)
+  where
+    go : (t : Bool) → (t ≡ false → ¬ holds) → cond t (refused number′) (by-tests tests x) ≡ full y → (by-tests tests x ≡ full y → NoneHolds rows)
+        → (¬ holds) × NoneHolds rows
+    go true no! q later = absurd (let z : _≡_ {A = ℕ} 0 1 = cc in omega arith)
+    go false no! q later = (no! refl, later q)
+
+-- first tests that several calls share, then a call's own
+module _ {A B : Type 0} (x : A) (y : B) where
+  pub shared-refuse : (tests more : List (ℕ × Bool)) (number : ℕ) → by-tests tests x ≡ refused number → by-tests (tests ++ more) y ≡ refused number
+  unfolding by-tests
+  shared-refuse [] more number e = absurd (let z : _≡_ {A = ℕ} 0 1 = cc in omega arith)
+  shared-refuse ((n, test) ∷ tests) more number e = go test e (shared-refuse tests more number)
+    where
+      go : (t : Bool) → cond t (refused n) (by-tests tests x) ≡ refused number → (by-tests tests x ≡ refused number → by-tests (tests ++ more) y ≡ refused number)
+          → cond t (refused n) (by-tests (tests ++ more) y) ≡ refused number
+      go true q later = let same : n ≡ number = cc in ap refused same
+      go false q later = later q
+
+  pub shared-pass : (tests more : List (ℕ × Bool)) (z : A) → by-tests tests x ≡ full z → by-tests (tests ++ more) y ≡ by-tests more y
+  unfolding by-tests
+  shared-pass [] more z e = refl
+  shared-pass ((n, test) ∷ tests) more z e = go test e (shared-pass tests more z)
+    where
+      go : (t : Bool) → cond t (refused n) (by-tests tests x) ≡ full z → (by-tests tests x ≡ full z → by-tests (tests ++ more) y ≡ by-tests more y)
+          → cond t (refused n) (by-tests (tests ++ more) y) ≡ by-tests more y
+      go true q later = absurd (let w : _≡_ {A = ℕ} 0 1 = cc in omega arith)
+      go false q later = later q
+
 module _ {A : Type 0} where
   -- a longer list keeps its tail
   pub tail-kept : (xs old : List A) → drop (length xs) (lent-after (full xs) old) ≡ drop (length xs) old
@@ -41,3 +85,13 @@ module _ {A : Type 0} where
   pub front-written : (xs old : List A) → take (length xs) (lent-after (full xs) old) ≡ xs
   unfolding lent-after
   front-written xs old = take-append-seam xs (drop (length xs) old)
+
+  -- what a call that fills a list owes when it refuses, and when it has written
+  pub owed-refused : (a : Answer (List A)) (number : ℕ) (lent : List A) → a ≡ refused number → (refused number ≡ count-of a) × (lent ≡ lent-after a lent)
+  unfolding count-of lent-after
+  owed-refused a number lent e = (rw e, rw e)
+
+  pub owed-full : (a : Answer (List A)) (count : ℕ) (xs lent list : List A) → a ≡ full xs → count ≡ length xs → list ≡ lent-after (full xs) lent
+      → (full count ≡ count-of a) × (list ≡ lent-after a lent)
+  unfolding count-of
+  owed-full a count xs lent list e n l = (rw e (ap full n), rw e l)

@@ -64,7 +64,7 @@ word-snoc (x ∷ bs) b =
     let p : digit b * 2 ^ length (x ∷ bs) ≡ digit b * (2 ^ length bs * 2) = ap (λ (n : ℕ). digit b * n) (pow-suc 2 (length bs)) in
     omega (arith, word-snoc bs b)
 
-map-snoc : {A B : Type 0} (f : A → B) (xs : List A) (x : A) → map f (xs ++ x ∷ []) ≡ map f xs ++ f x ∷ []
+pub map-snoc : {A B : Type 0} (f : A → B) (xs : List A) (x : A) → map f (xs ++ x ∷ []) ≡ map f xs ++ f x ∷ []
 map-snoc f [] x = refl
 map-snoc f (y ∷ xs) x = ap (λ l. f y ∷ l) (map-snoc f xs x)
 

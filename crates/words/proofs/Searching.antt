@@ -94,6 +94,14 @@ module _ (p : ℕ → Bool) where
     λ e w. h (w .0) .1 (any-false n (w .0) (w .1) e) (w .2),
   )
 
+-- two tests that agree below n find the same
+pub least-same : (p q : ℕ → Bool) (n : ℕ) → ((z : ℕ) → z < n → p z ≡ q z) → least n 0 p ≡ least n 0 q
+least-same p q n h = go (least n 0 q) (least-below q n)
+  where
+    go : (s : Search) → Least q 0 n s → least n 0 p ≡ s
+    go (Found y) (first a b c g) = least-found p n y b (λ z l. h z (omega arith) ∙ g z zero-le l) (h y b ∙ c)
+    go Missing (nowhere g) = least-missing p n (λ z l. h z l ∙ g z zero-le l)
+
 -- ---- a word in a list
 
 module _ (w : ℕ) (ws : List ℕ) where

@@ -1,0 +1,5 @@
+pub mod Verdicts
+pub mod Separation
+pub mod Walking
+pub mod Stored
+pub mod Checking

@@ -1,0 +1,79 @@
+use borrow.Author.Needs.{needs}
+use mathlib.Core.Path.{_≡_, sym, _∙_}
+use mathlib.Core.Bool.{false}
+use Rattle.words.specs.Answers.{by-tests}
+use Rattle.network.specs.Rows.{bad-net-count, bad-class, bad-vector-count, has-high-bit}
+use Rattle.network.proofs.Rows.{decides-row-5, nets-admitted}
+use Rattle.network.proofs.refusals.admit_set.Statement.{statement}
+use Rattle.network.proofs.refusals.admit_set.Tie as tie
+
+-- the rows passed on the way, at each place
+row-5-passed : (c : tie.Else1) → bad-net-count (c .before .before .before .args .net) ≡ false
+row-5-passed c = sym (c .before .bad-net-count .ensures) ∙ c .if1 .left
+
+row-6-passed : (c : tie.Else2) → bad-class (c .before .before .before .before .before .args .net) (c .before .before .before .before .before .args .class) ≡ false
+row-6-passed c = sym (c .before .bad-class .ensures) ∙ c .if2 .left
+
+row-7-passed : (c : tie.Else3) → bad-vector-count (c .before .before .before .before .before .before .before .args .vectors .now) ≡ false
+row-7-passed c = sym (c .before .bad-vector-count .ensures) ∙ c .if3 .left
+
+bad-net-count-requires : tie.Need-bad-net-count-requires
+bad-net-count-requires c κs = search needs
+
+returns : tie.Need-returns
+unfolding by-tests
+returns c = rw (sym (c .before .bad-net-count .ensures) ∙ c .if1 .taken)
+
+bad-class-requires : tie.Need-bad-class-requires
+bad-class-requires c κs = search needs
+
+returns-2 : tie.Need-returns-2
+unfolding by-tests
+returns-2 c = rw (row-5-passed (c .before .before), sym (c .before .bad-class .ensures) ∙ c .if2 .taken)
+
+bad-vector-count-requires : tie.Need-bad-vector-count-requires
+bad-vector-count-requires c κs = search needs
+
+returns-3 : tie.Need-returns-3
+unfolding by-tests
+returns-3 c =
+    rw (row-5-passed (c .before .before .before .before), row-6-passed (c .before .before), sym (c .before .bad-vector-count .ensures) ∙ c .if3 .taken)
+
+has-high-bit-requires : tie.Need-has-high-bit-requires
+has-high-bit-requires c κs =
+    let net = c .before .before .before .before .before .before .before .args .net in
+    nets-admitted net (decides-row-5 net .1 (row-5-passed (c .before .before .before .before))) .1
+
+returns-4 : tie.Need-returns-4
+unfolding by-tests
+returns-4 c =
+    rw (
+      row-5-passed (c .before .before .before .before .before .before),
+      row-6-passed (c .before .before .before .before),
+      row-7-passed (c .before .before),
+      sym (c .before .has-high-bit .ensures) ∙ c .if4 .taken,
+    )
+
+returns-5 : tie.Need-returns-5
+unfolding by-tests
+returns-5 c =
+    rw (
+      row-5-passed (c .before .before .before .before .before .before),
+      row-6-passed (c .before .before .before .before),
+      row-7-passed (c .before .before),
+      sym (c .before .has-high-bit .ensures) ∙ c .if4 .left,
+    )
+
+pub admit-set-spec : {M : Type 1} → statement M
+admit-set-spec =
+    tie.close
+    (tie.spec
+    bad-net-count-requires
+    returns
+    bad-class-requires
+    returns-2
+    bad-vector-count-requires
+    returns-3
+    has-high-bit-requires
+    returns-4
+    returns-5)

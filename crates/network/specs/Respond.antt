@@ -1,0 +1,33 @@
+-- The call *response from a state*.
+use Prim.Native.Nat.{ℕ}
+use mathlib.Core.Bool.{Bool}
+use mathlib.Core.List.{List, [], _∷_, _++_}
+use lib.ListN.{length}
+use Rattle.words.specs.Answers.{Answer, refused, full, by-tests}
+use Rattle.network.specs.declared.Network.{Network}
+use Rattle.network.specs.declared.Responded.{Responded}
+use Rattle.network.specs.declared.Responded.the-variants.{Wrote, Refused}
+use Rattle.network.specs.Reading.{response}
+use Rattle.network.specs.States.{not-a-state}
+use Rattle.network.specs.Rows.{SetRows, Row11, Row12, set-tests, no-room}
+
+-- rows 5, 6, 7, 8, then its own: 11 and 12
+abbrev pub OwnRows : Network → ℕ → (vectors state : List ℕ) → ℕ → List (ℕ × Type 0)
+OwnRows net k vectors state room = (11, Row11 net k state) ∷ (12, Row12 (length vectors) room) ∷ []
+
+abbrev pub ResponseRows : Network → ℕ → (vectors state : List ℕ) → ℕ → List (ℕ × Type 0)
+ResponseRows net k vectors state room = SetRows net k vectors ++ OwnRows net k vectors state room
+
+abbrev pub own-tests : Network → ℕ → (vectors state : List ℕ) → ℕ → List (ℕ × Bool)
+own-tests net k vectors state room = (11, not-a-state net k state) ∷ (12, no-room (length vectors) room) ∷ []
+
+abbrev pub response-tests : Network → ℕ → (vectors state : List ℕ) → ℕ → List (ℕ × Bool)
+response-tests net k vectors state room = set-tests net k vectors ++ own-tests net k vectors state room
+
+unfoldable pub response-answer : Network → ℕ → (vectors state : List ℕ) → ℕ → Answer (List ℕ)
+response-answer net k vectors state room = by-tests (response-tests net k vectors state room) (response net state vectors)
+
+-- document 01's number and values for each case of the answer
+abbrev pub meaning : Responded → Answer ℕ
+meaning (Wrote count) = full count
+meaning (Refused number) = refused number

@@ -1,0 +1,148 @@
+// The refusal rows that calls share, a function a row. Helpers between crates: those that need the nets admitted by row 5 say so.
+ghost use mathlib.Core.Path.{_≡_};
+ghost use Prim.Native.Nat.{ℕ, _<_, _≤_, _^_};
+ghost use lib.ListN.{length};
+ghost use Rattle.words.specs.Bits.{at};
+ghost use Rattle.network.specs.States.{«few-drivers», «meet-and-differ», «has-wrong-reach», conflicts, «has-conflict», «not-a-state»};
+ghost use Rattle.network.specs.Rows.{«bad-net-count», «bad-class», «bad-vector-count», «has-high-bit», «no-room», «set-admission», admission};
+use crate::Admission;
+use crate::Network;
+
+// Row 5: n below 2 or above 48.
+pub fn bad_net_count(net: Network) -> bool
+    ensures { λ r. ⌜ r ≡ bad-net-count net ⌝ }
+{
+    let n = net.nets;
+    (n < 2) | (48 < n)
+}
+
+// Row 6: k not 1, 2, 3 or n, or above n.
+pub fn bad_class(net: Network, class: u64) -> bool
+    ensures { λ r. ⌜ r ≡ bad-class net class ⌝ }
+{
+    let n = net.nets;
+    !((class == 1) | ((class == 2) | ((class == 3) | (class == n)))) | (n < class)
+}
+
+// Row 7: fewer than 1 vector or more than 64.
+pub fn bad_vector_count(vectors: &[u64]) -> bool
+    ensures { λ r. ⌜ r ≡ bad-vector-count (now (vectors .entry)) ⌝ }
+{
+    let count = vectors.len();
+    (count < 1) | (64 < count)
+}
+
+// Rows 8 and 10: a bit at or above n.
+pub fn has_high_bit(net: Network, words: &[u64]) -> bool
+    requires { ⌜ net .nets ≤ 48 ⌝ }
+    ensures { λ r. ⌜ r ≡ has-high-bit net (now (words .entry)) ⌝ }
+{
+    let end = words::sets::bit_word(net.nets);
+    let mut t: usize = 0;
+    while t < words.len() {
+        if end <= words[t] {
+            return true;
+        }
+        t += 1;
+    }
+    false
+}
+
+// Rows 5 to 8, with which every call on a test set begins.
+pub fn admit_set(net: Network, class: u64, vectors: &[u64]) -> Admission
+    ensures { λ r. ⌜ admission r ≡ set-admission net class (now (vectors .entry)) ⌝ }
+{
+    if bad_net_count(net) {
+        return Admission::Refused(5);
+    }
+    if bad_class(net, class) {
+        return Admission::Refused(6);
+    }
+    if bad_vector_count(vectors) {
+        return Admission::Refused(7);
+    }
+    if has_high_bit(net, vectors) {
+        return Admission::Refused(8);
+    }
+    Admission::Admitted
+}
+
+// At most k drivers: the count of ones decides.
+pub fn few_drivers(net: Network, class: u64, set: u64) -> bool
+    requires { ⌜ set < 2 ^ (net .nets) ⌝ }
+    ensures { λ r. ⌜ r ≡ few-drivers net class set ⌝ }
+{
+    words::sets::count_of_ones(set) <= class
+}
+
+// A reach with a bit at or above n, or of more than k drivers.
+fn has_wrong_reach(net: Network, class: u64, state: &[u64]) -> bool
+    requires { ⌜ net .nets ≤ 48 ⌝ }
+    ensures { λ r. ⌜ r ≡ has-wrong-reach net class (now (state .entry)) ⌝ }
+{
+    let end = words::sets::bit_word(net.nets);
+    let mut i: usize = 0;
+    while i < state.len() {
+        let reach = state[i];
+        if end <= reach {
+            return true;
+        }
+        if !few_drivers(net, class, reach) {
+            return true;
+        }
+        i += 1;
+    }
+    false
+}
+
+// A reach that meets this one and differs from it.
+fn conflicts(net: Network, state: &[u64], reach: u64) -> bool
+    requires { ⌜ reach < 2 ^ (net .nets) ⌝ }
+    ensures { λ r. ⌜ r ≡ conflicts net (now (state .entry)) reach ⌝ }
+{
+    let mut j: usize = 0;
+    while j < state.len() {
+        let other = state[j];
+        if crate::receivers::meets(net, reach, other) & (reach != other) {
+            return true;
+        }
+        j += 1;
+    }
+    false
+}
+
+// Two reaches that meet and differ.
+fn has_conflict(net: Network, state: &[u64]) -> bool
+    requires { ⌜ ((i : ℕ) → i < length (now state) → at (now state) i < 2 ^ (net .nets)) ⌝ }
+    ensures { λ r. ⌜ r ≡ has-conflict net (now (state .entry)) ⌝ }
+{
+    let mut i: usize = 0;
+    while i < state.len() {
+        if conflicts(net, state, state[i]) {
+            return true;
+        }
+        i += 1;
+    }
+    false
+}
+
+// Row 11: not a wiring state of the class.
+pub fn not_a_state(net: Network, class: u64, state: &[u64]) -> bool
+    requires { ⌜ net .nets ≤ 48 ⌝ }
+    ensures { λ r. ⌜ r ≡ not-a-state net class (now (state .entry)) ⌝ }
+{
+    if state.len() as u64 != net.nets {
+        return true;
+    }
+    if has_wrong_reach(net, class, state) {
+        return true;
+    }
+    has_conflict(net, state)
+}
+
+// Row 12: a lent list shorter than the result.
+pub fn no_room(result: usize, room: usize) -> bool
+    ensures { λ r. ⌜ r ≡ no-room result room ⌝ }
+{
+    room < result
+}
