@@ -1,5 +1,5 @@
 -- The table computed is the table said, and it leaves nothing open.
-use mathlib.Core.Path.{_≡_, refl, sym, ap, _∙_}
+use mathlib.Core.Path.{_≡_, refl, sym, ap, _∙_, subst}
 use mathlib.Core.Bool.{Bool, true, false, cond}
 use mathlib.Core.Logic.{_⊎_, inl, inr}
 use mathlib.Core.List.{List, [], _∷_, _++_}
@@ -32,6 +32,26 @@ module _ {A : Type 0} (result : A → Type 0) where
   table-determined ((number, holds) ∷ rows) a b one (inl (h, p)) (inr (k, q)) = absurd (k h)
   table-determined ((number, holds) ∷ rows) a b one (inr (h, p)) (inl (k, q)) = absurd (h k)
   table-determined ((number, holds) ∷ rows) a b one (inr (h, p)) (inr (k, q)) = table-determined rows a b (λ n. one (h, n)) p q
+
+module _ {A : Type 0} (result : A → Type 0) where
+  -- what is said of the full result may be said in other words
+  pub table-implies : (other : A → Type 0) (rows : List (ℕ × Type 0)) (a : Answer A) → (NoneHolds rows → (x : A) → result x → other x)
+      → ByTable rows result a → ByTable rows other a
+  table-implies other [] a h (x, e, r) = (x, e, h tt x r)
+  table-implies other ((number, holds) ∷ rows) a h (inl p) = inl p
+  table-implies other ((number, holds) ∷ rows) a h (inr (n, p)) = inr (n, table-implies other rows a (λ m. h (n, m)) p)
+
+  -- a full result that the rows allow is the result
+  pub table-full : (rows : List (ℕ × Type 0)) (x : A) → ByTable rows result (full x) → result x
+  table-full [] x (y, e, r) = let same : y ≡ x = cc in subst result same r
+  table-full ((number, holds) ∷ rows) x (inl (h, e)) = absurd (let z : _≡_ {A = ℕ} 0 1 = cc in omega arith)
+  table-full ((number, holds) ∷ rows) x (inr (n, p)) = table-full rows x p
+
+  -- where no row holds, no refusal is allowed
+  pub table-not-refused : (rows : List (ℕ × Type 0)) (number : ℕ) → NoneHolds rows → ByTable rows result (refused number) → ⊥
+  table-not-refused [] number n (y, e, r) = let z : _≡_ {A = ℕ} 0 1 = cc in omega arith
+  table-not-refused ((other, holds) ∷ rows) number (n, m) (inl (h, e)) = n h
+  table-not-refused ((other, holds) ∷ rows) number (n, m) (inr (k, p)) = table-not-refused rows number m p
 
 pub decided-append : (rows more : List (ℕ × Type 0)) (tests others : List (ℕ × Bool)) → Decided rows tests → Decided more others
     → Decided (rows ++ more) (tests ++ others)

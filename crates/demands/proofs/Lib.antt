@@ -1,0 +1,4 @@
+pub mod Responding
+pub mod Checking
+pub mod Refuting
+pub mod Tables

@@ -1,0 +1,106 @@
+-- Each wrong program fails its demand at one small input.
+use mathlib.Core.Path.{_≡_, refl, sym, ap, _∙_}
+use mathlib.Core.Logic.{_≢_}
+use mathlib.Core.List.{List, [], _∷_}
+use Prim.Native.Nat.{ℕ}
+use native.Mathlib.Omega.{arith}
+use Rattle.words.specs.Answers.{Answer, refused, full, Filled, NoneHolds}
+use Rattle.words.specs.Bits.{at}
+use Rattle.words.proofs.Answers.{let-through, table-full, table-not-refused}
+use Rattle.network.specs.declared.Network.{Network}
+use Rattle.network.specs.Rows.{SetRows, set-tests, set-admission}
+use Rattle.network.specs.States.{AtMostOneFits}
+use Rattle.network.proofs.Rows.{decides-set}
+use Rattle.checker.specs.Open.{open-checker}
+use Rattle.checker.specs.declared.Verdict.{Verdict}
+use Rattle.checker.specs.declared.Verdict.the-variants.{Pass, Pair}
+use Rattle.checker.specs.Check.{check-answer}
+use Rattle.demands.specs.Demand2.{ResponseProgram, Responds}
+use Rattle.demands.specs.Demand3.{CheckProgram, Judged, Checks}
+use Rattle.demands.specs.Refuted.{passes-all-sets, shows-one-pair, refuses-every-set, writes-nothing, drops-tail, writes-when-refused, refuses-every-state, Refuted}
+use Rattle.demands.proofs.Responding.{our-response, responds, response-determined}
+use Rattle.demands.proofs.Checking.{checks, pair-not-one}
+
+-- two nets, class 2
+abbrev two : Network
+two = record { nets = 2 }
+
+-- walking ones with vector 0, and a set without it
+abbrev enough : List ℕ
+enough = 0 ∷ 1 ∷ 2 ∷ []
+
+abbrev too-few : List ℕ
+too-few = 1 ∷ []
+
+through : set-admission two 2 enough ≡ full tt
+unfolding open-checker
+through = refl
+
+admitted : NoneHolds (SetRows two 2 enough)
+admitted = let-through (SetRows two 2 enough) (set-tests two 2 enough) tt tt (decides-set two 2 enough) through
+
+-- ---- checkers
+
+-- what a checker's full answer says
+says : (program : CheckProgram) → Checks program → (vectors : List ℕ) (v : Verdict) → program two 2 vectors ≡ full v → Judged two 2 vectors v
+says program h vectors v e = table-full (Judged two 2 vectors) (SetRows two 2 vectors) v (rw e at (h two 2 vectors))
+
+ours-passes : check-answer two 2 enough ≡ full Pass
+unfolding open-checker
+ours-passes = refl
+
+ours-shows : check-answer two 2 too-few ≡ full (Pair 0 3)
+unfolding open-checker
+ours-shows = refl
+
+pass-or-pair : (a b : ℕ) → Pair a b ≡ Pass → ⊥
+pass-or-pair a b e = let z : _≡_ {A = ℕ} 0 1 = cc in omega arith
+
+passes-all : ¬ (Checks passes-all-sets)
+passes-all h =
+    pass-or-pair 0 3 (says check-answer checks too-few (Pair 0 3) ours-shows .passes .1 (says passes-all-sets h too-few Pass refl .passes .0 refl))
+
+one-pair : (a b : ℕ) → ¬ (Checks (shows-one-pair a b))
+one-pair a b h =
+    pair-not-one two 2 enough a b (says (shows-one-pair a b) h enough (Pair a b) refl .shows a b refl)
+    (says check-answer checks enough Pass ours-passes .passes .0 refl)
+
+refuses-sets : (number : ℕ) → ¬ (Checks (refuses-every-set number))
+refuses-sets number h = table-not-refused (Judged two 2 enough) (SetRows two 2 enough) number admitted (h two 2 enough)
+
+-- ---- responses: the list after the call is not ours
+
+differs : (program : ResponseProgram) (state lent : List ℕ) (i : ℕ) → at (program two 2 enough state lent .list) i ≢ at (our-response two 2 enough state lent .list) i
+    → ¬ (Responds program)
+differs program state lent i d h =
+    d (ap (λ (f : Filled ℕ). at (f .list) i) (response-determined program our-response h responds two 2 enough state lent))
+
+unequal : _≢_ {A = ℕ} 9 0
+unequal e = omega arith
+
+list-as-lent : ¬ (Responds writes-nothing)
+unfolding open-checker
+list-as-lent = differs writes-nothing (2 ∷ 2 ∷ []) (9 ∷ 9 ∷ 9 ∷ []) 0 unequal
+
+tail-dropped : ¬ (Responds drops-tail)
+unfolding open-checker
+tail-dropped = differs drops-tail (2 ∷ 2 ∷ []) (9 ∷ 9 ∷ 9 ∷ 9 ∷ []) 3 (λ e. unequal (sym e))
+
+written-when-refused : ¬ (Responds writes-when-refused)
+unfolding open-checker
+written-when-refused = differs writes-when-refused (3 ∷ 1 ∷ []) (9 ∷ 9 ∷ 9 ∷ []) 0 (λ e. unequal (sym e))
+
+refuses-states : (number : ℕ) → ¬ (Responds (refuses-every-state number))
+unfolding open-checker
+refuses-states number = differs (refuses-every-state number) (2 ∷ 2 ∷ []) (9 ∷ 9 ∷ 9 ∷ []) 0 unequal
+
+pub refuted : Refuted
+refuted = record {
+  passes-all = passes-all;
+  one-pair = one-pair;
+  refuses-sets = refuses-sets;
+  list-as-lent = list-as-lent;
+  tail-dropped = tail-dropped;
+  written-when-refused = written-when-refused;
+  refuses-states = refuses-states;
+}

@@ -1,0 +1,40 @@
+-- Inputs on both sides of each bound of document 01's table.
+use Prim.Native.Nat.{ℕ, _-_, _^_}
+use mathlib.Core.Path.{_≡_}
+use mathlib.Core.List.{List, [], _∷_}
+use lib.ListN.{replicate}
+use Rattle.words.specs.Answers.{Answer, refused, full}
+use Rattle.network.specs.declared.Network.{Network}
+use Rattle.network.specs.Respond.{response-answer}
+use Rattle.checker.specs.declared.Verdict.the-variants.{Pass, Pair}
+use Rattle.demands.specs.Starred.{check, respond}
+
+-- *response from a state* with this much room
+abbrev pub respond-into : ℕ → Answer (List ℕ)
+respond-into room = response-answer (record { nets = 4 }) 4 (0 ∷ 1 ∷ 2 ∷ 4 ∷ 8 ∷ []) (3 ∷ 3 ∷ 0 ∷ 8 ∷ []) room
+
+pub record Boundary : Type 0 where
+  -- row 5: n
+  pub nets-1 : check 1 1 (0 ∷ []) ≡ refused 5
+  pub nets-2 : check 2 2 (0 ∷ 1 ∷ 2 ∷ []) ≡ full Pass
+  pub nets-48 : check 48 48 (0 ∷ []) ≡ full (Pair (2 ^ 48 - 2) (2 ^ 48 - 1))
+  pub nets-49 : check 49 49 (0 ∷ []) ≡ refused 5
+  -- row 6: k at n = 5
+  pub class-0 : check 5 0 (0 ∷ 1 ∷ 2 ∷ 4 ∷ 8 ∷ 16 ∷ []) ≡ refused 6
+  pub class-1 : check 5 1 (0 ∷ 1 ∷ 2 ∷ 4 ∷ 8 ∷ 16 ∷ []) ≡ full Pass
+  pub class-3 : check 5 3 (0 ∷ 1 ∷ 2 ∷ 4 ∷ 8 ∷ 16 ∷ []) ≡ full Pass
+  pub class-4 : check 5 4 (0 ∷ 1 ∷ 2 ∷ 4 ∷ 8 ∷ 16 ∷ []) ≡ refused 6
+  -- row 7: vectors
+  pub vectors-0 : check 4 4 [] ≡ refused 7
+  pub vectors-1 : check 4 4 (0 ∷ []) ≡ full (Pair 14 15)
+  pub vectors-64 : check 4 4 (replicate 64 0) ≡ full (Pair 14 15)
+  pub vectors-65 : check 4 4 (replicate 65 0) ≡ refused 7
+  -- row 8: a bit at n
+  pub word-below : check 4 4 (15 ∷ []) ≡ full (Pair 0 15)
+  pub word-at : check 4 4 (16 ∷ []) ≡ refused 8
+  -- row 11: the state
+  pub meeting-reaches : respond 2 (0 ∷ []) (3 ∷ 1 ∷ []) ≡ refused 11
+  pub equal-reaches : respond 2 (0 ∷ []) (3 ∷ 3 ∷ []) ≡ full (0 ∷ [])
+  -- row 12: the room
+  pub one-short : respond-into 4 ≡ refused 12
+  pub just-enough : respond-into 5 ≡ full (4 ∷ 7 ∷ 7 ∷ 4 ∷ 12 ∷ [])

@@ -1,0 +1,55 @@
+-- Wrong programs that the demands shut out.
+use Prim.Native.Nat.{ℕ}
+use mathlib.Core.List.{List, [], _∷_, _++_, map}
+use lib.ListN.{length, take, drop}
+use Rattle.words.specs.Answers.{Answer, refused, full, Filled, lent-after, count-of}
+use Rattle.network.specs.declared.Network.{Network}
+use Rattle.network.specs.Respond.{response-answer}
+use Rattle.checker.specs.declared.Verdict.the-variants.{Pass, Pair}
+use Rattle.demands.specs.Demand2.{ResponseProgram, Responds}
+use Rattle.demands.specs.Demand3.{CheckProgram, Checks}
+
+-- ---- checkers
+
+abbrev pub passes-all-sets : CheckProgram
+passes-all-sets net k vectors = full Pass
+
+abbrev pub shows-one-pair : ℕ → ℕ → CheckProgram
+shows-one-pair a b net k vectors = full (Pair a b)
+
+abbrev pub refuses-every-set : ℕ → CheckProgram
+refuses-every-set number net k vectors = refused number
+
+-- ---- responses from a state: a right answer, and the list wrong
+
+-- the list is left as lent
+abbrev pub writes-nothing : ResponseProgram
+writes-nothing net k vectors state lent = record { returned = count-of (response-answer net k vectors state (length lent)); list = lent }
+
+-- the tail is cut off
+abbrev pub drops-tail : ResponseProgram
+drops-tail net k vectors state lent =
+    let answer = response-answer net k vectors state (length lent) in
+    record { returned = count-of answer; list = take (length vectors) (lent-after answer lent) }
+
+-- a refused call clears the list
+abbrev pub clears-list : Answer (List ℕ) → List ℕ → List ℕ
+clears-list (refused number) lent = map (λ _. 0) lent
+clears-list (full words) lent = words ++ drop (length words) lent
+
+abbrev pub writes-when-refused : ResponseProgram
+writes-when-refused net k vectors state lent =
+    let answer = response-answer net k vectors state (length lent) in
+    record { returned = count-of answer; list = clears-list answer lent }
+
+abbrev pub refuses-every-state : ℕ → ResponseProgram
+refuses-every-state number net k vectors state lent = record { returned = refused number; list = lent }
+
+pub record Refuted : Type 0 where
+  pub passes-all : ¬ (Checks passes-all-sets)
+  pub one-pair : (a b : ℕ) → ¬ (Checks (shows-one-pair a b))
+  pub refuses-sets : (number : ℕ) → ¬ (Checks (refuses-every-set number))
+  pub list-as-lent : ¬ (Responds writes-nothing)
+  pub tail-dropped : ¬ (Responds drops-tail)
+  pub written-when-refused : ¬ (Responds writes-when-refused)
+  pub refuses-states : (number : ℕ) → ¬ (Responds (refuses-every-state number))

@@ -1,0 +1,1 @@
+// No code: the demands are stated in specs/ and proved in proofs/.
