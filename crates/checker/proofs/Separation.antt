@@ -1,9 +1,9 @@
 -- What a verdict of the rule shows: pass tells the sets of the class apart, so that at most one state fits a response;
 -- a pair is two sets that no vector tells apart, and two states with equal responses.
 use mathlib.Core.Path.{_≡_, refl, sym, ap, _∙_, subst}
-use mathlib.Core.Bool.{Bool, true, false}
+use mathlib.Core.Bool.{true}
 use mathlib.Core.Logic.{_⊎_, inl, inr, ⊎-elim, _≢_}
-use mathlib.Core.List.{List, _∷_}
+use mathlib.Core.List.{List}
 use Prim.Native.Nat.{ℕ, zero, suc, _-_, _^_, _≤_, _<_, zero-le}
 use native.Mathlib.Omega.{arith}
 use lib.ListN.{length, replicate, length-replicate, getD-replicate, List·getD-eq-default}
@@ -14,12 +14,12 @@ use Rattle.words.proofs.Bits.{has-zero}
 use Rattle.words.proofs.Classes.{ones-at-most, ones-of-zero}
 use Rattle.network.specs.declared.Network.{Network}
 use Rattle.network.specs.Reading.{all-drivers, all-but, walking-vector, extra-vector, reads, ReadAlike, response}
-use Rattle.network.specs.States.{DriverSet, State, Fits, AtMostOneFits}
+use Rattle.network.specs.States.{DriverSet, State, AtMostOneFits}
 use Rattle.network.proofs.Reading.{all-below, all-but-less, all-not-empty, walking-apart, empty-as-all, all-but-as-all, response-alike, alike-response}
 use Rattle.network.proofs.States.{states-equal}
 use Rattle.checker.specs.declared.Verdict.{Verdict}
 use Rattle.checker.specs.declared.Verdict.the-variants.{Pass, Pair}
-use Rattle.checker.specs.Rule.{Among, FullRule, Confused, BoundedRule, Rule, shown-state}
+use Rattle.checker.specs.Rule.{Among, FullRule, BoundedRule, Rule, shown-state}
 
 -- no two sets of the class read alike
 abbrev pub SetsApart : Network → ℕ → List ℕ → Type 0

@@ -1,21 +1,20 @@
 -- The computed verdict is the rule's, and the rule allows no other.
 use mathlib.Core.Path.{_≡_, refl, sym, ap, ap₂, _∙_}
-use mathlib.Core.Bool.{Bool, true, false, not, _&&_, cond, true≢false, false≢true}
-use mathlib.Core.Logic.{_⊎_, inl, inr, ⊎-elim, _≢_}
+use mathlib.Core.Bool.{Bool, true, false, not, _&&_, cond, false≢true}
+use mathlib.Core.Logic.{_⊎_, inl, inr}
 use mathlib.Core.List.{List}
 use Prim.Native.Nat.{ℕ, _^_, _≤_, _<_, zero-le}
 use native.Mathlib.Omega.{arith}
-use lib.Dec.{eqb, leb}
-use lib.ListN.{length}
+use lib.Dec.{eqb}
 use borrow.Author.Tests.{eq-eqb, eqb-true, eqb-false, leb-true, le-leb, not-true, not-false}
 use Rattle.words.specs.declared.Search.{Search}
 use Rattle.words.specs.declared.Search.the-variants.{Found, Missing}
 use Rattle.words.specs.Searching.{least, is-found, among}
-use Rattle.words.proofs.Tests.{cases, contrary, and-left, and-right, and-both, three-ways}
+use Rattle.words.proofs.Tests.{contrary, and-left, and-right, and-both, three-ways}
 use Rattle.words.proofs.Searching.{Least, first, nowhere, least-below, decides-among}
 use Rattle.network.specs.declared.Network.{Network}
-use Rattle.network.specs.Reading.{all-drivers, all-but, walking-vector, extra-vector, ReadAlike, sequential-response}
-use Rattle.network.specs.States.{driver-count, DriverSet, few-drivers}
+use Rattle.network.specs.Reading.{all-drivers, all-but, walking-vector, extra-vector, sequential-response}
+use Rattle.network.specs.States.{driver-count, few-drivers}
 use Rattle.network.proofs.Reading.{alike-sequential, sequential-alike}
 use Rattle.checker.specs.declared.Verdict.{Verdict}
 use Rattle.checker.specs.declared.Verdict.the-variants.{Pass, Pair}

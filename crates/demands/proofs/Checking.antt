@@ -1,14 +1,13 @@
 -- A program whose verdict is document 01's rule keeps demand 3's first half; ours is one, and there is no other.
-use mathlib.Core.Path.{_≡_, refl, sym, ap, _∙_}
-use mathlib.Core.Logic.{_≢_, _↔_}
+use mathlib.Core.Path.{_≡_, refl}
 use mathlib.Core.List.{List}
 use Prim.Native.Nat.{ℕ}
 use native.Mathlib.Omega.{arith}
-use Rattle.words.specs.Answers.{Answer, NoneHolds}
+use Rattle.words.specs.Answers.{NoneHolds}
 use Rattle.words.proofs.Answers.{table-implies}
 use Rattle.network.specs.declared.Network.{Network}
 use Rattle.network.specs.Reading.{response}
-use Rattle.network.specs.States.{AtMostOneFits, Fits}
+use Rattle.network.specs.States.{AtMostOneFits}
 use Rattle.network.specs.Rows.{SetRows}
 use Rattle.network.proofs.Rows.{admitted-set}
 use Rattle.checker.specs.declared.Verdict.{Verdict}

@@ -1,15 +1,14 @@
 -- Each wrong program fails its demand at one small input.
-use mathlib.Core.Path.{_≡_, refl, sym, ap, _∙_}
+use mathlib.Core.Path.{_≡_, refl, sym, ap}
 use mathlib.Core.Logic.{_≢_}
 use mathlib.Core.List.{List, [], _∷_}
 use Prim.Native.Nat.{ℕ}
 use native.Mathlib.Omega.{arith}
-use Rattle.words.specs.Answers.{Answer, refused, full, Filled, NoneHolds}
+use Rattle.words.specs.Answers.{full, Filled, NoneHolds}
 use Rattle.words.specs.Bits.{at}
 use Rattle.words.proofs.Answers.{let-through, table-full, table-not-refused}
 use Rattle.network.specs.declared.Network.{Network}
 use Rattle.network.specs.Rows.{SetRows, set-tests, set-admission}
-use Rattle.network.specs.States.{AtMostOneFits}
 use Rattle.network.proofs.Rows.{decides-set}
 use Rattle.checker.specs.Open.{open-checker}
 use Rattle.checker.specs.declared.Verdict.{Verdict}

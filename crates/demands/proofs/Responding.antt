@@ -3,7 +3,7 @@ use mathlib.Core.Path.{_≡_, refl, sym, ap, ap₂, _∙_}
 use mathlib.Core.List.{List, [], _∷_}
 use Prim.Native.Nat.{ℕ}
 use lib.ListN.{length}
-use Rattle.words.specs.Answers.{Answer, Filled, FillsByTable, lent-after, count-of}
+use Rattle.words.specs.Answers.{Answer, lent-after, count-of}
 use Rattle.network.specs.declared.Network.{Network}
 use Rattle.network.specs.Respond.{response-answer}
 use Rattle.network.specs.Open.{open-network}

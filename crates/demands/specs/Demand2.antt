@@ -1,11 +1,11 @@
 -- Demand 2, first sentence: a response worked out from a wiring state follows the wired-OR model with floating receivers at
 -- soft 1, opens and shorts on one net included.
-use Prim.Native.Nat.{ℕ, _<_}
+use Prim.Native.Nat.{ℕ}
 use mathlib.Core.Path.{_≡_}
 use mathlib.Core.Bool.{true, false}
 use mathlib.Core.List.{List, [], _∷_}
 use lib.ListN.{length}
-use Rattle.words.specs.Answers.{Answer, full, Filled, FillsByTable}
+use Rattle.words.specs.Answers.{full, Filled, FillsByTable}
 use Rattle.words.specs.Bits.{has, at}
 use Rattle.network.specs.declared.Network.{Network}
 use Rattle.network.specs.Reading.{Response}

@@ -1,9 +1,8 @@
 -- Wrong programs that the demands shut out.
 use Prim.Native.Nat.{ℕ}
-use mathlib.Core.List.{List, [], _∷_, _++_, map}
+use mathlib.Core.List.{List, _++_, map}
 use lib.ListN.{length, take, drop}
-use Rattle.words.specs.Answers.{Answer, refused, full, Filled, lent-after, count-of}
-use Rattle.network.specs.declared.Network.{Network}
+use Rattle.words.specs.Answers.{Answer, refused, full, lent-after, count-of}
 use Rattle.network.specs.Respond.{response-answer}
 use Rattle.checker.specs.declared.Verdict.the-variants.{Pass, Pair}
 use Rattle.demands.specs.Demand2.{ResponseProgram, Responds}

@@ -1,9 +1,9 @@
 -- What the rest asks of `reads`: three laws of the definition, and what follows from them.
 use mathlib.Core.Path.{_≡_, refl, sym, ap, _∙_, subst}
-use mathlib.Core.Bool.{Bool, true, false, not, _&&_, _||_, true≢false}
-use mathlib.Core.Logic.{_⊎_, inl, inr, ⊎-elim, _≢_, _↔_}
+use mathlib.Core.Bool.{Bool, true, false, not, _&&_, true≢false}
+use mathlib.Core.Logic.{inl, inr, ⊎-elim, _≢_, _↔_}
 use mathlib.Core.List.{List, map}
-use Prim.Native.Nat.{ℕ, zero, suc, _-_, _^_, _≤_, _<_}
+use Prim.Native.Nat.{ℕ, zero, suc, _^_, _≤_, _<_}
 use native.Mathlib.Nat.{lt-of-le-of-lt}
 use native.Mathlib.Omega.{arith}
 use lib.Bits.{bitAnd, and-le-l}
@@ -11,13 +11,13 @@ use lib.Dec.{eqb}
 use lib.ListN.{length, length-map}
 use lib.Pow.{pow-pos, pow-lt}
 use lib.Seq.{ext-getD}
-use borrow.Author.Tests.{eq-eqb, ne-eqb, eqb-true, eqb-false, not-true, not-false}
-use Rattle.words.specs.Bits.{has, word, at}
+use borrow.Author.Tests.{eq-eqb, ne-eqb, eqb-true, eqb-false, not-true}
+use Rattle.words.specs.Bits.{has, at}
 use Rattle.words.specs.Searching.{any}
 use Rattle.words.specs.Answers.{Decides}
 use Rattle.words.proofs.Tests.{cases, contrary, and-left, and-right, and-both, or-cases, or-right, same-truth}
-use Rattle.words.proofs.Searching.{any-at, any-some, any-none, any-false}
-use Rattle.words.proofs.Bits.{words-equal, has-zero, has-power, has-own, has-not-zero, has-all, has-all-but, has-and, some-bit}
+use Rattle.words.proofs.Searching.{any-at, any-some, any-false}
+use Rattle.words.proofs.Bits.{words-equal, has-zero, has-power, has-not-zero, has-all, has-all-but, has-and, some-bit}
 use Rattle.words.proofs.Making.{map-at, has-made, made-below, made-equal, made-bits}
 use Rattle.network.specs.declared.Network.{Network}
 use Rattle.network.specs.Reading.{all-drivers, all-but, walking-vector, extra-vector, meets, reads, Reads1, ReadAlike, sequential-response, response-word, response, Response}
@@ -36,10 +36,6 @@ module _ (net : Network) where
   pub has-extra : (j : ℕ) → has (extra-vector net) j ≡ false
   unfolding extra-vector
   has-extra j = has-zero j
-
-  pub extra-below : extra-vector net < 2 ^ (net .nets)
-  unfolding extra-vector
-  extra-below = pow-pos (net .nets)
 
   pub all-below : all-drivers net < 2 ^ (net .nets)
   unfolding all-drivers

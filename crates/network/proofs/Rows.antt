@@ -60,7 +60,6 @@ pub record AdmittedSet (net : Network) (k : ℕ) (vectors : List ℕ) : Type 0 w
   pub most : net .nets ≤ 48
   pub class : (k ≤ 3) ⊎ (k ≡ net .nets)
   pub class-positive : 0 < k
-  pub class-most : k ≤ net .nets
   pub vectors-most : length vectors ≤ 64
   pub narrow : (t : ℕ) → t < length vectors → at vectors t < 2 ^ (net .nets)
 
@@ -72,13 +71,11 @@ admitted-class net k h =
 
 pub admitted-set : (net : Network) (k : ℕ) (vectors : List ℕ) → NoneHolds (SetRows net k vectors) → AdmittedSet net k vectors
 admitted-set net k vectors (a, (b, (c, (d, e)))) =
-    let nets = nets-admitted net a in
-    let above : net .nets < k → ⊥ = λ l. b (inr l) in record {
+    let nets = nets-admitted net a in record {
       two = nets .0;
       most = nets .1;
       class = small (admitted-class net k b);
       class-positive = positive (nets .0) (admitted-class net k b);
-      class-most = omega (arith, above);
       vectors-most = vectors-admitted vectors c;
       narrow = no-high-bit net vectors d;
     }

@@ -1,20 +1,20 @@
 -- The test of a wiring state decides it, and a state is known by its reaches.
-use mathlib.Core.Path.{_≡_, refl, sym, ap, _∙_}
-use mathlib.Core.Bool.{Bool, true, false, not, _&&_, _||_}
+use mathlib.Core.Path.{_≡_, sym, ap, _∙_}
+use mathlib.Core.Bool.{Bool, true, false, not, _&&_}
 use mathlib.Core.Logic.{_⊎_, inl, inr, ⊎-elim}
 use mathlib.Core.List.{List}
-use Prim.Native.Nat.{ℕ, _^_, _≤_, _<_}
+use Prim.Native.Nat.{ℕ, _^_, _<_}
 use lib.Count.{ones}
 use lib.Dec.{eqb, leb, ltb}
 use lib.ListN.{length}
 use lib.Seq.{ext-getD}
-use borrow.Author.Tests.{eq-eqb, ne-eqb, eqb-true, leb-true, le-leb, ltb-true, lt-ltb, not-true, not-false}
+use borrow.Author.Tests.{eq-eqb, eqb-true, leb-true, le-leb, ltb-true, lt-ltb, not-false}
 use Rattle.words.specs.Bits.{has, at}
 use Rattle.words.specs.Searching.{any}
 use Rattle.words.specs.Answers.{Decides}
 use Rattle.words.proofs.Tests.{cases, contrary, and-left, and-right, and-both, neither}
 use Rattle.words.proofs.Classes.{ones-counted}
-use Rattle.words.proofs.Searching.{any-at, any-none, any-false}
+use Rattle.words.proofs.Searching.{any-none, any-false}
 use Rattle.network.specs.declared.Network.{Network}
 use Rattle.network.specs.Reading.{meets}
 use Rattle.network.specs.States.{driver-count, DriverSet, State, few-drivers, meet-and-differ, has-wrong-reach, conflicts, has-conflict, not-a-state}

@@ -66,10 +66,10 @@ pub fn fill_response(net: Network, vectors: &[u64], state: &[u64], out: &mut [u6
     requires { ⌜ (length (now state) ≤ 64) × ((i : ℕ) → i < length (now state) → at (now state) i < 2 ^ (net .nets)) × (length (now vectors) ≤ length (now out)) ⌝ }
     ensures { λ r. ⌜ now (out .exit) ≡ lent-after (full (response net (now (state .entry)) (now (vectors .entry)))) (now (out .entry)) ⌝ }
 {
-    let mut t: usize = 0;
-    while t < vectors.len() {
-        let word = response_word(net, state, Ptv(vectors[t]));
-        out[t] = word.0;
-        t += 1;
+    let mut written: usize = 0;
+    while written < vectors.len() {
+        let word = response_word(net, state, Ptv(vectors[written]));
+        out[written] = word.0;
+        written += 1;
     }
 }

@@ -1,8 +1,8 @@
 -- Laws of a word's bits. What stands above goes by `has` and these laws, and not by `/` and `%`.
-use mathlib.Core.Path.{_≡_, refl, sym, ap, ap₂, _∙_}
-use mathlib.Core.Bool.{Bool, true, false, not, _&&_, _||_, true≢false, false≢true}
-use mathlib.Core.Logic.{_⊎_, inl, inr, ⊎-elim, _≢_}
-use Prim.Native.Nat.{ℕ, zero, suc, _+_, _-_, _*_, _/_, _%_, _^_, _≤_, _<_, min, max}
+use mathlib.Core.Path.{_≡_, refl, sym, ap, _∙_}
+use mathlib.Core.Bool.{Bool, true, false, not, _&&_, true≢false, false≢true}
+use mathlib.Core.Logic.{_≢_}
+use Prim.Native.Nat.{ℕ, zero, suc, _+_, _-_, _*_, _/_, _%_, _^_, _<_, min}
 use native.Mathlib.Nat.{mod-lt, zero-div, zero-lt-suc, div-one, le-of-suc-le-suc, not-suc-le-zero}
 use native.Mathlib.Numerals.{one-add}
 use native.Mathlib.Omega.{arith}
@@ -144,9 +144,6 @@ pub some-bit-differs : (n a b : ℕ) → a < 2 ^ n → b < 2 ^ n → a ≢ b →
 some-bit-differs zero a b ha hb d = absurd (d (lt-one ha ∙ sym (lt-one hb)))
 some-bit-differs (suc n) a b ha hb d = go (has a 0) (has b 0) refl refl (some-bit-differs n (a / 2) (b / 2) (half-below n ha) (half-below n hb))
   where
-    Differs : Type 0
-    Differs = (i : ℕ) × (i < suc n) × (has a i ≢ has b i)
-
     later : (a / 2 ≢ b / 2 → (i : ℕ) × (i < n) × (has (a / 2) i ≢ has (b / 2) i)) → has a 0 ≡ has b 0 → (i : ℕ) × (i < suc n) × (has a i ≢ has b i)
     later ih e =
         let low : a % 2 ≡ b % 2 =

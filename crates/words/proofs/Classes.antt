@@ -4,7 +4,7 @@ use Prim.Native.Nat.{ℕ, zero, suc, _+_, _-_, _*_, _/_, _%_, _^_, _≤_, _<_, z
 use native.Mathlib.Nat.{mod-eq-of-lt, lt-of-not-le, mod-lt, not-suc-le-zero, pow-suc, mod-one, add-zero}
 use native.Mathlib.Omega.{arith}
 use lib.Arith.{lt-one, mod-mul, bin-ind}
-use lib.Pow.{pow-pos, pow-lt, split}
+use lib.Pow.{pow-pos, split}
 use lib.Count.{ones, onesIn, ones-step, ones-cat, trailingZeros, under}
 use Rattle.words.specs.Bits.{ones-of, Next}
 use Rattle.words.proofs.Bits.{two-positive}

@@ -193,10 +193,6 @@ sets-counted (suc n) (suc k) =
 pub sets-bound : (n k : ℕ) → n ≤ 48 → k ≤ 3 → length (sets-of-class k (2 ^ n)) ≤ 18473
 sets-bound n k h l = omega (arith, sets-counted n k, class-size-grows n k 48 3 h l, class-size-largest)
 
-pub sets-bound-below : (n k b : ℕ) → n ≤ 48 → k ≤ 3 → b ≤ 2 ^ n → length (sets-of-class k b) ≤ 18473
-unfolding sets-of-class
-sets-bound-below n k b h l m = omega (arith, count-grows (λ z. leb (ones z) k) b (2 ^ n) m, sets-bound n k h l)
-
 -- there is room for one more
 pub sets-room : (n k b : ℕ) → n ≤ 48 → k ≤ 3 → b < 2 ^ n → ones b ≤ k → length (sets-of-class k b) < 18473
 unfolding sets-of-class

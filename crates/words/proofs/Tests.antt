@@ -1,11 +1,11 @@
 -- Laws of Boolean tests.
 use mathlib.Core.Path.{_≡_, refl, sym, _∙_}
 use mathlib.Core.Bool.{Bool, true, false, not, _&&_, _||_, true≢false, false≢true}
-use mathlib.Core.Logic.{_⊎_, inl, inr, ⊎-elim, _≢_}
+use mathlib.Core.Logic.{_⊎_, inl, inr, ⊎-elim}
 use Prim.Native.Nat.{ℕ, _≤_, _<_}
 use native.Mathlib.Nat.{eq-or-lt-of-le}
 use lib.Dec.{ltb, leb, eqb}
-use borrow.Author.Tests.{ltb-true, ltb-false, leb-true, leb-false, eqb-true, eqb-false}
+use borrow.Author.Tests.{ltb-true, ltb-false, leb-true, eqb-true, eqb-false}
 use Rattle.words.specs.Answers.{Decides}
 
 pub cases : (b : Bool) → (b ≡ true) ⊎ (b ≡ false)
@@ -71,7 +71,3 @@ decides-or {a} {b} f g =
 
 pub decides-not : {a : Bool} {A : Type 0} → Decides a A → Decides (not a) (¬ A)
 decides-not {a} f = (λ e. f .1 (borrow.Author.Tests.not-true a e), λ e n. n (f .0 (borrow.Author.Tests.not-false a e)))
-
--- the same test for what says the same
-pub decides-same : {a : Bool} {A B : Type 0} → Decides a A → (A → B) → (B → A) → Decides a B
-decides-same f to from = (λ e. to (f .0 e), λ e b. f .1 e (from b))

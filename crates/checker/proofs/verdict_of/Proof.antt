@@ -1,7 +1,6 @@
 use borrow.Author.Needs.{needs}
 use borrow.Author.Tests.{eq-eqb, ne-eqb}
 use mathlib.Core.Logic.{⊎-elim}
-use mathlib.Core.Path.{_≡_}
 use Rattle.checker.specs.Rule.{verdict}
 use Rattle.checker.proofs.verdict_of.Statement.{statement}
 use Rattle.checker.proofs.verdict_of.Tie as tie

@@ -1,14 +1,11 @@
 use borrow.Author.Needs.{needs}
 use Prim.Native.Nat.{ℕ, _+_, _<_, _≤_, _-_, _^_}
 use native.Mathlib.Omega.{arith}
-use mathlib.Core.Path.{_≡_, refl, sym, ap, ap₂, _∙_, subst}
-use mathlib.Core.List.{List}
+use mathlib.Core.Path.{_≡_, sym, ap, _∙_, subst}
 use lib.ListN.{length, take, replicate, length-replicate, length-set}
 use lib.ListN as ListN
 use lib.Seq.{length-take-le}
 use lib.Pow.{pow-mono}
-use Rattle.words.specs.declared.Search.{Search}
-use Rattle.words.specs.declared.Search.the-variants.{Found, Missing}
 use Rattle.words.specs.Searching.{position}
 use Rattle.network.specs.Reading.{sequential-response}
 use Rattle.checker.proofs.Stored.{Stored, stored-first, stored-inside, stored-pair, stored-pass, stored-room, stored-next}

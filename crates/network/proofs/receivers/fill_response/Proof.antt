@@ -1,7 +1,7 @@
 use borrow.Author.Needs.{needs}
 use Prim.Native.Nat.{ℕ, _≤_, _-_}
 use native.Mathlib.Omega.{arith}
-use mathlib.Core.Path.{_≡_, sym, _∙_, ap₂}
+use mathlib.Core.Path.{_≡_, _∙_, ap₂}
 use mathlib.Core.List.{List, map, _++_}
 use lib.ListN.{length, take, drop, set}
 use Rattle.words.specs.Answers.{lent-after}
@@ -11,11 +11,11 @@ use Rattle.network.proofs.receivers.fill_response.Statement.{statement}
 use Rattle.network.proofs.receivers.fill_response.Tie as tie
 
 abbrev Inv-loop : tie.InvT-loop
-Inv-loop net vectors state out₀ t₀ out t =
-    (t ≤ length vectors) × (length out ≡ length out₀) × (out ≡ map (response-word net state) (take t vectors) ++ drop t out₀)
+Inv-loop net vectors state out₀ written₀ out written =
+    (written ≤ length vectors) × (length out ≡ length out₀) × (out ≡ map (response-word net state) (take written vectors) ++ drop written out₀)
 
 abbrev μ-loop : tie.MeasureT-loop
-μ-loop net vectors state out₀ t₀ out t = length vectors - t
+μ-loop net vectors state out₀ written₀ out written = length vectors - written
 
 loop-holds : tie.Need-loop-holds Inv-loop μ-loop
 loop-holds c = search needs
@@ -35,8 +35,8 @@ mul-out c = search needs
 slice-write-out : tie.Need-slice-write-out Inv-loop μ-loop
 slice-write-out c = search needs
 
-add-t : tie.Need-add-t Inv-loop μ-loop
-add-t c = search needs
+add-written : tie.Need-add-written Inv-loop μ-loop
+add-written c = search needs
 
 loop-less : tie.Need-loop-less Inv-loop μ-loop
 loop-less c = search needs
@@ -47,8 +47,8 @@ loop-again c =
     let l = c .before .before .before .loop in (
       search needs,
       search needs,
-      ap₂ (λ (m : List ℕ) (r : ℕ). set m (l .t) r) (l .inv .2) (c .response-word .ensures)
-          ∙ map-fill (response-word (a .net) (a .state .now)) (a .vectors .now) (a .out .now) (l .t) (omega arith) (omega arith),
+      ap₂ (λ (m : List ℕ) (r : ℕ). set m (l .written) r) (l .inv .2) (c .response-word .ensures)
+          ∙ map-fill (response-word (a .net) (a .state .now)) (a .vectors .now) (a .out .now) (l .written) (omega arith) (omega arith),
     )
 
 same-length : tie.Need-same-length Inv-loop μ-loop
@@ -59,7 +59,7 @@ unfolding response lent-after
 returns c =
     let a = c .before .before .before .before .before .args in
     let l = c .before .loop in
-    l .inv .2 ∙ map-filled (response-word (a .net) (a .state .now)) (a .vectors .now) (a .out .now) (l .t) (l .inv .0) (c .loop-test .left)
+    l .inv .2 ∙ map-filled (response-word (a .net) (a .state .now)) (a .vectors .now) (a .out .now) (l .written) (l .inv .0) (c .loop-test .left)
 
 pub fill-response-spec : {M : Type 1} → statement M
 fill-response-spec =
@@ -73,7 +73,7 @@ fill-response-spec =
     response-word-requires
     mul-out
     slice-write-out
-    add-t
+    add-written
     loop-less
     loop-again
     same-length

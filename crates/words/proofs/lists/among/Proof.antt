@@ -1,5 +1,5 @@
 use borrow.Author.Needs.{needs}
-use mathlib.Core.Path.{_≡_, sym, _∙_, ap}
+use mathlib.Core.Path.{sym, _∙_, ap}
 use Rattle.words.specs.Searching.{is-found, among}
 use Rattle.words.proofs.lists.among.Statement.{statement}
 use Rattle.words.proofs.lists.among.Tie as tie
