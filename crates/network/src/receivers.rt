@@ -1,6 +1,5 @@
 // What receivers read. Helpers between crates: each requires that reaches are sets of the network's drivers.
 ghost use mathlib.Core.Path.{_≡_};
-ghost use mathlib.Core.List.{List};
 ghost use Prim.Native.Nat.{ℕ, _<_, _≤_, _^_};
 ghost use lib.ListN.{length};
 ghost use Rattle.words.specs.Bits.{at};

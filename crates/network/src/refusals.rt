@@ -3,7 +3,7 @@ ghost use mathlib.Core.Path.{_≡_};
 ghost use Prim.Native.Nat.{ℕ, _<_, _≤_, _^_};
 ghost use lib.ListN.{length};
 ghost use Rattle.words.specs.Bits.{at};
-ghost use Rattle.network.specs.States.{«few-drivers», «meet-and-differ», «has-wrong-reach», conflicts, «has-conflict», «not-a-state»};
+ghost use Rattle.network.specs.States.{«few-drivers», «has-wrong-reach», conflicts, «has-conflict», «not-a-state»};
 ghost use Rattle.network.specs.Rows.{«bad-net-count», «bad-class», «bad-vector-count», «has-high-bit», «no-room», «set-admission», admission};
 use crate::Admission;
 use crate::Network;
