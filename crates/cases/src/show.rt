@@ -1,0 +1,68 @@
+// Lines on standard output.
+
+// A list of more words than this is long.
+const SHOWN: usize = 8;
+
+pub fn text(bytes: &[u8]) {
+    io::write_all(1, bytes);
+}
+
+// A number with a space before it.
+pub fn number(n: u64) {
+    text(b" ");
+    io::print_decimal(1, n);
+}
+
+// The words of a list from index `from` on, up to index `end` and without it.
+pub fn part(list: &[u64], from: usize, end: usize) {
+    let mut i = from;
+    while i < end {
+        if i < list.len() {
+            number(list[i]);
+        }
+        i += 1;
+    }
+}
+
+// A list of vectors or of reaches, with the name of its words. Of a long one the count and the last word.
+pub fn words(list: &[u64], name: &[u8]) {
+    if list.len() == 0 {
+        text(b" no ");
+        text(name);
+        return;
+    }
+    if SHOWN < list.len() {
+        number(list.len() as u64);
+        text(b" ");
+        text(name);
+        text(b" ending in");
+        number(list[list.len() - 1]);
+        return;
+    }
+    part(list, 0, list.len());
+}
+
+// Whether each word of a list from index `from` on is the marker.
+fn all_marked(list: &[u64], from: usize, marker: u64) -> bool {
+    let mut i = from;
+    while i < list.len() {
+        if list[i] != marker {
+            return false;
+        }
+        i += 1;
+    }
+    true
+}
+
+// The words of a lent list from index `from` on, and whether they are as they were before the call, each of them the marker.
+pub fn rest(list: &[u64], from: usize, marker: u64) {
+    if list.len() <= from {
+        return;
+    }
+    if all_marked(list, from, marker) {
+        text(b", kept");
+    } else {
+        text(b", changed");
+    }
+    part(list, from, list.len());
+}
