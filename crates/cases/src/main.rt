@@ -1,22 +1,31 @@
-// The bench examples of document 01 for the checker and for the response from a state, the refusals listed there, and inputs at
-// the limits. A line a call: what it was given, and what it answered. `lent` gives the length of the list lent, and after `kept` stand
+// The bench examples of document 01 for the checker, the response from a state, the diagnosis and the findings, the refusals listed
+// there, and inputs at the limits. A line a call: what it was given, and what it answered. `lent` gives the length of the list lent, and after `kept` stand
 // its entries that the call left as they were.
 mod checking;
+mod checks;
+mod diagnoses;
+mod finding;
+mod read;
 mod responding;
+mod responses;
 mod show;
 
 fn main() {
-    checking::full_class();
-    checking::bounded_class();
-    checking::limits();
-    checking::refused_by_nets();
-    checking::refused_by_class();
-    checking::refused_by_vectors();
-    checking::first_row_counts();
-    responding::answers();
-    responding::lent_lists();
-    responding::limits();
-    responding::refused_by_state();
-    responding::refused_by_set();
-    responding::first_row_counts();
+    checks::full_class();
+    checks::bounded_class();
+    checks::limits();
+    checks::refused_by_nets();
+    checks::refused_by_class();
+    checks::refused_by_vectors();
+    checks::first_row_counts();
+    responses::answers();
+    responses::lent_lists();
+    responses::limits();
+    responses::refused_by_state();
+    responses::refused_by_set();
+    responses::first_row_counts();
+    diagnoses::answers();
+    diagnoses::no_state();
+    diagnoses::refusals();
+    finding::findings();
 }

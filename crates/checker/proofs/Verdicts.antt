@@ -6,7 +6,7 @@ use mathlib.Core.List.{List}
 use Prim.Native.Nat.{ℕ, _^_, _≤_, _<_, zero-le}
 use native.Mathlib.Omega.{arith}
 use lib.Dec.{eqb}
-use borrow.Author.Tests.{eq-eqb, eqb-true, eqb-false, leb-true, le-leb, not-true, not-false}
+use borrow.Author.Tests.{eq-eqb, eqb-true, eqb-false, not-true, not-false}
 use Rattle.words.specs.declared.Search.{Search}
 use Rattle.words.specs.declared.Search.the-variants.{Found, Missing}
 use Rattle.words.specs.Searching.{least, is-found, among}
@@ -14,8 +14,9 @@ use Rattle.words.proofs.Tests.{contrary, and-left, and-right, and-both, three-w
 use Rattle.words.proofs.Searching.{Least, first, nowhere, least-below, decides-among}
 use Rattle.network.specs.declared.Network.{Network}
 use Rattle.network.specs.Reading.{all-drivers, all-but, walking-vector, extra-vector, sequential-response}
-use Rattle.network.specs.States.{driver-count, few-drivers}
+use Rattle.network.specs.States.{few-drivers}
 use Rattle.network.proofs.Reading.{alike-sequential, sequential-alike}
+use Rattle.network.proofs.States.{few-drivers-at, few-drivers-of}
 use Rattle.checker.specs.declared.Verdict.{Verdict}
 use Rattle.checker.specs.declared.Verdict.the-variants.{Pass, Pair}
 use Rattle.checker.specs.Rule.{Among, FullRule, Confused, BoundedRule, Rule, smaller-alike, pair-with, pair-at, bounded-verdict, pair-without, full-verdict, verdict}
@@ -34,31 +35,23 @@ module _ (net : Network) (k : ℕ) (vectors : List ℕ) where
   unfolding smaller-alike smaller-test
   smaller-is b = least-below (smaller-test b) b
 
-  few : (set : ℕ) → few-drivers net k set ≡ true → driver-count net set ≤ k
-  unfolding few-drivers
-  few set e = leb-true (driver-count net set) k e
-
-  few! : (set : ℕ) → driver-count net set ≤ k → few-drivers net k set ≡ true
-  unfolding few-drivers
-  few! set h = le-leb (driver-count net set) k h
-
   confused : (a b : ℕ) → a < b → b < 2 ^ (net .nets) → few-drivers net k b ≡ true → smaller-test b a ≡ true → Confused net k vectors a b
   unfolding smaller-test
   confused a b l m f e = record {
     smaller = l;
-    first-set = record { inside = omega arith; few = few a (and-left (few-drivers net k a) _ e) };
-    second-set = record { inside = m; few = few b f };
+    first-set = record { inside = omega arith; few = few-drivers-at net k a (and-left (few-drivers net k a) _ e) };
+    second-set = record { inside = m; few = few-drivers-at net k b f };
     read-alike = sequential-alike net vectors a b (eqb-true _ _ (and-right (few-drivers net k a) _ e));
   }
 
   -- where sets are confused, both searches find it
   passes-smaller : (a b : ℕ) → Confused net k vectors a b → smaller-test b a ≡ true
   unfolding smaller-test
-  passes-smaller a b h = and-both (few! a (h .first-set .few)) (eq-eqb _ _ (alike-sequential net vectors a b (h .read-alike)))
+  passes-smaller a b h = and-both (few-drivers-of net k a (h .first-set)) (eq-eqb _ _ (alike-sequential net vectors a b (h .read-alike)))
 
   passes-confused : (a b : ℕ) → Confused net k vectors a b → confused-test b ≡ true
   unfolding confused-test is-found
-  passes-confused a b h = and-both (few! b (h .second-set .few)) (go (smaller-alike net k vectors b) (smaller-is b))
+  passes-confused a b h = and-both (few-drivers-of net k b (h .second-set)) (go (smaller-alike net k vectors b) (smaller-is b))
     where
       go : (s : Search) → Least (smaller-test b) 0 b s → is-found s ≡ true
       go (Found x) r = refl

@@ -4,20 +4,21 @@ use mathlib.Core.Logic.{_≢_}
 use mathlib.Core.List.{List, [], _∷_}
 use Prim.Native.Nat.{ℕ}
 use native.Mathlib.Omega.{arith}
-use Rattle.words.specs.Answers.{full, Filled, NoneHolds}
+use Rattle.words.specs.Answers.{refused, full, Filled, NoneHolds}
 use Rattle.words.specs.Bits.{at}
 use Rattle.words.proofs.Answers.{let-through, table-full, table-not-refused}
 use Rattle.network.specs.declared.Network.{Network}
 use Rattle.network.specs.Rows.{SetRows, set-tests, set-admission}
 use Rattle.network.proofs.Rows.{decides-set}
-use Rattle.checker.specs.Open.{open-checker}
+use Rattle.diagnosis.specs.Open.{open-diagnosis}
 use Rattle.checker.specs.declared.Verdict.{Verdict}
 use Rattle.checker.specs.declared.Verdict.the-variants.{Pass, Pair}
 use Rattle.checker.specs.Check.{check-answer}
-use Rattle.demands.specs.Demand2.{ResponseProgram, Responds}
+use Rattle.demands.specs.Demand2.{ResponseProgram, Responds, DiagnosisProgram, Diagnoses}
 use Rattle.demands.specs.Demand3.{CheckProgram, Judged, Checks}
-use Rattle.demands.specs.Refuted.{passes-all-sets, shows-one-pair, refuses-every-set, writes-nothing, drops-tail, writes-when-refused, refuses-every-state, Refuted}
+use Rattle.demands.specs.Refuted.{passes-all-sets, shows-one-pair, refuses-every-set, writes-nothing, drops-tail, writes-when-refused, refuses-every-state, says-14, reads-nothing-back, accepts-conflicts, refuses-every-response, Refuted}
 use Rattle.demands.proofs.Responding.{our-response, responds, response-determined}
+use Rattle.demands.proofs.Diagnosing.{our-diagnosis, diagnoses, diagnosis-determined-program}
 use Rattle.demands.proofs.Checking.{checks, pair-not-one}
 
 -- two nets, class 2
@@ -32,7 +33,7 @@ abbrev too-few : List ℕ
 too-few = 1 ∷ []
 
 through : set-admission two 2 enough ≡ full tt
-unfolding open-checker
+unfolding open-diagnosis
 through = refl
 
 admitted : NoneHolds (SetRows two 2 enough)
@@ -45,11 +46,11 @@ says : (program : CheckProgram) → Checks program → (vectors : List ℕ) (v :
 says program h vectors v e = table-full (Judged two 2 vectors) (SetRows two 2 vectors) v (rw e at (h two 2 vectors))
 
 ours-passes : check-answer two 2 enough ≡ full Pass
-unfolding open-checker
+unfolding open-diagnosis
 ours-passes = refl
 
 ours-shows : check-answer two 2 too-few ≡ full (Pair 0 3)
-unfolding open-checker
+unfolding open-diagnosis
 ours-shows = refl
 
 pass-or-pair : (a b : ℕ) → Pair a b ≡ Pass → ⊥
@@ -78,20 +79,48 @@ unequal : _≢_ {A = ℕ} 9 0
 unequal e = omega arith
 
 list-as-lent : ¬ (Responds writes-nothing)
-unfolding open-checker
+unfolding open-diagnosis
 list-as-lent = differs writes-nothing (2 ∷ 2 ∷ []) (9 ∷ 9 ∷ 9 ∷ []) 0 unequal
 
 tail-dropped : ¬ (Responds drops-tail)
-unfolding open-checker
+unfolding open-diagnosis
 tail-dropped = differs drops-tail (2 ∷ 2 ∷ []) (9 ∷ 9 ∷ 9 ∷ 9 ∷ []) 3 (λ e. unequal (sym e))
 
 written-when-refused : ¬ (Responds writes-when-refused)
-unfolding open-checker
+unfolding open-diagnosis
 written-when-refused = differs writes-when-refused (3 ∷ 1 ∷ []) (9 ∷ 9 ∷ 9 ∷ []) 0 (λ e. unequal (sym e))
 
 refuses-states : (number : ℕ) → ¬ (Responds (refuses-every-state number))
-unfolding open-checker
+unfolding open-diagnosis
 refuses-states number = differs (refuses-every-state number) (2 ∷ 2 ∷ []) (9 ∷ 9 ∷ 9 ∷ []) 0 unequal
+
+-- ---- diagnoses
+
+unlike : (program : DiagnosisProgram) (responses lent : List ℕ) → program two 2 enough responses lent ≢ our-diagnosis two 2 enough responses lent → ¬ (Diagnoses program)
+unlike program responses lent d h = d (diagnosis-determined-program program our-diagnosis h diagnoses two 2 enough responses lent)
+
+-- what a call returned, as a number: a refusal, or 99 for a result
+as-number : Filled ℕ → ℕ
+as-number did = elim (did .returned) [ refused number ↦ number | full count ↦ 99 ]
+
+said-before-looking : ¬ (Diagnoses says-14)
+unfolding open-diagnosis as-number
+said-before-looking = unlike says-14 (0 ∷ 0 ∷ 3 ∷ []) (9 ∷ 9 ∷ []) (λ e. let z : _≡_ {A = ℕ} 14 99 = ap as-number e in omega arith)
+
+state-not-written : ¬ (Diagnoses reads-nothing-back)
+unfolding open-diagnosis
+state-not-written =
+    unlike reads-nothing-back (0 ∷ 0 ∷ 3 ∷ []) (9 ∷ 9 ∷ []) (λ e. let z : _≡_ {A = ℕ} 9 2 = ap (λ (f : Filled ℕ). at (f .list) 0) e in omega arith)
+
+-- reaches 3 and 1 answer so
+conflicts-accepted : ¬ (Diagnoses accepts-conflicts)
+unfolding open-diagnosis as-number
+conflicts-accepted = unlike accepts-conflicts (0 ∷ 3 ∷ 1 ∷ []) (9 ∷ 9 ∷ []) (λ e. let z : _≡_ {A = ℕ} 99 14 = ap as-number e in omega arith)
+
+refuses-responses : (number : ℕ) → ¬ (Diagnoses (refuses-every-response number))
+unfolding open-diagnosis
+refuses-responses number =
+    unlike (refuses-every-response number) (0 ∷ 0 ∷ 3 ∷ []) (9 ∷ 9 ∷ []) (λ e. let z : _≡_ {A = ℕ} 9 2 = ap (λ (f : Filled ℕ). at (f .list) 0) e in omega arith)
 
 pub refuted : Refuted
 refuted = record {
@@ -102,4 +131,8 @@ refuted = record {
   tail-dropped = tail-dropped;
   written-when-refused = written-when-refused;
   refuses-states = refuses-states;
+  said-before-looking = said-before-looking;
+  state-not-written = state-not-written;
+  conflicts-accepted = conflicts-accepted;
+  refuses-responses = refuses-responses;
 }

@@ -1,14 +1,15 @@
 -- The starred cases and the bounds, by computation; and that nothing is left open.
 use mathlib.Core.Path.{refl}
-use Rattle.checker.specs.Open.{open-checker}
+use Rattle.diagnosis.specs.Open.{open-diagnosis}
 use Rattle.demands.specs.Determined.{Determined}
 use Rattle.demands.specs.Starred.{Starred}
 use Rattle.demands.specs.Boundary.{Boundary}
 use Rattle.demands.proofs.Responding.{response-determined}
+use Rattle.demands.proofs.Diagnosing.{diagnosis-determined-program}
 use Rattle.demands.proofs.Checking.{check-determined-program}
 
 pub starred : Starred
-unfolding open-checker
+unfolding open-diagnosis
 starred = record {
   walking = refl;
   no-extra-vector = refl;
@@ -22,10 +23,12 @@ starred = record {
   response = refl;
   first-answers = refl;
   second-answers = refl;
+  and-back = refl;
+  no-state = refl;
 }
 
 pub boundary : Boundary
-unfolding open-checker
+unfolding open-diagnosis
 boundary = record {
   nets-1 = refl;
   nets-2 = refl;
@@ -45,7 +48,14 @@ boundary = record {
   equal-reaches = refl;
   one-short = refl;
   just-enough = refl;
+  one-response-short = refl;
+  one-response-more = refl;
+  response-below = refl;
+  response-at = refl;
+  room-3 = refl;
+  room-4 = refl;
+  set-not-passed = refl;
 }
 
 pub determined : Determined
-determined = record { response = response-determined; check = check-determined-program }
+determined = record { response = response-determined; check = check-determined-program; diagnosis = diagnosis-determined-program }

@@ -6,11 +6,16 @@ use lib.ListN.{replicate}
 use Rattle.words.specs.Answers.{Answer, refused, full}
 use Rattle.network.specs.Respond.{response-answer}
 use Rattle.checker.specs.declared.Verdict.the-variants.{Pass, Pair}
-use Rattle.demands.specs.Starred.{check, respond}
+use Rattle.diagnosis.specs.Diagnosis.{diagnosis-answer}
+use Rattle.demands.specs.Starred.{check, respond, diagnose}
 
 -- *response from a state* with this much room
 abbrev pub respond-into : ℕ → Answer (List ℕ)
 respond-into room = response-answer (record { nets = 4 }) 4 (0 ∷ 1 ∷ 2 ∷ 4 ∷ 8 ∷ []) (3 ∷ 3 ∷ 0 ∷ 8 ∷ []) room
+
+-- *diagnosis* over walking ones with this much room
+abbrev pub diagnose-into : List ℕ → ℕ → Answer (List ℕ)
+diagnose-into responses room = diagnosis-answer (record { nets = 4 }) 4 (0 ∷ 1 ∷ 2 ∷ 4 ∷ 8 ∷ []) responses room
 
 pub record Boundary : Type 0 where
   -- row 5: n
@@ -37,3 +42,11 @@ pub record Boundary : Type 0 where
   -- row 12: the room
   pub one-short : respond-into 4 ≡ refused 12
   pub just-enough : respond-into 5 ≡ full (4 ∷ 7 ∷ 7 ∷ 4 ∷ 12 ∷ [])
+  -- *diagnosis*: row 9, as many responses as vectors; row 10, a bit at n; row 12, the room; row 13, the set
+  pub one-response-short : diagnose-into (4 ∷ 7 ∷ 7 ∷ 4 ∷ []) 4 ≡ refused 9
+  pub one-response-more : diagnose-into (4 ∷ 7 ∷ 7 ∷ 4 ∷ 12 ∷ 0 ∷ []) 4 ≡ refused 9
+  pub response-below : diagnose-into (4 ∷ 7 ∷ 7 ∷ 4 ∷ 15 ∷ []) 4 ≡ refused 14
+  pub response-at : diagnose-into (4 ∷ 7 ∷ 7 ∷ 4 ∷ 16 ∷ []) 4 ≡ refused 10
+  pub room-3 : diagnose-into (4 ∷ 7 ∷ 7 ∷ 4 ∷ 12 ∷ []) 3 ≡ refused 12
+  pub room-4 : diagnose-into (4 ∷ 7 ∷ 7 ∷ 4 ∷ 12 ∷ []) 4 ≡ full (3 ∷ 3 ∷ 0 ∷ 8 ∷ [])
+  pub set-not-passed : diagnose 4 (1 ∷ 2 ∷ 4 ∷ 8 ∷ []) (7 ∷ 7 ∷ 4 ∷ 12 ∷ []) ≡ refused 13

@@ -1,16 +1,24 @@
--- Demand 2, first sentence: a response worked out from a wiring state follows the wired-OR model with floating receivers at
--- soft 1, opens and shorts on one net included.
+-- Demand 2: a response worked out from a wiring state, and a wiring state read back from a response, both follow the wired-OR
+-- model with floating receivers at soft 1, opens and shorts on one net included. With a passed test set, the state read back is
+-- of the stated class and gives exactly that response, and, if no earlier refusal applies, "no state fits" is said exactly when
+-- no state of the class gives it.
 use Prim.Native.Nat.{ℕ}
 use mathlib.Core.Path.{_≡_}
+use mathlib.Core.Logic.{_↔_}
 use mathlib.Core.Bool.{true, false}
-use mathlib.Core.List.{List, [], _∷_}
-use lib.ListN.{length}
-use Rattle.words.specs.Answers.{full, Filled, FillsByTable}
+use mathlib.Core.List.{List, [], _∷_, _++_}
+use lib.ListN.{length, take}
+use Rattle.words.specs.Answers.{refused, full, NoneHolds, Filled, FillsByTable}
 use Rattle.words.specs.Bits.{has, at}
 use Rattle.network.specs.declared.Network.{Network}
 use Rattle.network.specs.Reading.{Response}
-use Rattle.network.specs.States.{State}
+use Rattle.network.specs.States.{State, Fits}
+use Rattle.network.specs.Rows.{SetRows, Row9, HighBit, Row12}
 use Rattle.network.specs.Respond.{ResponseRows}
+use Rattle.diagnosis.specs.Diagnosis.{Row13, DiagnosisRows}
+use Rattle.diagnosis.specs.Findings.{finding}
+
+-- ---- the response
 
 -- a program for the call *response from a state*: what it returns, and the lent list after it
 abbrev pub ResponseProgram : Type 0
@@ -22,10 +30,47 @@ abbrev pub Responds : ResponseProgram → Type 0
 Responds program = (net : Network) (k : ℕ) (vectors state lent : List ℕ)
     → FillsByTable (ResponseRows net k vectors state (length lent)) (Response net state vectors) lent (program net k vectors state lent)
 
+-- ---- reading back
+
+-- a program for the call *diagnosis*
+abbrev pub DiagnosisProgram : Type 0
+DiagnosisProgram = Network → ℕ → (vectors responses lent : List ℕ) → Filled ℕ
+
+-- the rows before 14
+abbrev pub EarlierRows : Network → ℕ → (vectors responses : List ℕ) → ℕ → List (ℕ × Type 0)
+EarlierRows net k vectors responses room =
+    SetRows net k vectors ++ (9, Row9 vectors responses) ∷ (10, HighBit net responses) ∷ (12, Row12 (net .nets) room) ∷ (13, Row13 net k vectors) ∷ []
+
+-- what one call did
+pub record ReadsBack (net : Network) (k : ℕ) (vectors responses lent : List ℕ) (did : Filled ℕ) : Type 0 where
+  -- refused by the first row that holds and the list as it was, or a state that fits and the tail as it was
+  pub by-table : FillsByTable (DiagnosisRows net k vectors responses (length lent)) (Fits net k vectors responses) lent did
+  -- an accepted call: the list then begins with a state of the class that gives exactly that response
+  pub right : (count : ℕ) → did .returned ≡ full count → Fits net k vectors responses (take (net .nets) (did .list))
+  -- if no earlier refusal applies: a state of the class that gives the response is the one read back
+  pub found : NoneHolds (EarlierRows net k vectors responses (length lent)) → (state : List ℕ) → Fits net k vectors responses state
+      → (did .returned ≡ full (net .nets)) × (take (net .nets) (did .list) ≡ state)
+  -- and 14 is said exactly when there is none
+  pub none : NoneHolds (EarlierRows net k vectors responses (length lent))
+      → (did .returned ≡ refused 14) ↔ (¬ ((state : List ℕ) × Fits net k vectors responses state))
+
+abbrev pub Diagnoses : DiagnosisProgram → Type 0
+Diagnoses program = (net : Network) (k : ℕ) (vectors responses lent : List ℕ) → ReadsBack net k vectors responses lent (program net k vectors responses lent)
+
+-- ---- opens and shorts on one net
+
 -- A wiring state with an open and a short on one net: driver 0 is not in its own receiver's reach, and driver 1 reaches both.
-pub record OpenAndShort (program : ResponseProgram) : Type 0 where
+pub record OpenAndShort (responds : ResponseProgram) (diagnoses : DiagnosisProgram) : Type 0 where
   pub is-state : State (record { nets = 2 }) 2 (2 ∷ 2 ∷ [])
   pub open-net : has (at (2 ∷ 2 ∷ []) 0) 0 ≡ false
   pub shorted : (has (at (2 ∷ 2 ∷ []) 0) 1 ≡ true) × (has (at (2 ∷ 2 ∷ []) 1) 1 ≡ true)
-  pub returned : program (record { nets = 2 }) 2 (0 ∷ 1 ∷ 2 ∷ []) (2 ∷ 2 ∷ []) (9 ∷ 9 ∷ 9 ∷ []) .returned ≡ full 3
-  pub list : program (record { nets = 2 }) 2 (0 ∷ 1 ∷ 2 ∷ []) (2 ∷ 2 ∷ []) (9 ∷ 9 ∷ 9 ∷ []) .list ≡ 0 ∷ 0 ∷ 3 ∷ []
+  pub response : responds (record { nets = 2 }) 2 (0 ∷ 1 ∷ 2 ∷ []) (2 ∷ 2 ∷ []) (9 ∷ 9 ∷ 9 ∷ []) ≡ record { returned = full 3; list = 0 ∷ 0 ∷ 3 ∷ [] }
+  pub and-back : diagnoses (record { nets = 2 }) 2 (0 ∷ 1 ∷ 2 ∷ []) (0 ∷ 0 ∷ 3 ∷ []) (9 ∷ 9 ∷ []) ≡ record { returned = full 2; list = 2 ∷ 2 ∷ [] }
+  pub both-found : finding (record { nets = 2 }) (2 ∷ 2 ∷ []) 0 .kind ≡ 3
+
+-- ---- demand 2, whole
+
+pub record Demand2 (responds : ResponseProgram) (diagnoses : DiagnosisProgram) : Type 0 where
+  pub response : Responds responds
+  pub reading-back : Diagnoses diagnoses
+  pub open-and-short : OpenAndShort responds diagnoses

@@ -6,7 +6,7 @@ use Rattle.words.specs.Answers.{ByTable}
 use Rattle.network.specs.declared.Network.{Network}
 use Rattle.network.specs.Rows.{SetRows}
 use Rattle.checker.specs.Rule.{Rule}
-use Rattle.demands.specs.Demand2.{ResponseProgram, Responds}
+use Rattle.demands.specs.Demand2.{ResponseProgram, Responds, DiagnosisProgram, Diagnoses}
 use Rattle.demands.specs.Demand3.{CheckProgram}
 
 -- refused by the first row that holds, or the verdict of document 01's rule
@@ -17,3 +17,5 @@ pub record Determined : Type 0 where
   pub response : (p q : ResponseProgram) → Responds p → Responds q → (net : Network) (k : ℕ) (vectors state lent : List ℕ)
       → p net k vectors state lent ≡ q net k vectors state lent
   pub check : (p q : CheckProgram) → ChecksByRule p → ChecksByRule q → (net : Network) (k : ℕ) (vectors : List ℕ) → p net k vectors ≡ q net k vectors
+  pub diagnosis : (p q : DiagnosisProgram) → Diagnoses p → Diagnoses q → (net : Network) (k : ℕ) (vectors responses lent : List ℕ)
+      → p net k vectors responses lent ≡ q net k vectors responses lent

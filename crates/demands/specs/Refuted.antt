@@ -4,8 +4,10 @@ use mathlib.Core.List.{List, _++_, map}
 use lib.ListN.{length, take, drop}
 use Rattle.words.specs.Answers.{Answer, refused, full, lent-after, count-of}
 use Rattle.network.specs.Respond.{response-answer}
+use Rattle.diagnosis.specs.ReadBack.{read-back}
+use Rattle.diagnosis.specs.Diagnosis.{diagnosis-answer}
 use Rattle.checker.specs.declared.Verdict.the-variants.{Pass, Pair}
-use Rattle.demands.specs.Demand2.{ResponseProgram, Responds}
+use Rattle.demands.specs.Demand2.{ResponseProgram, Responds, DiagnosisProgram, Diagnoses}
 use Rattle.demands.specs.Demand3.{CheckProgram, Checks}
 
 -- ---- checkers
@@ -44,6 +46,25 @@ writes-when-refused net k vectors state lent =
 abbrev pub refuses-every-state : ℕ → ResponseProgram
 refuses-every-state number net k vectors state lent = record { returned = refused number; list = lent }
 
+-- ---- diagnoses
+
+-- "no state fits" said before looking
+abbrev pub says-14 : DiagnosisProgram
+says-14 net k vectors responses lent = record { returned = refused 14; list = lent }
+
+-- a right answer, and the list left as lent
+abbrev pub reads-nothing-back : DiagnosisProgram
+reads-nothing-back net k vectors responses lent = record { returned = count-of (diagnosis-answer net k vectors responses (length lent)); list = lent }
+
+-- reaches that meet and differ are accepted
+abbrev pub accepts-conflicts : DiagnosisProgram
+accepts-conflicts net k vectors responses lent =
+    let answer = full (read-back net k vectors responses) in
+    record { returned = count-of answer; list = lent-after answer lent }
+
+abbrev pub refuses-every-response : ℕ → DiagnosisProgram
+refuses-every-response number net k vectors responses lent = record { returned = refused number; list = lent }
+
 pub record Refuted : Type 0 where
   pub passes-all : ¬ (Checks passes-all-sets)
   pub one-pair : (a b : ℕ) → ¬ (Checks (shows-one-pair a b))
@@ -52,3 +73,7 @@ pub record Refuted : Type 0 where
   pub tail-dropped : ¬ (Responds drops-tail)
   pub written-when-refused : ¬ (Responds writes-when-refused)
   pub refuses-states : (number : ℕ) → ¬ (Responds (refuses-every-state number))
+  pub said-before-looking : ¬ (Diagnoses says-14)
+  pub state-not-written : ¬ (Diagnoses reads-nothing-back)
+  pub conflicts-accepted : ¬ (Diagnoses accepts-conflicts)
+  pub refuses-responses : (number : ℕ) → ¬ (Diagnoses (refuses-every-response number))

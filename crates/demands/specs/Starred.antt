@@ -2,11 +2,12 @@
 use Prim.Native.Nat.{ℕ}
 use mathlib.Core.Path.{_≡_}
 use mathlib.Core.List.{List, [], _∷_}
-use Rattle.words.specs.Answers.{Answer, full}
+use Rattle.words.specs.Answers.{Answer, refused, full}
 use Rattle.network.specs.Respond.{response-answer}
 use Rattle.checker.specs.declared.Verdict.{Verdict}
 use Rattle.checker.specs.declared.Verdict.the-variants.{Pass, Pair}
 use Rattle.checker.specs.Check.{check-answer}
+use Rattle.diagnosis.specs.Diagnosis.{diagnosis-answer}
 
 -- *check*: the answer for n, k and the vectors
 abbrev pub check : ℕ → ℕ → List ℕ → Answer Verdict
@@ -15,6 +16,10 @@ check n k vectors = check-answer (record { nets = n }) k vectors
 -- *response from a state* of class n, with room for 5 words: the answer for the vectors and the state
 abbrev pub respond : ℕ → (vectors state : List ℕ) → Answer (List ℕ)
 respond n vectors state = response-answer (record { nets = n }) n vectors state 5
+
+-- *diagnosis* for class n, with room for n words: the answer for the vectors and the responses
+abbrev pub diagnose : ℕ → (vectors responses : List ℕ) → Answer (List ℕ)
+diagnose n vectors responses = diagnosis-answer (record { nets = n }) n vectors responses n
 
 -- source document 004, table II
 abbrev pub table-II : List ℕ
@@ -38,3 +43,6 @@ pub record Starred : Type 0 where
   pub response : respond 4 (0 ∷ 1 ∷ 2 ∷ 4 ∷ 8 ∷ []) (3 ∷ 3 ∷ 0 ∷ 8 ∷ []) ≡ full (4 ∷ 7 ∷ 7 ∷ 4 ∷ 12 ∷ [])
   pub first-answers : respond 4 (11 ∷ 5 ∷ 6 ∷ 8 ∷ []) (3 ∷ 3 ∷ 0 ∷ 8 ∷ []) ≡ full (15 ∷ 7 ∷ 7 ∷ 12 ∷ [])
   pub second-answers : respond 4 (0 ∷ 1 ∷ 2 ∷ 4 ∷ []) (3 ∷ 3 ∷ 0 ∷ 8 ∷ []) ≡ full (4 ∷ 7 ∷ 7 ∷ 4 ∷ [])
+  -- and back; and a response that no state gives
+  pub and-back : diagnose 4 (0 ∷ 1 ∷ 2 ∷ 4 ∷ 8 ∷ []) (4 ∷ 7 ∷ 7 ∷ 4 ∷ 12 ∷ []) ≡ full (3 ∷ 3 ∷ 0 ∷ 8 ∷ [])
+  pub no-state : diagnose 4 (0 ∷ 1 ∷ 2 ∷ 4 ∷ 8 ∷ []) (4 ∷ 7 ∷ 7 ∷ 4 ∷ 4 ∷ []) ≡ refused 14

@@ -205,6 +205,14 @@ module _ (net : Network) where
 
   -- ---- sequential words, and the response by its bits
 
+  pub has-sequential : (vectors : List ℕ) (set t : ℕ) → t < length vectors → has (sequential-response net vectors set) t ≡ reads net set (at vectors t)
+  unfolding sequential-response
+  has-sequential vectors set t l = has-made (reads net set) vectors t l
+
+  pub sequential-below : (vectors : List ℕ) (set : ℕ) → sequential-response net vectors set < 2 ^ length vectors
+  unfolding sequential-response
+  sequential-below vectors set = made-below (reads net set) vectors
+
   -- two sets read the same on every vector exactly where their sequential words are equal
   pub alike-sequential : (vectors : List ℕ) (a b : ℕ) → ReadAlike net vectors a b → sequential-response net vectors a ≡ sequential-response net vectors b
   unfolding sequential-response

@@ -19,7 +19,7 @@ module _ (net : Network) (k : ℕ) (vectors state : List ℕ) (room : ℕ) where
   response-by-table =
       tests-by-table (Response net state vectors) (ResponseRows net k vectors state room) (response-tests net k vectors state room) (response net state vectors)
       (decided-append (SetRows net k vectors) (OwnRows net k vectors state room) (set-tests net k vectors) (own-tests net k vectors state room) (decides-set net k vectors)
-      (refl, decides-not-a-state net k state, (refl, decides-row-12 (length vectors) room, tt)))
+      (λ _. (refl, decides-not-a-state net k state, λ _. (refl, decides-row-12 (length vectors) room, λ _. tt))))
       (λ _. response-is net state vectors)
 
   pub response-answer-determined : (a b : Answer (List ℕ)) → ByTable (ResponseRows net k vectors state room) (Response net state vectors) a

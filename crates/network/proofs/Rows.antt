@@ -14,7 +14,7 @@ use Rattle.words.proofs.Tests.{cases, decides-less, decides-at-most, decides-eq
 use Rattle.words.proofs.Searching.{decides-any}
 use Rattle.words.proofs.Answers.{let-through, shared-refuse, shared-pass}
 use Rattle.network.specs.declared.Network.{Network}
-use Rattle.network.specs.Rows.{Row5, Row6, Row7, HighBit, Row12, bad-net-count, bad-class, bad-vector-count, has-high-bit, no-room, SetRows, set-tests, set-admission}
+use Rattle.network.specs.Rows.{Row5, Row6, Row7, HighBit, Row9, Row12, bad-net-count, bad-class, bad-vector-count, has-high-bit, bad-response-count, no-room, SetRows, set-tests, set-admission}
 
 pub decides-row-5 : (net : Network) → Decides (bad-net-count net) (Row5 net)
 decides-row-5 net = decides-or (decides-less (net .nets) 2) (decides-less 48 (net .nets))
@@ -34,6 +34,9 @@ unfolding has-high-bit
 decides-high-bit net words =
     decides-any (λ t. leb (2 ^ (net .nets)) (at words t)) (λ t. 2 ^ (net .nets) ≤ at words t) (length words) (λ t. decides-at-most (2 ^ (net .nets)) (at words t))
 
+pub decides-row-9 : (vectors responses : List ℕ) → Decides (bad-response-count vectors responses) (Row9 vectors responses)
+decides-row-9 vectors responses = decides-not (decides-equal (length responses) (length vectors))
+
 pub decides-row-12 : (result room : ℕ) → Decides (no-room result room) (Row12 result room)
 decides-row-12 result room = decides-less room result
 
@@ -52,7 +55,7 @@ no-high-bit net words h t l = lt-of-not-le (λ e. h (t, l, e))
 
 pub decides-set : (net : Network) (k : ℕ) (vectors : List ℕ) → Decided (SetRows net k vectors) (set-tests net k vectors)
 decides-set net k vectors =
-    (refl, decides-row-5 net, (refl, decides-row-6 net k, (refl, decides-row-7 vectors, (refl, decides-high-bit net vectors, tt))))
+    (refl, decides-row-5 net, λ _. (refl, decides-row-6 net k, λ _. (refl, decides-row-7 vectors, λ _. (refl, decides-high-bit net vectors, λ _. tt))))
 
 -- what a test set that they admit has
 pub record AdmittedSet (net : Network) (k : ℕ) (vectors : List ℕ) : Type 0 where
@@ -102,5 +105,8 @@ module _ (net : Network) (k : ℕ) (vectors : List ℕ) where
       → by-tests (set-tests net k vectors ++ more) x ≡ by-tests more x
   set-admits more x e = shared-pass tt x (set-tests net k vectors) more tt e
 
+  pub set-none-holds : set-admission net k vectors ≡ full tt → NoneHolds (SetRows net k vectors)
+  set-none-holds e = let-through (SetRows net k vectors) (set-tests net k vectors) tt tt (decides-set net k vectors) e
+
   pub set-admitted : set-admission net k vectors ≡ full tt → AdmittedSet net k vectors
-  set-admitted e = admitted-set net k vectors (let-through (SetRows net k vectors) (set-tests net k vectors) tt tt (decides-set net k vectors) e)
+  set-admitted e = admitted-set net k vectors (set-none-holds e)

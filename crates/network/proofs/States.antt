@@ -3,7 +3,7 @@ use mathlib.Core.Path.{_≡_, sym, ap, _∙_}
 use mathlib.Core.Bool.{Bool, true, false, not, _&&_}
 use mathlib.Core.Logic.{_⊎_, inl, inr, ⊎-elim}
 use mathlib.Core.List.{List}
-use Prim.Native.Nat.{ℕ, _^_, _<_}
+use Prim.Native.Nat.{ℕ, _^_, _≤_, _<_}
 use lib.Count.{ones}
 use lib.Dec.{eqb, leb, ltb}
 use lib.ListN.{length}
@@ -25,17 +25,23 @@ pub few-by-ones : (net : Network) (k set : ℕ) → set < 2 ^ (net .nets) → fe
 unfolding few-drivers
 few-by-ones net k set l = ap (λ (x : ℕ). leb x k) (ones-counted (net .nets) set l)
 
+pub few-drivers-at : (net : Network) (k set : ℕ) → few-drivers net k set ≡ true → driver-count net set ≤ k
+unfolding few-drivers
+few-drivers-at net k set e = leb-true (driver-count net set) k e
+
+pub few-drivers-of : (net : Network) (k set : ℕ) → DriverSet net k set → few-drivers net k set ≡ true
+unfolding few-drivers
+few-drivers-of net k set d = le-leb (driver-count net set) k (d .few)
+
 module _ (net : Network) (k : ℕ) where
   pub few→set : (set : ℕ) → ltb set (2 ^ (net .nets)) && few-drivers net k set ≡ true → DriverSet net k set
-  unfolding few-drivers
   few→set set e = record {
     inside = ltb-true set (2 ^ (net .nets)) (and-left (ltb set (2 ^ (net .nets))) _ e);
-    few = leb-true (driver-count net set) k (and-right (ltb set (2 ^ (net .nets))) _ e);
+    few = few-drivers-at net k set (and-right (ltb set (2 ^ (net .nets))) _ e);
   }
 
   pub set→few : (set : ℕ) → DriverSet net k set → ltb set (2 ^ (net .nets)) && few-drivers net k set ≡ true
-  unfolding few-drivers
-  set→few set h = and-both (lt-ltb set (2 ^ (net .nets)) (h .inside)) (le-leb (driver-count net set) k (h .few))
+  set→few set h = and-both (lt-ltb set (2 ^ (net .nets)) (h .inside)) (few-drivers-of net k set h)
 
 module _ (net : Network) where
   -- two sets that meet and do not pass as differing are equal
@@ -43,40 +49,56 @@ module _ (net : Network) where
   unfolding meet-and-differ
   meet-equal a b x l p q e = eqb-true a b (⊎-elim (λ f. f) (λ f. contrary (and-both (meets-at net a b x l p q) (ap not f)) e) (cases (eqb a b)))
 
-module _ (net : Network) (k : ℕ) (state : List ℕ) where
-  reach-test : ℕ → Bool
-  reach-test i = not (ltb (at state i) (2 ^ (net .nets)) && few-drivers net k (at state i))
+-- two reaches with a driver in common are equal exactly where the test finds no conflict
+abbrev pub MeetOnlyIfEqual : Network → List ℕ → Type 0
+MeetOnlyIfEqual net state = (i j x : ℕ) → i < length state → j < length state → x < net .nets → has (at state i) x ≡ true → has (at state j) x ≡ true
+    → at state i ≡ at state j
 
+module _ (net : Network) (state : List ℕ) where
   pair-test : ℕ → ℕ → Bool
   pair-test i j = meet-and-differ net (at state i) (at state j)
 
-  pub test→state : not-a-state net k state ≡ false → State net k state
-  unfolding not-a-state has-wrong-reach has-conflict conflicts reach-test pair-test
-  test→state e =
-      let size = neither (not (eqb (length state) (net .nets))) _ e in
-      let rest = neither (has-wrong-reach net k state) (has-conflict net state) (size .1) in record {
-        size = eqb-true (length state) (net .nets) (not-false _ (size .0));
-        reach = λ i l. few→set net k (at state i) (not-false _ (any-false reach-test (length state) i l (rest .0)));
-        meet-only-if-equal = λ i j x li lj lx p q.
-            meet-equal net (at state i) (at state j) x lx p q
-            (any-false (pair-test i) (length state) j lj (any-false (λ y. any (length state) (pair-test y)) (length state) i li (rest .1)));
-      }
+  pub no-conflict : has-conflict net state ≡ false → MeetOnlyIfEqual net state
+  unfolding has-conflict conflicts pair-test
+  no-conflict e i j x li lj lx p q =
+      meet-equal net (at state i) (at state j) x lx p q
+      (any-false (pair-test i) (length state) j lj (any-false (λ y. any (length state) (pair-test y)) (length state) i li e))
 
-  pub state→test : State net k state → not-a-state net k state ≡ false
-  unfolding not-a-state has-wrong-reach has-conflict conflicts reach-test pair-test meet-and-differ
-  state→test h =
-      rw (
-        eq-eqb (length state) (net .nets) (h .size),
-        any-none reach-test (length state) (λ i l. ap not (set→few net k (at state i) (h .reach i l))),
-        any-none (λ i. any (length state) (pair-test i)) (length state) (λ i l. any-none (pair-test i) (length state) (λ j m. agree i j l m (cases (meets net (at state i) (at state j))))),
-      )
+  pub conflict-free : MeetOnlyIfEqual net state → has-conflict net state ≡ false
+  unfolding has-conflict conflicts pair-test meet-and-differ
+  conflict-free h =
+      any-none (λ i. any (length state) (pair-test i)) (length state)
+      (λ i l. any-none (pair-test i) (length state) (λ j m. agree i j l m (cases (meets net (at state i) (at state j)))))
     where
       agree : (i j : ℕ) → i < length state → j < length state → (meets net (at state i) (at state j) ≡ true) ⊎ (meets net (at state i) (at state j) ≡ false)
           → meets net (at state i) (at state j) && not (eqb (at state i) (at state j)) ≡ false
       agree i j l m (inl e) =
           let r = meets-some net (at state i) (at state j) e in
-          rw (e, eq-eqb (at state i) (at state j) (h .meet-only-if-equal i j (r .0) l m (r .1) (r .2) (r .3)))
+          rw (e, eq-eqb (at state i) (at state j) (h i j (r .0) l m (r .1) (r .2) (r .3)))
       agree i j l m (inr e) = rw e
+
+module _ (net : Network) (k : ℕ) (state : List ℕ) where
+  reach-test : ℕ → Bool
+  reach-test i = not (ltb (at state i) (2 ^ (net .nets)) && few-drivers net k (at state i))
+
+  pub test→state : not-a-state net k state ≡ false → State net k state
+  unfolding not-a-state has-wrong-reach reach-test
+  test→state e =
+      let size = neither (not (eqb (length state) (net .nets))) _ e in
+      let rest = neither (has-wrong-reach net k state) (has-conflict net state) (size .1) in record {
+        size = eqb-true (length state) (net .nets) (not-false _ (size .0));
+        reach = λ i l. few→set net k (at state i) (not-false _ (any-false reach-test (length state) i l (rest .0)));
+        meet-only-if-equal = no-conflict net state (rest .1);
+      }
+
+  pub state→test : State net k state → not-a-state net k state ≡ false
+  unfolding not-a-state has-wrong-reach reach-test
+  state→test h =
+      rw (
+        eq-eqb (length state) (net .nets) (h .size),
+        any-none reach-test (length state) (λ i l. ap not (set→few net k (at state i) (h .reach i l))),
+        conflict-free net state (h .meet-only-if-equal),
+      )
 
   pub decides-not-a-state : Decides (not-a-state net k state) (¬ (State net k state))
   decides-not-a-state = (λ e h. contrary e (state→test h), λ e h. h (test→state e))

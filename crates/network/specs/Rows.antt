@@ -1,7 +1,7 @@
 -- The refusal rows that calls share: each as document 01's table says it, and as a test.
 use Prim.Native.Nat.{ℕ, _^_, _<_, _≤_}
 use mathlib.Core.Path.{_≡_}
-use mathlib.Core.Logic.{_⊎_}
+use mathlib.Core.Logic.{_⊎_, _≢_}
 use mathlib.Core.Bool.{Bool, not, _||_}
 use mathlib.Core.List.{List, [], _∷_}
 use lib.Dec.{eqb, leb, ltb}
@@ -32,6 +32,10 @@ Row7 vectors = (length vectors < 1) ⊎ (64 < length vectors)
 abbrev pub HighBit : Network → List ℕ → Type 0
 HighBit net words = (t : ℕ) × (t < length words) × (2 ^ (net .nets) ≤ at words t)
 
+-- responses: not as many as vectors
+abbrev pub Row9 : (vectors responses : List ℕ) → Type 0
+Row9 vectors responses = length responses ≢ length vectors
+
 -- wiring state: not one of the class
 abbrev pub Row11 : Network → ℕ → List ℕ → Type 0
 Row11 net k state = ¬ (State net k state)
@@ -53,6 +57,9 @@ bad-vector-count vectors = ltb (length vectors) 1 || ltb 64 (length vectors)
 
 unfoldable pub has-high-bit : Network → List ℕ → Bool
 has-high-bit net words = any (length words) (λ t. leb (2 ^ (net .nets)) (at words t))
+
+abbrev pub bad-response-count : (vectors responses : List ℕ) → Bool
+bad-response-count vectors responses = not (eqb (length responses) (length vectors))
 
 abbrev pub no-room : ℕ → ℕ → Bool
 no-room result room = ltb room result

@@ -4,7 +4,7 @@ ghost use Prim.Native.Nat.{ℕ, _<_, _≤_, _^_};
 ghost use lib.ListN.{length};
 ghost use Rattle.words.specs.Bits.{at};
 ghost use Rattle.network.specs.States.{«few-drivers», «has-wrong-reach», conflicts, «has-conflict», «not-a-state»};
-ghost use Rattle.network.specs.Rows.{«bad-net-count», «bad-class», «bad-vector-count», «has-high-bit», «no-room», «set-admission», admission};
+ghost use Rattle.network.specs.Rows.{«bad-net-count», «bad-class», «bad-vector-count», «has-high-bit», «bad-response-count», «no-room», «set-admission», admission};
 use crate::Admission;
 use crate::Network;
 
@@ -138,6 +138,13 @@ pub fn not_a_state(net: Network, class: u64, state: &[u64]) -> bool
         return true;
     }
     has_conflict(net, state)
+}
+
+// Row 9: not as many responses as vectors.
+pub fn bad_response_count(vectors: &[u64], responses: &[u64]) -> bool
+    ensures { λ r. ⌜ r ≡ bad-response-count (now (vectors .entry)) (now (responses .entry)) ⌝ }
+{
+    responses.len() != vectors.len()
 }
 
 // Row 12: a lent list shorter than the result.

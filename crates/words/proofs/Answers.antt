@@ -1,5 +1,5 @@
 -- The table computed is the table said, and it leaves nothing open.
-use mathlib.Core.Path.{_≡_, refl, sym, ap, _∙_, subst}
+use mathlib.Core.Path.{_≡_, refl, sym, ap, ap₂, _∙_, subst}
 use mathlib.Core.Bool.{Bool, true, false, cond}
 use mathlib.Core.Logic.{_⊎_, inl, inr}
 use mathlib.Core.List.{List, [], _∷_, _++_}
@@ -7,7 +7,7 @@ use Prim.Native.Nat.{ℕ}
 use native.Mathlib.Omega.{arith}
 use lib.ListN.{length, take, drop}
 use lib.Seq.{drop-append-seam, take-append-seam}
-use Rattle.words.specs.Answers.{Answer, refused, full, ByTable, NoneHolds, by-tests, Decided, lent-after, count-of}
+use Rattle.words.specs.Answers.{Answer, refused, full, ByTable, NoneHolds, by-tests, Decided, lent-after, count-of, Filled, FillsByTable}
 
 module _ {A : Type 0} (result : A → Type 0) where
   -- tests that decide their rows give the answer that the rows allow
@@ -17,12 +17,13 @@ module _ {A : Type 0} (result : A → Type 0) where
   tests-by-table [] [] x d r = (x, refl, r tt)
   tests-by-table [] (t ∷ tests) x d r = absurd d
   tests-by-table (r ∷ rows) [] x d h = absurd d
-  tests-by-table ((number, holds) ∷ rows) ((number′, test) ∷ tests) x (same, decides, rest) r = go test (decides .0) (decides .1) (tests-by-table rows tests x rest)
+  tests-by-table ((number, holds) ∷ rows) ((number′, test) ∷ tests) x (same, decides, rest) r =
+      go test (decides .0) (decides .1) (λ n. tests-by-table rows tests x (rest n))
     where
-      go : (t : Bool) → (t ≡ true → holds) → (t ≡ false → ¬ holds) → ((NoneHolds rows → result x) → ByTable rows result (by-tests tests x))
+      go : (t : Bool) → (t ≡ true → holds) → (t ≡ false → ¬ holds) → (¬ holds → (NoneHolds rows → result x) → ByTable rows result (by-tests tests x))
           → (holds × (cond t (refused number′) (by-tests tests x) ≡ refused number)) ⊎ ((¬ holds) × ByTable rows result (cond t (refused number′) (by-tests tests x)))
       go true yes! no! later = inl (yes! refl, ap refused (sym same))
-      go false yes! no! later = inr (no! refl, later (λ n. r (no! refl, n)))
+      go false yes! no! later = inr (no! refl, later (no! refl) (λ n. r (no! refl, n)))
 
   -- two answers that the rows allow are equal, if the result is
   pub table-determined : (rows : List (ℕ × Type 0)) (a b : Answer A) → (NoneHolds rows → (x y : A) → result x → result y → x ≡ y)
@@ -47,19 +48,25 @@ module _ {A : Type 0} (result : A → Type 0) where
   table-full ((number, holds) ∷ rows) x (inl (h, e)) = absurd (let z : _≡_ {A = ℕ} 0 1 = cc in omega arith)
   table-full ((number, holds) ∷ rows) x (inr (n, p)) = table-full rows x p
 
+  -- where the first rows do not hold, the others decide
+  pub table-skip : (rows more : List (ℕ × Type 0)) (a : Answer A) → NoneHolds rows → ByTable (rows ++ more) result a → ByTable more result a
+  table-skip [] more a n p = p
+  table-skip ((number, holds) ∷ rows) more a (n, m) (inl (h, e)) = absurd (n h)
+  table-skip ((number, holds) ∷ rows) more a (n, m) (inr (k, p)) = table-skip rows more a m p
+
   -- where no row holds, no refusal is allowed
   pub table-not-refused : (rows : List (ℕ × Type 0)) (number : ℕ) → NoneHolds rows → ByTable rows result (refused number) → ⊥
   table-not-refused [] number n (y, e, r) = let z : _≡_ {A = ℕ} 0 1 = cc in omega arith
   table-not-refused ((other, holds) ∷ rows) number (n, m) (inl (h, e)) = n h
   table-not-refused ((other, holds) ∷ rows) number (n, m) (inr (k, p)) = table-not-refused rows number m p
 
-pub decided-append : (rows more : List (ℕ × Type 0)) (tests others : List (ℕ × Bool)) → Decided rows tests → Decided more others
+pub decided-append : (rows more : List (ℕ × Type 0)) (tests others : List (ℕ × Bool)) → Decided rows tests → (NoneHolds rows → Decided more others)
     → Decided (rows ++ more) (tests ++ others)
-decided-append [] more [] others d e = e
+decided-append [] more [] others d e = e tt
 decided-append [] more (t ∷ tests) others d e = absurd d
 decided-append (r ∷ rows) more [] others d e = absurd d
 decided-append ((number, holds) ∷ rows) more ((number′, test) ∷ tests) others (same, decides, rest) e =
-    (same, decides, decided-append rows more tests others rest e)
+    (same, decides, λ n. decided-append rows more tests others (rest n) (λ m. e (n, m)))
 
 -- where the tests let a call through, no row holds
 pub let-through : {A : Type 0} (rows : List (ℕ × Type 0)) (tests : List (ℕ × Bool)) (x y : A) → Decided rows tests → by-tests tests x ≡ full y → NoneHolds rows
@@ -67,12 +74,12 @@ unfolding by-tests
 let-through [] [] x y d e = tt
 let-through [] (t ∷ tests) x y d e = absurd d
 let-through (r ∷ rows) [] x y d e = absurd d
-let-through ((number, holds) ∷ rows) ((number′, test) ∷ tests) x y (same, decides, rest) e = go test (decides .1) e (let-through rows tests x y rest)
+let-through ((number, holds) ∷ rows) ((number′, test) ∷ tests) x y (same, decides, rest) e = go test (decides .1) e (λ n. let-through rows tests x y (rest n))
   where
-    go : (t : Bool) → (t ≡ false → ¬ holds) → cond t (refused number′) (by-tests tests x) ≡ full y → (by-tests tests x ≡ full y → NoneHolds rows)
+    go : (t : Bool) → (t ≡ false → ¬ holds) → cond t (refused number′) (by-tests tests x) ≡ full y → (¬ holds → by-tests tests x ≡ full y → NoneHolds rows)
         → (¬ holds) × NoneHolds rows
     go true no! q later = absurd (let z : _≡_ {A = ℕ} 0 1 = cc in omega arith)
-    go false no! q later = (no! refl, later q)
+    go false no! q later = (no! refl, later (no! refl) q)
 
 -- first tests that several calls share, then a call's own
 module _ {A B : Type 0} (x : A) (y : B) where
@@ -115,3 +122,12 @@ module _ {A : Type 0} where
       → (full count ≡ count-of a) × (list ≡ lent-after a lent)
   unfolding count-of
   owed-full a count xs lent list e n l = (rw e (ap full n), rw e l)
+
+  -- two calls that fill a list by one table did the same, if the table allows one answer only
+  pub fills-determined : (rows : List (ℕ × Type 0)) (result : List A → Type 0) (lent : List A) (p q : Filled A)
+      → ((a b : Answer (List A)) → ByTable rows result a → ByTable rows result b → a ≡ b)
+      → FillsByTable rows result lent p → FillsByTable rows result lent q → p ≡ q
+  fills-determined rows result lent p q one f g =
+      let same : f .answer ≡ g .answer = one (f .answer) (g .answer) (f .allowed) (g .allowed) in
+      ap₂ (λ (r : Answer ℕ) (l : List A). record { returned = r; list = l })
+      (f .returned ∙ ap count-of same ∙ sym (g .returned)) (f .list ∙ ap (λ (x : Answer (List A)). lent-after x lent) same ∙ sym (g .list))

@@ -1,14 +1,14 @@
 -- Laws of a word's bits. What stands above goes by `has` and these laws, and not by `/` and `%`.
 use mathlib.Core.Path.{_≡_, refl, sym, ap, _∙_}
-use mathlib.Core.Bool.{Bool, true, false, not, _&&_, true≢false, false≢true}
+use mathlib.Core.Bool.{Bool, true, false, not, _&&_, _||_, true≢false, false≢true}
 use mathlib.Core.Logic.{_≢_}
-use Prim.Native.Nat.{ℕ, zero, suc, _+_, _-_, _*_, _/_, _%_, _^_, _<_, min}
+use Prim.Native.Nat.{ℕ, zero, suc, _+_, _-_, _*_, _/_, _%_, _^_, _<_, min, max}
 use native.Mathlib.Nat.{mod-lt, zero-div, zero-lt-suc, div-one, le-of-suc-le-suc, not-suc-le-zero}
 use native.Mathlib.Numerals.{one-add}
 use native.Mathlib.Omega.{arith}
 use lib.Dec.{eqb, eqb·zero-suc, eqb·suc-zero, eqb·suc-suc}
 use lib.Arith.{digits-mod, lt-one}
-use lib.Bits.{bitAnd, and-step, and-shr}
+use lib.Bits.{bitAnd, bitOr, and-step, or-step, and-shr, or-shr}
 use lib.Pow.{pow-pos, pow-lt, shr-shr}
 use borrow.Author.Tests.{eq-eqb, eqb-true}
 use Rattle.words.specs.Bits.{bit, has, digit}
@@ -106,9 +106,6 @@ has-own i = has-power i i ∙ eq-eqb i i refl
 pub has-only : (i j : ℕ) → has (2 ^ i) j ≡ true → i ≡ j
 has-only i j e = eqb-true i j (sym (has-power i j) ∙ e)
 
-pub power-not-zero : (i : ℕ) → 2 ^ i ≢ 0
-power-not-zero i e = let h = pow-pos i in omega arith
-
 -- a word that has a bit is not 0, and one that is not 0 has a bit
 pub has-not-zero : (a j : ℕ) → has a j ≡ true → a ≢ 0
 has-not-zero a j p e = true≢false (sym p ∙ ap (λ (x : ℕ). has x j) e ∙ has-zero j)
@@ -188,3 +185,27 @@ unfolding has
 has-and a b i =
     ap (λ (x : ℕ). eqb (x % 2) 1) (and-shr a b i) ∙ ap (λ (x : ℕ). eqb x 1) (and-low (a / 2 ^ i) (b / 2 ^ i))
     ∙ min-and (bit a i) (bit b i) (bit-below-two a i) (bit-below-two b i)
+
+-- ---- `|`
+
+max-below : (a b : ℕ) → a < 2 → b < 2 → max a b < 2
+max-below a b h k = omega arith
+
+or-low : (a b : ℕ) → bitOr a b % 2 ≡ max (a % 2) (b % 2)
+or-low a b =
+    ap (λ (x : ℕ). x % 2) (or-step a b) ∙ digits-mod (bitOr (a / 2) (b / 2)) (max-below _ _ (mod-lt a two-positive) (mod-lt b two-positive))
+
+max-or : (x y : ℕ) → x < 2 → y < 2 → eqb (max x y) 1 ≡ eqb x 1 || eqb y 1
+max-or zero zero h k = refl
+max-or zero (suc zero) h k = refl
+max-or zero (suc (suc y)) h k = absurd (not-suc-le-zero {n = 0} (omega arith))
+max-or (suc zero) zero h k = refl
+max-or (suc zero) (suc zero) h k = refl
+max-or (suc zero) (suc (suc y)) h k = absurd (not-suc-le-zero {n = 0} (omega arith))
+max-or (suc (suc x)) y h k = absurd (not-suc-le-zero {n = 0} (omega arith))
+
+pub has-or : (a b i : ℕ) → has (bitOr a b) i ≡ has a i || has b i
+unfolding has
+has-or a b i =
+    ap (λ (x : ℕ). eqb (x % 2) 1) (or-shr a b i) ∙ ap (λ (x : ℕ). eqb x 1) (or-low (a / 2 ^ i) (b / 2 ^ i))
+    ∙ max-or (bit a i) (bit b i) (bit-below-two a i) (bit-below-two b i)

@@ -33,12 +33,12 @@ by-tests ((number, test) ∷ tests) x = let rest = by-tests tests x in cond test
 abbrev pub Decides : Bool → Type 0 → Type 0
 Decides test holds = (test ≡ true → holds) × (test ≡ false → ¬ holds)
 
--- row by row the same numbers, and tests that decide what holds
+-- row by row the same numbers, and tests that decide what holds; a test is asked only where no earlier row holds
 abbrev pub Decided : List (ℕ × Type 0) → List (ℕ × Bool) → Type 0
 Decided [] [] = Unit {0}
 Decided [] (t ∷ tests) = ⊥
 Decided (r ∷ rows) [] = ⊥
-Decided ((number, holds) ∷ rows) ((number′, test) ∷ tests) = (number ≡ number′) × Decides test holds × Decided rows tests
+Decided ((number, holds) ∷ rows) ((number′, test) ∷ tests) = (number ≡ number′) × Decides test holds × (¬ holds → Decided rows tests)
 
 -- ---- lent lists
 

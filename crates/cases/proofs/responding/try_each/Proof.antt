@@ -1,0 +1,34 @@
+use borrow.Author.Needs.{needs}
+use Prim.Native.Nat.{_-_}
+use lib.ListN.{length}
+use Rattle.cases.proofs.responding.try_each.Statement.{statement}
+use Rattle.cases.proofs.responding.try_each.Tie as tie
+
+abbrev Inv-loop : tie.InvT-loop
+Inv-loop back text at₀ at = Unit
+
+abbrev μ-loop : tie.MeasureT-loop
+μ-loop back text at₀ at = length text - at
+
+loop-holds : tie.Need-loop-holds Inv-loop μ-loop
+loop-holds c = search needs
+
+try-line-requires : tie.Need-try-line-requires Inv-loop μ-loop
+try-line-requires c κs = search needs
+
+returns : tie.Need-returns Inv-loop μ-loop
+returns c = search needs
+
+loop-less : tie.Need-loop-less Inv-loop μ-loop
+loop-less c = search needs
+
+loop-again : tie.Need-loop-again Inv-loop μ-loop
+loop-again c = search needs
+
+returns-2 : tie.Need-returns-2 Inv-loop μ-loop
+returns-2 c = search needs
+
+pub try-each-spec : {M : Type 1} → statement M
+try-each-spec =
+    tie.close
+    (tie.spec Inv-loop μ-loop loop-holds try-line-requires returns loop-less loop-again returns-2)

@@ -1,0 +1,115 @@
+-- Our answer to *diagnosis* keeps demand 2, and no other program does.
+use mathlib.Core.Path.{_≡_, refl, sym, ap, _∙_, subst}
+use mathlib.Core.Logic.{_⊎_, inl, inr, _↔_}
+use mathlib.Core.List.{List, [], _∷_}
+use Prim.Native.Nat.{ℕ}
+use native.Mathlib.Omega.{arith}
+use lib.ListN.{length, take}
+use Rattle.words.specs.Answers.{Answer, refused, full, ByTable, NoneHolds, lent-after, count-of}
+use Rattle.words.proofs.Answers.{table-full, table-skip, front-written, fills-determined}
+use Rattle.network.specs.declared.Network.{Network}
+use Rattle.network.specs.States.{Fits}
+use Rattle.network.proofs.Rows.{admitted-set}
+use Rattle.network.proofs.States.{test→state}
+use Rattle.checker.proofs.Separation.{apart-one-fits}
+use Rattle.diagnosis.specs.Diagnosis.{Row14, DiagnosisRows, diagnosis-answer}
+use Rattle.diagnosis.specs.Open.{open-diagnosis}
+use Rattle.diagnosis.proofs.Answering.{diagnosis-by-table, diagnosis-determined, passed-apart}
+use Rattle.demands.specs.Demand2.{DiagnosisProgram, EarlierRows, Diagnoses, OpenAndShort, Demand2}
+use Rattle.demands.proofs.Responding.{our-response, responds}
+
+-- what the call's contract says that it returns, and leaves in the list
+abbrev pub our-diagnosis : DiagnosisProgram
+our-diagnosis net k vectors responses lent =
+    let answer = diagnosis-answer net k vectors responses (length lent) in
+    record { returned = count-of answer; list = lent-after answer lent }
+
+module _ (net : Network) (k : ℕ) (vectors responses lent : List ℕ) where
+  -- a state into the list: the list then begins with it
+  begins-with : (state : List ℕ) → Fits net k vectors responses state → take (net .nets) (lent-after (full state) lent) ≡ state
+  begins-with state h = ap (λ (n : ℕ). take n (lent-after (full state) lent)) (sym (h .of-class .size)) ∙ front-written state lent
+
+  right : (a : Answer (List ℕ)) → ByTable (DiagnosisRows net k vectors responses (length lent)) (Fits net k vectors responses) a
+      → (count : ℕ) → count-of a ≡ full count → Fits net k vectors responses (take (net .nets) (lent-after a lent))
+  unfolding count-of
+  right (refused number) t count e = absurd (let z : _≡_ {A = ℕ} 0 1 = cc in omega arith)
+  right (full state) t count e =
+      let fits = table-full (Fits net k vectors responses) (DiagnosisRows net k vectors responses (length lent)) state t in
+      subst (Fits net k vectors responses) (sym (begins-with state fits)) fits
+
+  module _ (none : NoneHolds (EarlierRows net k vectors responses (length lent))) where
+    -- row 14 alone is left
+    last : (Row14 net k vectors responses × (diagnosis-answer net k vectors responses (length lent) ≡ refused 14))
+        ⊎ ((¬ (Row14 net k vectors responses))
+        × ((state : List ℕ) × (diagnosis-answer net k vectors responses (length lent) ≡ full state) × Fits net k vectors responses state))
+    last =
+        table-skip (Fits net k vectors responses) (EarlierRows net k vectors responses (length lent)) ((14, Row14 net k vectors responses) ∷ [])
+        (diagnosis-answer net k vectors responses (length lent)) none (diagnosis-by-table net k vectors responses (length lent))
+
+    only : (s u : List ℕ) → Fits net k vectors responses s → Fits net k vectors responses u → s ≡ u
+    only = go none
+      where
+        go : NoneHolds (EarlierRows net k vectors responses (length lent)) → (s u : List ℕ) → Fits net k vectors responses s → Fits net k vectors responses u → s ≡ u
+        go (a, (b, (c, (d, (nine, (ten, (twelve, (thirteen, _)))))))) s u p q =
+            apart-one-fits net k vectors (passed-apart net k vectors (admitted-set net k vectors (a, (b, (c, (d, tt))))) thirteen) responses s u p q
+
+    found : (state : List ℕ) → Fits net k vectors responses state
+        → (count-of (diagnosis-answer net k vectors responses (length lent)) ≡ full (net .nets))
+        × (take (net .nets) (lent-after (diagnosis-answer net k vectors responses (length lent)) lent) ≡ state)
+    unfolding count-of
+    found state h = go last
+      where
+        go : (Row14 net k vectors responses × (diagnosis-answer net k vectors responses (length lent) ≡ refused 14))
+            ⊎ ((¬ (Row14 net k vectors responses))
+            × ((s : List ℕ) × (diagnosis-answer net k vectors responses (length lent) ≡ full s) × Fits net k vectors responses s))
+            → (count-of (diagnosis-answer net k vectors responses (length lent)) ≡ full (net .nets))
+            × (take (net .nets) (lent-after (diagnosis-answer net k vectors responses (length lent)) lent) ≡ state)
+        go (inl (no!, e)) = absurd (no! (state, h))
+        go (inr (some, (s, e, fits))) = (
+          ap count-of e ∙ ap full (fits .of-class .size),
+          ap (λ (a : Answer (List ℕ)). take (net .nets) (lent-after a lent)) e ∙ begins-with s fits ∙ only s state fits h,
+        )
+
+    exactly : (count-of (diagnosis-answer net k vectors responses (length lent)) ≡ refused 14) ↔ (¬ ((state : List ℕ) × Fits net k vectors responses state))
+    unfolding count-of
+    exactly = go last
+      where
+        go : (Row14 net k vectors responses × (diagnosis-answer net k vectors responses (length lent) ≡ refused 14))
+            ⊎ ((¬ (Row14 net k vectors responses))
+            × ((s : List ℕ) × (diagnosis-answer net k vectors responses (length lent) ≡ full s) × Fits net k vectors responses s))
+            → (count-of (diagnosis-answer net k vectors responses (length lent)) ≡ refused 14) ↔ (¬ ((state : List ℕ) × Fits net k vectors responses state))
+        go (inl (no!, e)) = (λ _. no!, λ _. ap count-of e)
+        go (inr (some, (s, e, fits))) = (λ q. absurd (let f : full (length s) ≡ refused 14 = sym (ap count-of e) ∙ q in let z : _≡_ {A = ℕ} 0 1 = cc in omega arith), λ h. absurd (some h))
+
+pub diagnoses : Diagnoses our-diagnosis
+diagnoses net k vectors responses lent = record {
+  by-table = record {
+    answer = diagnosis-answer net k vectors responses (length lent);
+    allowed = diagnosis-by-table net k vectors responses (length lent);
+    returned = refl;
+    list = refl;
+  };
+  right = right net k vectors responses lent (diagnosis-answer net k vectors responses (length lent)) (diagnosis-by-table net k vectors responses (length lent));
+  found = found net k vectors responses lent;
+  none = exactly net k vectors responses lent;
+}
+
+pub diagnosis-determined-program : (p q : DiagnosisProgram) → Diagnoses p → Diagnoses q → (net : Network) (k : ℕ) (vectors responses lent : List ℕ)
+    → p net k vectors responses lent ≡ q net k vectors responses lent
+diagnosis-determined-program p q f g net k vectors responses lent =
+    fills-determined (DiagnosisRows net k vectors responses (length lent)) (Fits net k vectors responses) lent (p net k vectors responses lent) (q net k vectors responses lent)
+    (diagnosis-determined net k vectors responses (length lent)) (f net k vectors responses lent .by-table) (g net k vectors responses lent .by-table)
+
+open-and-short : OpenAndShort our-response our-diagnosis
+unfolding open-diagnosis
+open-and-short = record {
+  is-state = test→state (record { nets = 2 }) 2 (2 ∷ 2 ∷ []) refl;
+  open-net = refl;
+  shorted = (refl, refl);
+  response = refl;
+  and-back = refl;
+  both-found = refl;
+}
+
+pub demand-2 : Demand2 our-response our-diagnosis
+demand-2 = record { response = responds; reading-back = diagnoses; open-and-short = open-and-short }

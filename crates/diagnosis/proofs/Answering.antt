@@ -1,0 +1,107 @@
+-- The call *diagnosis* answers as its rows and its result say, and nothing is left open.
+use mathlib.Core.Path.{_≡_, refl}
+use mathlib.Core.Bool.{true, false, true≢false, false≢true}
+use mathlib.Core.Logic.{⊎-elim}
+use mathlib.Core.List.{List, _++_}
+use Prim.Native.Nat.{ℕ}
+use native.Mathlib.Omega.{arith}
+use lib.ListN.{length}
+use lib.Dec.{eqb}
+use borrow.Author.Tests.{eqb-true, eqb-false}
+use Rattle.words.specs.Answers.{Answer, ByTable, NoneHolds, Decides, Decided}
+use Rattle.words.proofs.Tests.{cases}
+use Rattle.words.proofs.Answers.{decided-append, tests-by-table, table-determined}
+use Rattle.network.specs.declared.Network.{Network}
+use Rattle.network.specs.States.{Fits}
+use Rattle.network.specs.Rows.{SetRows, Row9, set-tests}
+use Rattle.network.proofs.Rows.{decides-set, decides-row-9, decides-high-bit, decides-row-12, no-high-bit, AdmittedSet, admitted-set}
+use Rattle.checker.specs.declared.Verdict.{Verdict}
+use Rattle.checker.specs.declared.Verdict.the-variants.{Pass, Pair}
+use Rattle.checker.specs.Rule.{Rule, verdict}
+use Rattle.checker.proofs.Verdicts.{verdict-rule, rule-determined}
+use Rattle.checker.proofs.Separation.{SetsApart, rule-shows, apart-one-fits}
+use Rattle.diagnosis.specs.ReadBack.{read-back, no-state-fits}
+use Rattle.diagnosis.specs.Diagnosis.{Row13, OwnRows, DiagnosisRows, not-passed, own-tests, diagnosis-answer}
+use Rattle.diagnosis.proofs.ReadingBack.{read-back-fits, decides-no-state-fits}
+
+-- as many responses as vectors
+pub same-count : (vectors responses : List ℕ) → ¬ (Row9 vectors responses) → length responses ≡ length vectors
+same-count vectors responses h =
+    ⊎-elim (eqb-true (length responses) (length vectors)) (λ e. absurd (h (eqb-false (length responses) (length vectors) e)))
+    (cases (eqb (length responses) (length vectors)))
+
+module _ (net : Network) (k : ℕ) (vectors : List ℕ) where
+  -- the rule passes the set exactly where the computed verdict does
+  pub passes-rule : not-passed (verdict net k vectors) ≡ false → Rule net k vectors Pass
+  passes-rule e = go (verdict net k vectors) (verdict-rule net k vectors) e
+    where
+      go : (v : Verdict) → Rule net k vectors v → not-passed v ≡ false → Rule net k vectors Pass
+      go Pass r q = r
+      go (Pair a b) r q = absurd (true≢false q)
+
+  pub decides-row-13 : Decides (not-passed (verdict net k vectors)) (Row13 net k vectors)
+  decides-row-13 = (λ e r. go (verdict net k vectors) (rule-determined net k vectors (verdict net k vectors) Pass (verdict-rule net k vectors) r) e, λ e n. n (passes-rule e))
+    where
+      go : (v : Verdict) → v ≡ Pass → not-passed v ≡ true → ⊥
+      go Pass q e = false≢true e
+      go (Pair a b) q e = let z : _≡_ {A = ℕ} 0 1 = cc in omega arith
+
+  -- where row 13 does not hold, the sets of the class are told apart
+  pub passed-apart : AdmittedSet net k vectors → ¬ (Row13 net k vectors) → SetsApart net k vectors
+  passed-apart s h =
+      rule-shows net k vectors Pass (s .two) (s .narrow)
+      (⊎-elim (λ e. absurd (h (decides-row-13 .0 e))) passes-rule (cases (not-passed (verdict net k vectors))))
+
+module _ (net : Network) (k : ℕ) (vectors responses : List ℕ) (room : ℕ) where
+  decides-own : NoneHolds (SetRows net k vectors) → Decided (OwnRows net k vectors responses room) (own-tests net k vectors responses room)
+  decides-own none = (
+    refl,
+    decides-row-9 vectors responses,
+    λ nine. (
+      refl,
+      decides-high-bit net responses,
+      λ ten. (
+        refl,
+        decides-row-12 (net .nets) room,
+        λ _. (
+          refl,
+          decides-row-13 net k vectors,
+          λ thirteen. (
+            refl,
+            decides-no-state-fits net k vectors responses (same-count vectors responses nine) (no-high-bit net responses ten)
+                (passed-apart net k vectors (admitted-set net k vectors none) thirteen),
+            λ _. tt,
+          ),
+        ),
+      ),
+    ),
+  )
+
+  decides-rows : Decided (DiagnosisRows net k vectors responses room) (set-tests net k vectors ++ own-tests net k vectors responses room)
+  decides-rows =
+      decided-append (SetRows net k vectors) (OwnRows net k vectors responses room) (set-tests net k vectors) (own-tests net k vectors responses room)
+      (decides-set net k vectors) decides-own
+
+  pub diagnosis-by-table : ByTable (DiagnosisRows net k vectors responses room) (Fits net k vectors responses) (diagnosis-answer net k vectors responses room)
+  unfolding diagnosis-answer
+  diagnosis-by-table =
+      tests-by-table (Fits net k vectors responses) (DiagnosisRows net k vectors responses room) (set-tests net k vectors ++ own-tests net k vectors responses room)
+      (read-back net k vectors responses) decides-rows result
+    where
+      result : NoneHolds (DiagnosisRows net k vectors responses room) → Fits net k vectors responses (read-back net k vectors responses)
+      result (a, (b, (c, (d, (nine, (ten, (twelve, (thirteen, (fourteen, _))))))))) =
+          let size = same-count vectors responses nine in
+          let narrow = no-high-bit net responses ten in
+          let apart = passed-apart net k vectors (admitted-set net k vectors (a, (b, (c, (d, tt))))) thirteen in
+          read-back-fits net k vectors responses size narrow
+          (⊎-elim (λ e. absurd (fourteen (decides-no-state-fits net k vectors responses size narrow apart .0 e))) (λ e. e) (cases (no-state-fits net k vectors responses)))
+
+  pub diagnosis-determined : (a b : Answer (List ℕ)) → ByTable (DiagnosisRows net k vectors responses room) (Fits net k vectors responses) a
+      → ByTable (DiagnosisRows net k vectors responses room) (Fits net k vectors responses) b → a ≡ b
+  diagnosis-determined a b =
+      table-determined (Fits net k vectors responses) (DiagnosisRows net k vectors responses room) a b
+      (λ none s u p q. one none s u p q)
+    where
+      one : NoneHolds (DiagnosisRows net k vectors responses room) → (s u : List ℕ) → Fits net k vectors responses s → Fits net k vectors responses u → s ≡ u
+      one (a, (b, (c, (d, (nine, (ten, (twelve, (thirteen, (fourteen, _))))))))) s u p q =
+          apart-one-fits net k vectors (passed-apart net k vectors (admitted-set net k vectors (a, (b, (c, (d, tt))))) thirteen) responses s u p q

@@ -1,0 +1,5 @@
+pub mod ReadingBack
+pub mod Answering
+pub mod Gathering
+pub mod Noting
+pub mod Partners

@@ -1,0 +1,194 @@
+-- What is read back is the state that fits, and there is none exactly where the test says so.
+use mathlib.Core.Path.{_≡_, sym, ap, _∙_, subst}
+use mathlib.Core.Bool.{Bool, true, false, not, _&&_, false≢true}
+use mathlib.Core.Logic.{⊎-elim}
+use mathlib.Core.List.{List}
+use Prim.Native.Nat.{ℕ, _^_, _<_, zero-le}
+use lib.Dec.{eqb}
+use lib.ListN.{length}
+use lib.Seq.{ext-getD}
+use borrow.Author.Tests.{eq-eqb, eqb-true, not-false}
+use Rattle.words.specs.declared.Search.{Search}
+use Rattle.words.specs.declared.Search.the-variants.{Found, Missing}
+use Rattle.words.specs.Answers.{Decides}
+use Rattle.words.specs.Bits.{has, at}
+use Rattle.words.specs.Searching.{is-found, any}
+use Rattle.words.specs.Turning.{column}
+use Rattle.words.proofs.Tests.{cases, contrary, and-left, and-right, and-both, neither}
+use Rattle.words.proofs.Searching.{Least, first, nowhere, least-below, any-none, any-false}
+use Rattle.words.proofs.Bits.{words-equal}
+use Rattle.words.proofs.Columns.{length-tabulate, tabulate-at, column-below, has-column}
+use Rattle.network.specs.declared.Network.{Network}
+use Rattle.network.specs.Reading.{reads, sequential-response, response}
+use Rattle.network.specs.States.{DriverSet, State, Fits, few-drivers, has-conflict}
+use Rattle.network.proofs.Reading.{decides-reads, has-sequential, sequential-below, sequential-alike, response-is, response-determined}
+use Rattle.network.proofs.States.{few-drivers-at, few-drivers-of, no-conflict, conflict-free}
+use Rattle.checker.proofs.Separation.{SetsApart}
+use Rattle.diagnosis.specs.ReadBack.{reach-read, or-empty, read-back, no-state-fits, OnlyAnswer}
+
+-- ---- answers of single receivers
+
+module _ (net : Network) (vectors responses : List ℕ) (size : length responses ≡ length vectors) where
+  -- a set reads as receiver i answered exactly where it does on each vector
+  pub answers-so : (set i : ℕ) → ((t : ℕ) → t < length vectors → reads net set (at vectors t) ≡ has (at responses t) i)
+      → sequential-response net vectors set ≡ column responses i
+  answers-so set i h =
+      words-equal (length vectors) (sequential-response net vectors set) (column responses i) (sequential-below net vectors set) (rw size at (column-below responses i))
+      (λ t l. has-sequential net vectors set t l ∙ h t l ∙ sym (has-column responses i t (rw size l)))
+
+  pub answered-so : (set i : ℕ) → sequential-response net vectors set ≡ column responses i → (t : ℕ) → t < length vectors
+      → reads net set (at vectors t) ≡ has (at responses t) i
+  answered-so set i e t l = sym (has-sequential net vectors set t l) ∙ ap (λ (w : ℕ). has w t) e ∙ has-column responses i t (rw size l)
+
+  -- the reaches of a state that fits answer so
+  pub fits-answers : (k : ℕ) (state : List ℕ) → Fits net k vectors responses state → (i : ℕ) → i < length state
+      → sequential-response net vectors (at state i) ≡ column responses i
+  fits-answers k state h i m = answers-so (at state i) i (λ t l. bit t l)
+    where
+      bit : (t : ℕ) → t < length vectors → reads net (at state i) (at vectors t) ≡ has (at responses t) i
+      bit t l =
+          let b = response-is net state vectors .bits t i l m in
+          let d = decides-reads net (at state i) (at vectors t) in
+          let same : has (at (response net state vectors) t) i ≡ has (at responses t) i = ap (λ (ws : List ℕ). has (at ws t) i) (h .gives) in
+          ⊎-elim (λ e. e ∙ sym (sym same ∙ b .1 (d .0 e)))
+          (λ e. e ∙ sym (⊎-elim (λ f. absurd (d .1 e (b .0 (same ∙ f)))) (λ f. f) (cases (has (at responses t) i)))) (cases (reads net (at state i) (at vectors t)))
+
+  -- and a state whose reaches answer so gives the response
+  pub answers-fit : (k : ℕ) (state : List ℕ) → State net k state → ((t : ℕ) → t < length responses → at responses t < 2 ^ (net .nets))
+      → ((i : ℕ) → i < length state → sequential-response net vectors (at state i) ≡ column responses i) → Fits net k vectors responses state
+  answers-fit k state s narrow h = record {
+    of-class = s;
+    gives = response-determined net state vectors (response net state vectors) responses (response-is net state vectors)
+        (record {
+          one-a-vector = size;
+          no-high-bit = λ t l. rw (s .size) (narrow t l);
+          bits = λ t i l m.
+              let d = decides-reads net (at state i) (at vectors t) in
+              let same : reads net (at state i) (at vectors t) ≡ has (at responses t) i = answered-so (at state i) i (h i m) t l in (
+                λ e. d .0 (same ∙ e),
+                λ r. sym same ∙ ⊎-elim (λ e. e) (λ e. absurd (d .1 e r)) (cases (reads net (at state i) (at vectors t))),
+              );
+        });
+  }
+
+-- ---- reading back
+
+module _ (net : Network) (k : ℕ) (vectors responses : List ℕ) where
+  reach-test : ℕ → ℕ → Bool
+  reach-test i set = few-drivers net k set && eqb (sequential-response net vectors set) (column responses i)
+
+  reach-is : (i : ℕ) → Least (reach-test i) 0 (2 ^ (net .nets)) (reach-read net k vectors (column responses i))
+  unfolding reach-read reach-test
+  reach-is i = least-below (reach-test i) (2 ^ (net .nets))
+
+  pub read-size : length (read-back net k vectors responses) ≡ net .nets
+  unfolding read-back
+  read-size = length-tabulate (net .nets) _
+
+  read-at : (i : ℕ) → i < net .nets → at (read-back net k vectors responses) i ≡ or-empty (reach-read net k vectors (column responses i))
+  unfolding read-back
+  read-at i l = tabulate-at (net .nets) (λ j. or-empty (reach-read net k vectors (column responses j))) i l
+
+  -- what is read for a receiver that some set explains
+  explained : (i : ℕ) → is-found (reach-read net k vectors (column responses i)) ≡ true
+      → DriverSet net k (or-empty (reach-read net k vectors (column responses i)))
+      × (sequential-response net vectors (or-empty (reach-read net k vectors (column responses i))) ≡ column responses i)
+  unfolding is-found reach-test
+  explained i e = go (reach-read net k vectors (column responses i)) (reach-is i) e
+    where
+      go : (s : Search) → Least (reach-test i) 0 (2 ^ (net .nets)) s → is-found s ≡ true
+          → DriverSet net k (or-empty s) × (sequential-response net vectors (or-empty s) ≡ column responses i)
+      go (Found set) (first x y z w) f = (
+        record { inside = y; few = few-drivers-at net k set (and-left (few-drivers net k set) _ z) },
+        eqb-true _ _ (and-right (few-drivers net k set) _ z),
+      )
+      go Missing r f = absurd (false≢true f)
+
+  pub read-back-fits : length responses ≡ length vectors → ((t : ℕ) → t < length responses → at responses t < 2 ^ (net .nets))
+      → no-state-fits net k vectors responses ≡ false → Fits net k vectors responses (read-back net k vectors responses)
+  unfolding no-state-fits
+  read-back-fits size narrow e =
+      answers-fit net vectors responses size k (read-back net k vectors responses)
+      (record {
+        size = read-size;
+        reach = λ i l. rw (read-at i (below i l)) (each i (below i l) .0);
+        meet-only-if-equal = no-conflict net (read-back net k vectors responses) (parts .1);
+      })
+      narrow (λ i l. ap (sequential-response net vectors) (read-at i (below i l)) ∙ each i (below i l) .1)
+    where
+      parts : (any (net .nets) (λ i. not (is-found (reach-read net k vectors (column responses i)))) ≡ false) × (has-conflict net (read-back net k vectors responses) ≡ false)
+      parts = neither (any (net .nets) (λ i. not (is-found (reach-read net k vectors (column responses i))))) (has-conflict net (read-back net k vectors responses)) e
+
+      below : (i : ℕ) → i < length (read-back net k vectors responses) → i < net .nets
+      below i l = rw read-size at l
+
+      each : (i : ℕ) → i < net .nets
+          → DriverSet net k (or-empty (reach-read net k vectors (column responses i)))
+          × (sequential-response net vectors (or-empty (reach-read net k vectors (column responses i))) ≡ column responses i)
+      each i l = explained i (not-false _ (any-false (λ j. not (is-found (reach-read net k vectors (column responses j)))) (net .nets) i l (parts .0)))
+
+  -- sets apart: a state that fits is what is read back
+  pub fits-read-back : length responses ≡ length vectors → SetsApart net k vectors → (state : List ℕ) → Fits net k vectors responses state
+      → (no-state-fits net k vectors responses ≡ false) × (read-back net k vectors responses ≡ state)
+  unfolding no-state-fits is-found reach-test
+  fits-read-back size apart state h = (rw (none, free), same)
+    where
+      inside : (i : ℕ) → i < net .nets → i < length state
+      inside i l = rw (h .of-class .size) l
+
+      reached : (i : ℕ) → i < net .nets → reach-read net k vectors (column responses i) ≡ Found (at state i)
+      reached i l = go (reach-read net k vectors (column responses i)) (reach-is i)
+        where
+          passes : reach-test i (at state i) ≡ true
+          passes =
+              and-both (few-drivers-of net k (at state i) (h .of-class .reach i (inside i l)))
+              (eq-eqb _ _ (fits-answers net vectors responses size k state h i (inside i l)))
+
+          go : (s : Search) → Least (reach-test i) 0 (2 ^ (net .nets)) s → s ≡ Found (at state i)
+          go (Found set) (first x y z w) =
+              let d : DriverSet net k set = record { inside = y; few = few-drivers-at net k set (and-left (few-drivers net k set) _ z) } in
+              ap Found
+              (apart set (at state i) d (h .of-class .reach i (inside i l))
+              (sequential-alike net vectors set (at state i)
+              (eqb-true _ _ (and-right (few-drivers net k set) _ z) ∙ sym (fits-answers net vectors responses size k state h i (inside i l)))))
+          go Missing (nowhere w) = contrary passes (w (at state i) zero-le (h .of-class .reach i (inside i l) .inside))
+
+      same : read-back net k vectors responses ≡ state
+      same =
+          ext-getD 0 (read-back net k vectors responses) state (read-size ∙ sym (h .of-class .size))
+          (λ i l. read-at i (rw read-size at l) ∙ ap or-empty (reached i (rw read-size at l)))
+
+      none : any (net .nets) (λ i. not (is-found (reach-read net k vectors (column responses i)))) ≡ false
+      none = any-none (λ i. not (is-found (reach-read net k vectors (column responses i)))) (net .nets) (λ i l. ap (λ s. not (is-found s)) (reached i l))
+
+      free : has-conflict net (read-back net k vectors responses) ≡ false
+      free = ap (has-conflict net) same ∙ conflict-free net state (h .of-class .meet-only-if-equal)
+
+  -- the test decides whether some state fits
+  pub decides-no-state-fits : length responses ≡ length vectors → ((t : ℕ) → t < length responses → at responses t < 2 ^ (net .nets)) → SetsApart net k vectors
+      → Decides (no-state-fits net k vectors responses) (¬ ((state : List ℕ) × Fits net k vectors responses state))
+  decides-no-state-fits size narrow apart = (
+    λ e w. contrary e (fits-read-back size apart (w .0) (w .1) .0),
+    λ e n. n (read-back net k vectors responses, read-back-fits size narrow e),
+  )
+
+  -- reaches that alone can have answered so are those of a state that fits
+  pub only-answers-fit : length responses ≡ length vectors → (candidate : List ℕ) → length candidate ≡ net .nets
+      → ((i : ℕ) → i < net .nets → OnlyAnswer net k vectors (column responses i) (at candidate i))
+      → (state : List ℕ) → Fits net k vectors responses state → candidate ≡ state
+  only-answers-fit size candidate full only state h =
+      ext-getD 0 candidate state (full ∙ sym (h .of-class .size))
+      (λ i l. let n : i < net .nets = rw full at l in
+      let m : i < length state = rw (h .of-class .size) n in
+      sym (only i n (at state i) (h .of-class .reach i m) (fits-answers net vectors responses size k state h i m)))
+
+  -- where the only candidate does not fit, no state does
+  pub candidate-fails : length responses ≡ length vectors → ((t : ℕ) → t < length responses → at responses t < 2 ^ (net .nets)) → (candidate : List ℕ)
+      → ((state : List ℕ) → Fits net k vectors responses state → candidate ≡ state) → ¬ (Fits net k vectors responses candidate)
+      → no-state-fits net k vectors responses ≡ true
+  candidate-fails size narrow candidate only no! = ⊎-elim (λ e. e) none (cases (no-state-fits net k vectors responses))
+    where
+      none : no-state-fits net k vectors responses ≡ false → no-state-fits net k vectors responses ≡ true
+      none e =
+          let fits = read-back-fits size narrow e in
+          absurd (no! (subst (Fits net k vectors responses) (sym (only (read-back net k vectors responses) fits)) fits))

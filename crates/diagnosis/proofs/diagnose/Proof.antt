@@ -1,0 +1,210 @@
+use borrow.Author.Needs.{needs}
+use borrow.Author.Tests.{ltb-false, not-false, eqb-true}
+use Prim.Native.Nat.{ℕ}
+use mathlib.Core.Path.{_≡_, sym, ap, _∙_}
+use mathlib.Core.Bool.{true, false}
+use mathlib.Core.List.{List}
+use lib.ListN.{length}
+use Rattle.words.specs.Answers.{refused, full, by-tests}
+use Rattle.words.proofs.Answers.{owed-refused}
+use Rattle.network.specs.declared.Network.{Network}
+use Rattle.network.specs.Rows.{set-admission, admission, bad-response-count, has-high-bit, no-room}
+use Rattle.network.proofs.Rows.{set-refuses, set-admits, set-admitted, set-none-holds, decides-high-bit}
+use Rattle.checker.specs.Rule.{verdict}
+use Rattle.diagnosis.specs.ReadBack.{read-back}
+use Rattle.diagnosis.specs.Diagnosis.{not-passed, own-tests, fit-answer, diagnosis-answer}
+use Rattle.diagnosis.proofs.Answering.{passes-rule}
+use Rattle.diagnosis.proofs.diagnose.Statement.{statement}
+use Rattle.diagnosis.proofs.diagnose.Tie as tie
+
+-- the answer where rows 5 to 8 refuse, and by the call's own rows where they do not
+module _ (net : Network) (k : ℕ) (vectors responses lent : List ℕ) where
+  by-set : (number : ℕ) → set-admission net k vectors ≡ refused number → diagnosis-answer net k vectors responses (length lent) ≡ refused number
+  unfolding diagnosis-answer
+  by-set number e = set-refuses net k vectors (own-tests net k vectors responses (length lent)) (read-back net k vectors responses) number e
+
+  module _ (admitted : set-admission net k vectors ≡ full tt) where
+    by-own : diagnosis-answer net k vectors responses (length lent) ≡ by-tests (own-tests net k vectors responses (length lent)) (read-back net k vectors responses)
+    unfolding diagnosis-answer
+    by-own = set-admits net k vectors (own-tests net k vectors responses (length lent)) (read-back net k vectors responses) admitted
+
+    by-row-9 : bad-response-count vectors responses ≡ true → diagnosis-answer net k vectors responses (length lent) ≡ refused 9
+    unfolding by-tests
+    by-row-9 e = by-own ∙ rw e
+
+    module _ (nine : bad-response-count vectors responses ≡ false) where
+      by-row-10 : has-high-bit net responses ≡ true → diagnosis-answer net k vectors responses (length lent) ≡ refused 10
+      unfolding by-tests
+      by-row-10 e = by-own ∙ rw (nine, e)
+
+      module _ (ten : has-high-bit net responses ≡ false) where
+        by-row-12 : no-room (net .nets) (length lent) ≡ true → diagnosis-answer net k vectors responses (length lent) ≡ refused 12
+        unfolding by-tests
+        by-row-12 e = by-own ∙ rw (nine, ten, e)
+
+        module _ (twelve : no-room (net .nets) (length lent) ≡ false) where
+          by-row-13 : not-passed (verdict net k vectors) ≡ true → diagnosis-answer net k vectors responses (length lent) ≡ refused 13
+          unfolding by-tests
+          by-row-13 e = by-own ∙ rw (nine, ten, twelve, e)
+
+          by-fit : not-passed (verdict net k vectors) ≡ false → diagnosis-answer net k vectors responses (length lent) ≡ fit-answer net k vectors responses
+          unfolding by-tests fit-answer
+          by-fit e = by-own ∙ rw (nine, ten, twelve, e)
+
+admit-set-requires : tie.Need-admit-set-requires
+admit-set-requires c κs = search needs
+
+enum-known-admission : tie.Need-enum-known-admission
+enum-known-admission c = search needs
+
+returns : tie.Need-returns
+returns c =
+    let a = c .before .before .before .before .before .before .before .args in
+    let number = c .before .admission .given .0 .0 in
+    owed-refused _ number (a .out .now)
+    (by-set (a .net) (a .class) (a .vectors .now) (a .responses .now) (a .out .now) number
+    (sym (c .before .before .before .admit-set .ensures) ∙ ap admission (c .before .admission .given .1)))
+
+enum-told : tie.Need-enum-told
+enum-told c = search needs
+
+-- rows 5 to 8 have admitted the test set
+admitted : (c : tie.After-enum-told) → let a = c .before .before .before .before .before .before .args in set-admission (a .net) (a .class) (a .vectors .now) ≡ full tt
+admitted c = sym (c .before .before .admit-set .ensures) ∙ ap admission (c .enum-told .given .1)
+
+bad-response-count-requires : tie.Need-bad-response-count-requires
+bad-response-count-requires c κs = search needs
+
+returns-2 : tie.Need-returns-2
+returns-2 c =
+    let d = c .before .before in
+    let a = d .before .before .before .before .before .before .args in
+    owed-refused _ 9 (a .out .now)
+    (by-row-9 (a .net) (a .class) (a .vectors .now) (a .responses .now) (a .out .now) (admitted d) (sym (c .before .bad-response-count .ensures) ∙ c .if1 .taken))
+
+nine : (c : tie.Else1) → let a = c .before .before .before .before .before .before .before .before .args in bad-response-count (a .vectors .now) (a .responses .now) ≡ false
+nine c = sym (c .before .bad-response-count .ensures) ∙ c .if1 .left
+
+has-high-bit-requires : tie.Need-has-high-bit-requires
+has-high-bit-requires c κs =
+    let d = c .before .before in
+    let a = d .before .before .before .before .before .before .args in
+    let s = set-admitted (a .net) (a .class) (a .vectors .now) (admitted d) in
+    s .most
+
+returns-3 : tie.Need-returns-3
+returns-3 c =
+    let e = c .before .before in
+    let d = e .before .before in
+    let a = d .before .before .before .before .before .before .args in
+    owed-refused _ 10 (a .out .now)
+    (by-row-10 (a .net) (a .class) (a .vectors .now) (a .responses .now) (a .out .now) (admitted d) (nine e) (sym (c .before .has-high-bit .ensures) ∙ c .if2 .taken))
+
+no-room-requires : tie.Need-no-room-requires
+no-room-requires c κs = search needs
+
+ten : (c : tie.Else2) → let a = c .before .before .before .before .before .before .before .before .before .before .args in has-high-bit (a .net) (a .responses .now) ≡ false
+ten c = sym (c .before .has-high-bit .ensures) ∙ c .if2 .left
+
+returns-4 : tie.Need-returns-4
+returns-4 c =
+    let f = c .before .before in
+    let e = f .before .before in
+    let d = e .before .before in
+    let a = d .before .before .before .before .before .before .args in
+    owed-refused _ 12 (a .out .now)
+    (by-row-12 (a .net) (a .class) (a .vectors .now) (a .responses .now) (a .out .now) (admitted d) (nine e) (ten f) (sym (c .before .no-room .ensures) ∙ c .if3 .taken))
+
+-- rows 5 to 12 do not hold
+module _ (c : tie.Else3) where
+  abbrev response-passed : tie.Else2
+  response-passed = c .before .before
+
+  abbrev count-passed : tie.Else1
+  count-passed = response-passed .before .before
+
+  abbrev set-passed : tie.After-enum-told
+  set-passed = count-passed .before .before
+
+  abbrev start : tie.Start
+  start = set-passed .before .before .before .before .before .before
+
+  twelve : no-room (start .args .net .nets) (length (start .args .out .now)) ≡ false
+  twelve = sym (c .before .no-room .ensures) ∙ c .if3 .left
+
+  refuses-13 : not-passed (verdict (start .args .net) (start .args .class) (start .args .vectors .now)) ≡ true
+      → diagnosis-answer (start .args .net) (start .args .class) (start .args .vectors .now) (start .args .responses .now) (length (start .args .out .now)) ≡ refused 13
+  refuses-13 e =
+      let a = start .args in
+      by-row-13 (a .net) (a .class) (a .vectors .now) (a .responses .now) (a .out .now) (admitted set-passed) (nine count-passed) (ten response-passed) twelve e
+
+  reads-back : not-passed (verdict (start .args .net) (start .args .class) (start .args .vectors .now)) ≡ false
+      → diagnosis-answer (start .args .net) (start .args .class) (start .args .vectors .now) (start .args .responses .now) (length (start .args .out .now))
+      ≡ fit-answer (start .args .net) (start .args .class) (start .args .vectors .now) (start .args .responses .now)
+  reads-back e =
+      let a = start .args in
+      by-fit (a .net) (a .class) (a .vectors .now) (a .responses .now) (a .out .now) (admitted set-passed) (nine count-passed) (ten response-passed) twelve e
+
+verdict-of-requires : tie.Need-verdict-of-requires
+verdict-of-requires c κs =
+    let a = start c .args in
+    let s = set-admitted (a .net) (a .class) (a .vectors .now) (admitted (set-passed c)) in
+    (s .vectors-most, s .most, s .class-positive, s .class)
+
+enum-told-2 : tie.Need-enum-told-2
+enum-told-2 c = search needs
+
+enum-told-3 : tie.Need-enum-told-3
+enum-told-3 c = search needs
+
+returns-5 : tie.Need-returns-5
+returns-5 c =
+    let v = c .before .before in
+    let e = v .before in
+    owed-refused _ 13 (start e .args .out .now) (refuses-13 e (ap not-passed (sym (v .verdict-of .ensures) ∙ c .enum-told3 .given .1)))
+
+passed : (c : tie.After-enum-told2) → let e = c .before .before .before in
+    not-passed (verdict (start e .args .net) (start e .args .class) (start e .args .vectors .now)) ≡ false
+passed c = ap not-passed (sym (c .before .before .verdict-of .ensures) ∙ c .enum-told2 .given .1)
+
+read-back-requires : tie.Need-read-back-requires
+read-back-requires c κs =
+    let p = c .before in
+    let e = p .before .before .before in
+    let a = start e .args in (
+      (set-none-holds (a .net) (a .class) (a .vectors .now) (admitted (set-passed e)), passes-rule (a .net) (a .class) (a .vectors .now) (passed p)),
+      eqb-true _ _ (not-false _ (nine (count-passed e))),
+      decides-high-bit (a .net) (a .responses .now) .1 (ten (response-passed e)),
+      ltb-false _ _ (twelve e),
+    )
+
+same-length : tie.Need-same-length
+same-length c = search needs
+
+returns-6 : tie.Need-returns-6
+returns-6 c =
+    let p = c .before .before .before .before in
+    let e = p .before .before .before in
+    rw (reads-back e (passed p)) (c .before .before .read-back .ensures)
+
+pub diagnose-spec : {M : Type 1} → statement M
+diagnose-spec =
+    tie.close
+    (tie.spec
+    admit-set-requires
+    enum-known-admission
+    returns
+    enum-told
+    bad-response-count-requires
+    returns-2
+    has-high-bit-requires
+    returns-3
+    no-room-requires
+    returns-4
+    verdict-of-requires
+    enum-told-2
+    enum-told-3
+    returns-5
+    read-back-requires
+    same-length
+    returns-6)

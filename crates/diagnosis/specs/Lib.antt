@@ -1,0 +1,4 @@
+pub mod ReadBack
+pub mod Diagnosis
+pub mod Findings
+pub mod Open

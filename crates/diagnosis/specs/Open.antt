@@ -1,0 +1,10 @@
+-- Names every definition here and below that computes.
+use Prim.Native.Nat.{ℕ}
+use Rattle.checker.specs.Open.{open-checker}
+use Rattle.diagnosis.specs.ReadBack.{reach-read, read-back, no-state-fits}
+use Rattle.diagnosis.specs.Diagnosis.{fit-answer, diagnosis-answer}
+use Rattle.diagnosis.specs.Findings.{is-open, is-partner, partners, kind, finding}
+
+unfoldable pub open-diagnosis : ℕ
+unfolding open-checker reach-read read-back no-state-fits fit-answer diagnosis-answer is-open is-partner partners kind finding
+open-diagnosis = 0

@@ -1,0 +1,43 @@
+-- The state of the class that gives a response, if there is one.
+use Prim.Native.Nat.{ℕ, _^_}
+use mathlib.Core.Path.{_≡_}
+use mathlib.Core.Bool.{Bool, not, _&&_, _||_}
+use mathlib.Core.List.{List}
+use lib.Dec.{eqb}
+use Rattle.words.specs.Answers.{NoneHolds}
+use Rattle.words.specs.Searching.{least, is-found, any}
+use Rattle.words.specs.Turning.{tabulate, column}
+use Rattle.words.specs.declared.Search.{Search}
+use Rattle.words.specs.declared.Search.the-variants.{Found, Missing}
+use Rattle.network.specs.declared.Network.{Network}
+use Rattle.network.specs.Reading.{sequential-response}
+use Rattle.network.specs.States.{DriverSet, few-drivers, has-conflict}
+use Rattle.network.specs.Rows.{SetRows}
+use Rattle.checker.specs.declared.Verdict.the-variants.{Pass}
+use Rattle.checker.specs.Rule.{Rule}
+
+-- the smallest set of the class that reads as a receiver answered, its sequential word (SRV) given
+unfoldable pub reach-read : Network → ℕ → List ℕ → ℕ → Search
+reach-read net k vectors answered = least (2 ^ (net .nets)) 0 (λ set. few-drivers net k set && eqb (sequential-response net vectors set) answered)
+
+abbrev pub or-empty : Search → ℕ
+or-empty (Found set) = set
+or-empty Missing = 0
+
+-- of each receiver the set that reads as it answered; bit t of its answer is its bit in response t
+unfoldable pub read-back : Network → ℕ → (vectors responses : List ℕ) → List ℕ
+read-back net k vectors responses = tabulate (net .nets) (λ i. or-empty (reach-read net k vectors (column responses i)))
+
+-- a receiver that answered as no set of the class does, or reaches that meet and differ
+unfoldable pub no-state-fits : Network → ℕ → (vectors responses : List ℕ) → Bool
+no-state-fits net k vectors responses =
+    let conflict = has-conflict net (read-back net k vectors responses) in
+    any (net .nets) (λ i. not (is-found (reach-read net k vectors (column responses i)))) || conflict
+
+-- no other set of the class can have answered so
+abbrev pub OnlyAnswer : Network → ℕ → List ℕ → ℕ → ℕ → Type 0
+OnlyAnswer net k vectors answered reach = (set : ℕ) → DriverSet net k set → sequential-response net vectors set ≡ answered → set ≡ reach
+
+-- a test set that rows 5 to 8 admit and the checker's rule passes
+abbrev pub Passed : Network → ℕ → List ℕ → Type 0
+Passed net k vectors = NoneHolds (SetRows net k vectors) × Rule net k vectors Pass

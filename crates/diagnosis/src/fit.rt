@@ -1,0 +1,41 @@
+// Whether a state gives a response. Helpers: the state is one of the network's, and rows 5 to 10 do not hold.
+ghost use mathlib.Core.Path.{_≡_};
+ghost use Prim.Native.Nat.{ℕ, _<_, _≤_, _^_};
+ghost use lib.ListN.{length};
+ghost use Rattle.words.specs.Bits.{at};
+ghost use Rattle.words.specs.Answers.{Decides};
+ghost use Rattle.words.specs.Turning.{column};
+ghost use Rattle.network.specs.Reading.{response};
+use network::Network;
+use words::Ptv;
+
+// The sequential word of each receiver: bit t is its bit in response t.
+pub fn answers_of(net: Network, responses: &[u64]) -> [u64; 48]
+    requires { ⌜ (net .nets ≤ 48) × (length (now responses) ≤ 64) ⌝ }
+    ensures { λ r. ⌜ (length r ≡ 48) × ((i : ℕ) → i < net .nets → at r i ≡ column (now (responses .entry)) i) ⌝ }
+{
+    let mut answers = [0u64; 48];
+    let mut i: u64 = 0;
+    while i < net.nets {
+        let answered = words::turning::sequential_word(responses, i);
+        answers[i as usize] = answered.0;
+        i += 1;
+    }
+    answers
+}
+
+// The state's response compared with the whole response.
+pub fn gives_response(net: Network, vectors: &[u64], state: &[u64], responses: &[u64]) -> bool
+    requires { ⌜ (length (now responses) ≡ length (now vectors)) × (length (now state) ≤ 64) × ((i : ℕ) → i < length (now state) → at (now state) i < 2 ^ (net .nets)) ⌝ }
+    ensures { λ r. ⌜ Decides r (response net (now (state .entry)) (now (vectors .entry)) ≡ now (responses .entry)) ⌝ }
+{
+    let mut t: usize = 0;
+    while t < vectors.len() {
+        let word = network::receivers::response_word(net, state, Ptv(vectors[t]));
+        if word.0 != responses[t] {
+            return false;
+        }
+        t += 1;
+    }
+    true
+}

@@ -1,0 +1,99 @@
+// Reading back: the wiring state that gave a response, and what is found on each net.
+ghost use mathlib.Core.Path.{_≡_};
+ghost use Prim.Native.Nat.{ℕ, _<_, _≤_};
+ghost use lib.ListN.{length};
+ghost use Rattle.words.specs.Bits.{at};
+ghost use Rattle.words.specs.Answers.{«count-of», «lent-after»};
+ghost use Rattle.words.specs.Turning.{column};
+ghost use Rattle.network.specs.Rows.{HighBit};
+ghost use Rattle.diagnosis.specs.ReadBack.{OnlyAnswer, Passed};
+ghost use Rattle.diagnosis.specs.Diagnosis.{«fit-answer», «diagnosis-answer», meaning};
+
+mod classes;
+pub mod findings;
+mod fit;
+mod walking;
+
+use checker::Verdict;
+use network::Admission;
+use network::Network;
+
+// What is found on one net: kind 0 sound, 1 open, 2 short, 3 both.
+pub struct Finding {
+    pub kind: u64,
+    pub reach: u64,
+    pub partners: u64,
+}
+
+// What the call *diagnosis* answers: how many words it wrote, or the refusal.
+pub enum Diagnosed {
+    Wrote(u64),
+    Refused(u64),
+}
+
+// The only reaches that can have answered so.
+fn candidate(net: Network, class: u64, vectors: &[u64], responses: &[u64]) -> [u64; 48]
+    requires { ⌜ (length (now responses) ≡ length (now vectors)) × Passed net class (now vectors) ⌝ }
+    ensures { λ r. ⌜ (length r ≡ 48) × ((i : ℕ) → i < net .nets → OnlyAnswer net class (now (vectors .entry)) (column (now (responses .entry)) i) (at r i)) ⌝ }
+{
+    let answers = fit::answers_of(net, responses);
+    if class == net.nets {
+        return walking::walking_reaches(net, vectors, &answers);
+    }
+    classes::class_reaches(net, class, vectors, &answers)
+}
+
+// Row 14, or the state into the front of `out`. The rows before it do not hold.
+fn read_back(
+    net: Network,
+    class: u64,
+    vectors: &[u64],
+    responses: &[u64],
+    out: &mut [u64],
+) -> Diagnosed
+    requires { ⌜ Passed net class (now vectors) × (length (now responses) ≡ length (now vectors)) × (HighBit net (now responses) → ⊥) × (net .nets ≤ length (now out)) ⌝ }
+    ensures answer { λ r. ⌜ meaning r ≡ count-of (fit-answer net class (now (vectors .entry)) (now (responses .entry))) ⌝ }
+    ensures list { λ r. ⌜ now (out .exit) ≡ lent-after (fit-answer net class (now (vectors .entry)) (now (responses .entry))) (now (out .entry)) ⌝ }
+{
+    let n = net.nets as usize;
+    let state = candidate(net, class, vectors, responses);
+    if network::refusals::not_a_state(net, class, &state[..n]) {
+        return Diagnosed::Refused(14);
+    }
+    if !fit::gives_response(net, vectors, &state[..n], responses) {
+        return Diagnosed::Refused(14);
+    }
+    words::lists::copy_words(&state[..n], out);
+    Diagnosed::Wrote(net.nets)
+}
+
+// The call *diagnosis*: the state of the class that gave the response, into the front of `out`. Rows 5 to 10, 12, 13, 14.
+pub fn diagnose(
+    net: Network,
+    class: u64,
+    vectors: &[u64],
+    responses: &[u64],
+    out: &mut [u64],
+) -> Diagnosed
+    ensures answer { λ r. ⌜ meaning r ≡ count-of (diagnosis-answer net class (now (vectors .entry)) (now (responses .entry)) (length (now (out .entry)))) ⌝ }
+    ensures list { λ r. ⌜ now (out .exit) ≡ lent-after (diagnosis-answer net class (now (vectors .entry)) (now (responses .entry)) (length (now (out .entry)))) (now (out .entry)) ⌝ }
+{
+    let admission = network::refusals::admit_set(net, class, vectors);
+    if let Admission::Refused(number) = admission {
+        return Diagnosed::Refused(number);
+    }
+    if network::refusals::bad_response_count(vectors, responses) {
+        return Diagnosed::Refused(9);
+    }
+    if network::refusals::has_high_bit(net, responses) {
+        return Diagnosed::Refused(10);
+    }
+    if network::refusals::no_room(net.nets as usize, out.len()) {
+        return Diagnosed::Refused(12);
+    }
+    let verdict = checker::verdict_of(net, class, vectors);
+    let Verdict::Pass = verdict else {
+        return Diagnosed::Refused(13);
+    };
+    read_back(net, class, vectors, responses, out)
+}
