@@ -6,8 +6,8 @@ ghost use lib.ListN.{length};
 ghost use Rattle.checker.specs.Rule.{verdict};
 ghost use Rattle.checker.specs.Check.{«check-answer», meaning};
 
-pub mod bounded;
-pub mod unbounded;
+mod bounded;
+mod unbounded;
 
 use network::Admission;
 use network::Network;
