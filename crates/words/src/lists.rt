@@ -1,4 +1,4 @@
-// Words in lists.
+// Words in lists. Helpers between crates: `copy_words` asks for room.
 ghost use mathlib.Core.Path.{_≡_};
 ghost use Prim.Native.Nat.{_≤_};
 ghost use lib.ListN.{length};
