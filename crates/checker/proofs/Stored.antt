@@ -16,11 +16,11 @@ use borrow.Author.Tests.{lt-leb, le-leb}
 use Rattle.words.specs.declared.Search.{Search}
 use Rattle.words.specs.declared.Search.the-variants.{Found, Missing}
 use Rattle.words.specs.Bits.{at, Next}
-use Rattle.words.specs.Searching.{least, is-found, position}
+use Rattle.words.specs.Searching.{least, is-found, passing, position}
 use Rattle.words.proofs.Tests.{less-or-not, and-both, and-false}
 use Rattle.words.proofs.Searching.{Least, first, nowhere, least-found, least-missing, least-same, position-is}
 use Rattle.words.proofs.Making.{map-at, map-snoc}
-use Rattle.words.proofs.Counting.{passing, sets-of-class, sets-next, sets-room, least-in-class, none-in-class}
+use Rattle.words.proofs.Counting.{sets-of-class, sets-next, sets-room, least-in-class, none-in-class}
 use Rattle.network.specs.declared.Network.{Network}
 use Rattle.network.specs.Reading.{sequential-response}
 use Rattle.network.specs.States.{few-drivers}

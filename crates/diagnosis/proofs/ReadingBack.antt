@@ -12,7 +12,7 @@ use Rattle.words.specs.declared.Search.{Search}
 use Rattle.words.specs.declared.Search.the-variants.{Found, Missing}
 use Rattle.words.specs.Answers.{Decides}
 use Rattle.words.specs.Bits.{has, at}
-use Rattle.words.specs.Searching.{is-found, any}
+use Rattle.words.specs.Searching.{is-found, or-zero, any}
 use Rattle.words.specs.Turning.{column}
 use Rattle.words.proofs.Tests.{cases, contrary, and-left, and-right, and-both, neither}
 use Rattle.words.proofs.Searching.{Least, first, nowhere, least-below, any-none, any-false}
@@ -24,7 +24,7 @@ use Rattle.network.specs.States.{DriverSet, State, Fits, few-drivers, has-confl
 use Rattle.network.proofs.Reading.{decides-reads, has-sequential, sequential-below, sequential-alike, response-is, response-determined}
 use Rattle.network.proofs.States.{few-drivers-at, few-drivers-of, no-conflict, conflict-free}
 use Rattle.checker.proofs.Separation.{SetsApart}
-use Rattle.diagnosis.specs.ReadBack.{reach-read, or-empty, read-back, no-state-fits, OnlyAnswer}
+use Rattle.diagnosis.specs.ReadBack.{reach-read, read-back, no-state-fits, OnlyAnswer}
 
 -- ---- answers of single receivers
 
@@ -85,19 +85,19 @@ module _ (net : Network) (k : ℕ) (vectors responses : List ℕ) where
   unfolding read-back
   read-size = length-tabulate (net .nets) _
 
-  read-at : (i : ℕ) → i < net .nets → at (read-back net k vectors responses) i ≡ or-empty (reach-read net k vectors (column responses i))
+  read-at : (i : ℕ) → i < net .nets → at (read-back net k vectors responses) i ≡ or-zero (reach-read net k vectors (column responses i))
   unfolding read-back
-  read-at i l = tabulate-at (net .nets) (λ j. or-empty (reach-read net k vectors (column responses j))) i l
+  read-at i l = tabulate-at (net .nets) (λ j. or-zero (reach-read net k vectors (column responses j))) i l
 
   -- what is read for a receiver that some set explains
   explained : (i : ℕ) → is-found (reach-read net k vectors (column responses i)) ≡ true
-      → DriverSet net k (or-empty (reach-read net k vectors (column responses i)))
-      × (sequential-response net vectors (or-empty (reach-read net k vectors (column responses i))) ≡ column responses i)
+      → DriverSet net k (or-zero (reach-read net k vectors (column responses i)))
+      × (sequential-response net vectors (or-zero (reach-read net k vectors (column responses i))) ≡ column responses i)
   unfolding is-found reach-test
   explained i e = go (reach-read net k vectors (column responses i)) (reach-is i) e
     where
       go : (s : Search) → Least (reach-test i) 0 (2 ^ (net .nets)) s → is-found s ≡ true
-          → DriverSet net k (or-empty s) × (sequential-response net vectors (or-empty s) ≡ column responses i)
+          → DriverSet net k (or-zero s) × (sequential-response net vectors (or-zero s) ≡ column responses i)
       go (Found set) (first x y z w) f = (
         record { inside = y; few = few-drivers-at net k set (and-left (few-drivers net k set) _ z) },
         eqb-true _ _ (and-right (few-drivers net k set) _ z),
@@ -123,8 +123,8 @@ module _ (net : Network) (k : ℕ) (vectors responses : List ℕ) where
       below i l = rw read-size at l
 
       each : (i : ℕ) → i < net .nets
-          → DriverSet net k (or-empty (reach-read net k vectors (column responses i)))
-          × (sequential-response net vectors (or-empty (reach-read net k vectors (column responses i))) ≡ column responses i)
+          → DriverSet net k (or-zero (reach-read net k vectors (column responses i)))
+          × (sequential-response net vectors (or-zero (reach-read net k vectors (column responses i))) ≡ column responses i)
       each i l = explained i (not-false _ (any-false (λ j. not (is-found (reach-read net k vectors (column responses j)))) (net .nets) i l (parts .0)))
 
   -- sets apart: a state that fits is what is read back
@@ -156,7 +156,7 @@ module _ (net : Network) (k : ℕ) (vectors responses : List ℕ) where
       same : read-back net k vectors responses ≡ state
       same =
           ext-getD 0 (read-back net k vectors responses) state (read-size ∙ sym (h .of-class .size))
-          (λ i l. read-at i (rw read-size at l) ∙ ap or-empty (reached i (rw read-size at l)))
+          (λ i l. read-at i (rw read-size at l) ∙ ap or-zero (reached i (rw read-size at l)))
 
       none : any (net .nets) (λ i. not (is-found (reach-read net k vectors (column responses i)))) ≡ false
       none = any-none (λ i. not (is-found (reach-read net k vectors (column responses i)))) (net .nets) (λ i l. ap (λ s. not (is-found s)) (reached i l))

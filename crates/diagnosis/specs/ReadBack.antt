@@ -5,10 +5,9 @@ use mathlib.Core.Bool.{Bool, not, _&&_, _||_}
 use mathlib.Core.List.{List}
 use lib.Dec.{eqb}
 use Rattle.words.specs.Answers.{NoneHolds}
-use Rattle.words.specs.Searching.{least, is-found, any}
+use Rattle.words.specs.Searching.{least, is-found, or-zero, any}
 use Rattle.words.specs.Turning.{tabulate, column}
 use Rattle.words.specs.declared.Search.{Search}
-use Rattle.words.specs.declared.Search.the-variants.{Found, Missing}
 use Rattle.network.specs.declared.Network.{Network}
 use Rattle.network.specs.Reading.{sequential-response}
 use Rattle.network.specs.States.{DriverSet, few-drivers, has-conflict}
@@ -20,13 +19,9 @@ use Rattle.checker.specs.Rule.{Rule}
 unfoldable pub reach-read : Network → ℕ → List ℕ → ℕ → Search
 reach-read net k vectors answered = least (2 ^ (net .nets)) 0 (λ set. few-drivers net k set && eqb (sequential-response net vectors set) answered)
 
-abbrev pub or-empty : Search → ℕ
-or-empty (Found set) = set
-or-empty Missing = 0
-
--- of each receiver the set that reads as it answered; bit t of its answer is its bit in response t
+-- of each receiver the set that reads as it answered, and the empty one, 0, where there is none; bit t of its answer is its bit in response t
 unfoldable pub read-back : Network → ℕ → (vectors responses : List ℕ) → List ℕ
-read-back net k vectors responses = tabulate (net .nets) (λ i. or-empty (reach-read net k vectors (column responses i)))
+read-back net k vectors responses = tabulate (net .nets) (λ i. or-zero (reach-read net k vectors (column responses i)))
 
 -- a receiver that answered as no set of the class does, or reaches that meet and differ
 unfoldable pub no-state-fits : Network → ℕ → (vectors responses : List ℕ) → Bool

@@ -4,5 +4,6 @@ pub mod Bits
 pub mod Making
 pub mod Columns
 pub mod Classes
+pub mod Passing
 pub mod Counting
 pub mod Answers

@@ -2,10 +2,10 @@
 use Prim.Native.Nat.{ℕ}
 use lib.Count.{onesIn}
 use Rattle.words.specs.Bits.{has, digit, word}
-use Rattle.words.specs.Searching.{least, is-found, any, position, among}
+use Rattle.words.specs.Searching.{least, is-found, passing, any, position, among}
 use Rattle.words.specs.Turning.{tabulate, column, transpose}
 use Rattle.words.specs.Answers.{by-tests, lent-after, count-of}
 
 unfoldable pub open-words : ℕ
-unfolding onesIn has digit word least is-found any position among tabulate column transpose by-tests lent-after count-of
+unfolding onesIn has digit word least is-found passing any position among tabulate column transpose by-tests lent-after count-of
 open-words = 0

@@ -1,7 +1,7 @@
 -- The smallest number that passes a test, and what is said with it.
 use Prim.Native.Nat.{ℕ, zero, suc}
-use mathlib.Core.Bool.{Bool, true, false}
-use mathlib.Core.List.{List}
+use mathlib.Core.Bool.{Bool, true, false, cond}
+use mathlib.Core.List.{List, [], _∷_, _++_}
 use lib.Dec.{eqb}
 use lib.ListN.{length}
 use Rattle.words.specs.Bits.{at}
@@ -16,6 +16,16 @@ least (suc d) x p = elim (p x) [ true ↦ Found x | false ↦ least d (suc x) p 
 unfoldable pub is-found : Search → Bool
 is-found (Found x) = true
 is-found Missing = false
+
+-- the number found, and 0 where there is none
+abbrev pub or-zero : Search → ℕ
+or-zero (Found x) = x
+or-zero Missing = 0
+
+-- the numbers below n that pass, ascending
+unfoldable pub passing : (ℕ → Bool) → ℕ → List ℕ
+passing p zero = []
+passing p (suc n) = let before = passing p n in cond (p n) (before ++ n ∷ []) before
 
 -- some number below n passes
 unfoldable pub any : ℕ → (ℕ → Bool) → Bool

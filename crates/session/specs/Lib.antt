@@ -1,0 +1,4 @@
+pub mod Record
+pub mod Calls
+pub mod Drive
+pub mod Open

@@ -1,0 +1,3 @@
+pub mod FirstStep
+pub mod SecondStep
+pub mod Open

@@ -1,0 +1,1 @@
+// The vectors of a session's two steps.
