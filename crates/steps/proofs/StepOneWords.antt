@@ -3,7 +3,7 @@
 use mathlib.Core.Path.{_≡_, refl, sym, ap, _∙_}
 use mathlib.Core.Bool.{Bool, true, false, not, _&&_}
 use mathlib.Core.Logic.{inl, inr, ⊎-elim, _≢_}
-use mathlib.Core.List.{List}
+use mathlib.Core.List.{List, [], _∷_}
 use Prim.Native.Nat.{ℕ, suc, _+_, _-_, _/_, _^_, _<_, _≤_, zero-le}
 use native.Mathlib.Nat.{not-suc-le-zero}
 use native.Mathlib.Omega.{arith}
@@ -70,6 +70,21 @@ none-outside : any 47 (λ m. length-outside (2 + m)) ≡ false
 unfolding open-steps length-outside
 none-outside = refl
 
+-- C(p, p/2 rounded down) for p from 0 to 8
+abbrev pub central-numbers : List ℕ
+central-numbers = 1 ∷ 1 ∷ 2 ∷ 3 ∷ 6 ∷ 10 ∷ 20 ∷ 35 ∷ 70 ∷ []
+
+wrong-central : ℕ → Bool
+wrong-central p = not (eqb (at central-numbers p) (binomial p (p / 2)))
+
+none-wrong-central : any 9 wrong-central ≡ false
+unfolding open-steps wrong-central
+none-wrong-central = refl
+
+central-is : (p : ℕ) → p ≤ 8 → at central-numbers p ≡ binomial p (p / 2)
+unfolding wrong-central
+central-is p l = eqb-true _ _ (not-false _ (any-false wrong-central 9 p (omega arith) none-wrong-central))
+
 -- ---- the balanced words of p bits
 
 module _ (p : ℕ) (two : 2 ≤ p) (eight : p ≤ 8) where
@@ -122,6 +137,18 @@ module _ (net : Network) (two : 2 ≤ net .nets) (most : net .nets ≤ 48) where
 
   pub enough-words : net .nets ≤ length (balanced-words (word-length net))
   enough-words = rw (balanced-count (word-length net) (length-bounds .0) (length-bounds .1)) (word-length-is .enough)
+
+  -- a search upward for it: one more turn, and the end
+  module _ (p : ℕ) (up-to : p ≤ word-length net) where
+    pub length-further : at central-numbers p < net .nets → p < word-length net
+    length-further l =
+        let here : p ≡ word-length net → ⊥ = λ e. let enough = rw (← e) at (word-length-is .enough) in omega (arith, central-is p (omega (arith, length-bounds))) in
+        omega (arith, here)
+
+    pub length-reached : net .nets ≤ at central-numbers p → p ≡ word-length net
+    length-reached l =
+        let not-less : p < word-length net → ⊥ = λ m. omega (arith, word-length-is .smallest p m, central-is p (omega (arith, length-bounds))) in
+        omega (arith, not-less)
 
   -- ---- the words themselves
 
