@@ -1,1 +1,3 @@
 pub mod WordsApart
+pub mod StepOneWords
+pub mod WordsGathered

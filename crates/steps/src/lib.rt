@@ -1,1 +1,2 @@
 // The vectors of a session's two steps.
+pub mod first;
