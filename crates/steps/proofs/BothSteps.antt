@@ -77,9 +77,16 @@ module _ (net : Network) (before after : List ℕ) where
       → Fits net k (before ++ after) (first ++ second) state
   fits-both k first second state f g = record { of-class = f .of-class; gives = response-parts state ∙ ap₂ _++_ (f .gives) (g .gives) }
 
--- a state that fits gives as many words as there are vectors
-pub fits-size : (net : Network) (k : ℕ) (vectors responses state : List ℕ) → Fits net k vectors responses state → length responses ≡ length vectors
-fits-size net k vectors responses state h = ap length (sym (h .gives)) ∙ response-is net state vectors .one-a-vector
+-- a state that fits gives as many words as there are vectors, and each reach answers as its receiver did
+module _ (net : Network) (k : ℕ) (vectors responses state : List ℕ) (fits : Fits net k vectors responses state) where
+  pub fits-size : length responses ≡ length vectors
+  fits-size = ap length (sym (fits .gives)) ∙ response-is net state vectors .one-a-vector
+
+  reach-inside : (i : ℕ) → i < net .nets → at state i < 2 ^ (net .nets)
+  reach-inside i l = fits .of-class .reach i (rw (fits .of-class .size) l) .inside
+
+  reach-answers : (i : ℕ) → i < net .nets → sequential-response net vectors (at state i) ≡ column responses i
+  reach-answers i l = fits-answers net vectors responses fits-size k state fits i (rw (fits .of-class .size) l)
 
 -- ---- the vectors of step one
 
@@ -155,10 +162,10 @@ decides-only word words i = (there, back)
 
     back : eqb (at words i) word && not (any (length words) other) ≡ false → ¬ ((at words i ≡ word) × ((j : ℕ) → j < length words → at words j ≡ word → j ≡ i))
     back e (own, alone) =
-        contrary
-        (and-both (eq-eqb (at words i) word own)
-        (ap not (any-none other (length words) (λ j l. ⊎-elim (λ f. contrary (eq-eqb j i (alone j l (eqb-true _ word (and-right (not (eqb j i)) _ f)))) (not-true _ (and-left (not (eqb j i)) _ f))) (λ f. f) (cases (other j))))))
-        e
+        contrary (and-both (eq-eqb (at words i) word own) (ap not (any-none other (length words) (λ j l. ⊎-elim (same j l) (λ f. f) (cases (other j)))))) e
+      where
+        same : (j : ℕ) → j < length words → other j ≡ true → other j ≡ false
+        same j l f = contrary (eq-eqb j i (alone j l (eqb-true _ word (and-right (not (eqb j i)) _ f)))) (not-true _ (and-left (not (eqb j i)) _ f))
 
 module _ (net : Network) (answers : List ℕ) where
   pub decides-clear : (i : ℕ) → i < net .nets → Decides (is-clear net answers i) (Clear net answers i)
@@ -271,16 +278,12 @@ module _ (net : Network) (answers : List ℕ) where
 -- ---- what the answers to step one say of a state that fits them
 
 module _ (net : Network) (apart : WordsApart net) (first state : List ℕ) (fits : Fits net (net .nets) (first-vectors net) first state) where
-  reach-inside : (i : ℕ) → i < net .nets → at state i < 2 ^ (net .nets)
-  reach-inside i l = fits .of-class .reach i (rw (fits .of-class .size) l) .inside
-
   returned : (i : ℕ) → i < net .nets → sequential-response net (first-vectors net) (at state i) ≡ column first i
-  returned i l =
-      fits-answers net (first-vectors net) first (fits-size net (net .nets) (first-vectors net) first state fits) (net .nets) state fits i (rw (fits .of-class .size) l)
+  returned i l = reach-answers net (net .nets) (first-vectors net) first state fits i l
 
   -- a clear net's reach is its own driver
   pub clear-reach : (i : ℕ) → i < net .nets → is-clear net first i ≡ true → at state i ≡ 2 ^ i
-  clear-reach i l e = own-word net apart i (at state i) l (reach-inside i l) (returned i l ∙ decides-clear net first i l .0 e .own)
+  clear-reach i l e = own-word net apart i (at state i) l (reach-inside net (net .nets) (first-vectors net) first state fits i l) (returned i l ∙ decides-clear net first i l .0 e .own)
 
   -- which is in no unclear net's reach
   pub clear-alone : (i j : ℕ) → i < net .nets → j < net .nets → is-clear net first i ≡ false → is-clear net first j ≡ true → has (at state i) j ≡ false
@@ -303,6 +306,9 @@ module _ (net : Network) (apart : WordsApart net) (first second state : List ℕ
 
   pub fits-second : Fits net (net .nets) (second-vectors net first) second state
   fits-second = fits-parts net (first-vectors net) (second-vectors net first) (net .nets) first second state (size ∙ sym (first-size net)) fits .1
+
+  inside : (i : ℕ) → i < net .nets → at state i < 2 ^ (net .nets)
+  inside i l = reach-inside net (net .nets) (first-vectors net) first state fits-first i l
 
   -- an unclear receiver's reach has unclear drivers only, each with its walking vector
   settled : (i j : ℕ) → i < net .nets → j < net .nets → is-clear net first i ≡ false → has (at state i) j ≡ true
@@ -327,7 +333,7 @@ module _ (net : Network) (apart : WordsApart net) (first second state : List ℕ
           omega (arith, own, q)
 
       by-drivers : is-clear net first i ≡ false → at state i ≤ set
-      by-drivers e = subset-at-most (net .nets) (at state i) set (reach-inside net apart first state fits-first i l) (λ j m on. also j m on (settled i j l m e on))
+      by-drivers e = subset-at-most (net .nets) (at state i) set (inside i l) (λ j m on. also j m on (settled i j l m e on))
         where
           extra : reads net set (extra-vector net) ≡ reads net (at state i) (extra-vector net)
           extra =
@@ -354,9 +360,7 @@ module _ (net : Network) (apart : WordsApart net) (first second state : List ℕ
       let extra = extra-in net first (some-unclear net first i l e) in
       sym
       (walked-is net (second-vectors net first) (column second i) (at state i) reach
-      (fits-answers net (second-vectors net first) second (fits-size net (net .nets) (second-vectors net first) second state fits-second) (net .nets) state fits-second i
-      (rw (fits .of-class .size) l))
-      (reach-inside net apart first state fits-first i l) (0, extra .0, extra .1) (λ j m on. settled i j l m e on) w)
+      (reach-answers net (net .nets) (second-vectors net first) second state fits-second i l) (inside i l) (0, extra .0, extra .1) (λ j m on. settled i j l m e on) w)
 
 -- ---- whether some state fits both
 
@@ -391,13 +395,14 @@ module _ (net : Network) where
   fault-free-is-state = record {
     size = fault-free-size;
     reach = λ i l. rw (fault-free-at i (inside i l)) (record { inside = pow-lt (inside i l); few = ones-at-most (net .nets) (2 ^ i) });
-    meet-only-if-equal = λ i j x l m n p q.
-        let e : i ≡ j = has-only i x (ap (λ (w : ℕ). has w x) (sym (fault-free-at i (inside i l))) ∙ p) ∙ sym (has-only j x (ap (λ (w : ℕ). has w x) (sym (fault-free-at j (inside j m))) ∙ q)) in
-        ap (at (fault-free-state net)) e;
+    meet-only-if-equal = λ i j x l m n p q. ap (at (fault-free-state net)) (only i x (inside i l) p ∙ sym (only j x (inside j m) q));
   }
     where
       inside : (i : ℕ) → i < length (fault-free-state net) → i < net .nets
       inside i l = rw fault-free-size at l
+
+      only : (i x : ℕ) → i < net .nets → has (at (fault-free-state net) i) x ≡ true → i ≡ x
+      only i x l e = has-only i x (ap (λ (w : ℕ). has w x) (sym (fault-free-at i l)) ∙ e)
 
 module _ (net : Network) (apart : WordsApart net) (first : List ℕ) (none : length (unclear net first) ≡ 0) where
   pub all-clear-fits : length first ≡ word-length net → ((t : ℕ) → t < length first → at first t < 2 ^ (net .nets))
