@@ -1,6 +1,6 @@
 // Reading back for k = n: the extra vector tells whether a receiver floats, and the walking vectors which drivers reach it.
-// `walking_reach` says what the answers show, whatever the vectors; `walking_reaches` is told that the test set is passed for class n,
-// and so reads the only reaches that can have answered so.
+// `walking_reach` needs no more than 48 nets and 64 vectors, and says what the answers show. `walking_reaches` needs a test set that is
+// passed for class n, and gives the only reaches that can have answered so.
 ghost use mathlib.Core.Path.{_≡_};
 ghost use mathlib.Core.Logic.{_↔_};
 ghost use mathlib.Core.Bool.{true};
