@@ -77,7 +77,7 @@ begin-by-table session net list = tests-by-table (λ words. words ≡ first-vect
 -- the tests of first answers after row 4
 abbrev first-tests : Network → (answers list : List ℕ) → List (ℕ × Bool)
 first-tests net answers list =
-    (9, bad-response-count (first-vectors net) answers)
+    (9, bad-response-count (length (first-vectors net)) (length answers))
     ∷ (10, has-high-bit net answers)
     ∷ (12, no-room (length (second-vectors net answers)) (length list))
     ∷ []
@@ -85,7 +85,7 @@ first-tests net answers list =
 first-decided : (net : Network) (answers list : List ℕ) → Decided (FirstRows (waits-first net (first-vectors net)) answers list) (first-tests net answers list)
 first-decided net answers list = (
   refl,
-  decides-row-9 (first-vectors net) answers,
+  decides-row-9 (length (first-vectors net)) (length answers),
   λ _. (refl, decides-high-bit net answers, λ _. (refl, decides-row-12 (length (second-vectors net answers)) (length list), λ _. tt)),
 )
 
@@ -108,7 +108,7 @@ module _ (laws : Laws) where
 
   abbrev second-tests : Network → (r1 answers : List ℕ) → List (ℕ × Bool)
   second-tests net r1 answers =
-      (9, bad-response-count (second-vectors net r1) answers)
+      (9, bad-response-count (length (second-vectors net r1)) (length answers))
       ∷ (10, has-high-bit net answers)
       ∷ (14, no-state-fits net (net .nets) (session-vectors net r1) (r1 ++ answers))
       ∷ []
@@ -147,13 +147,13 @@ module _ (laws : Laws) where
       decides-row-14 : Decides (no-state-fits net (net .nets) (session-vectors net r1) (r1 ++ answers)) (¬ ((state : List ℕ) × FitsAnswers (both answers) state))
       decides-row-14 = (λ e w. contrary e (fits-read (w .0) (w .1) .0), λ e no!. no! (read, read-fits e))
 
-    as-many : (answers : List ℕ) → ¬ (Row9 (second-vectors net r1) answers) → length answers ≡ length (second-vectors net r1)
-    as-many answers h = eqb-true _ _ (not-false _ (off (decides-row-9 (second-vectors net r1) answers) h))
+    as-many : (answers : List ℕ) → ¬ (Row9 (length (second-vectors net r1)) (length answers)) → length answers ≡ length (second-vectors net r1)
+    as-many answers h = eqb-true _ _ (not-false _ (off (decides-row-9 (length (second-vectors net r1)) (length answers)) h))
 
     second-decided : (answers : List ℕ) → Decided (SecondRows (waits-second net (first-vectors net) r1 (second-vectors net r1)) answers) (second-tests net r1 answers)
     second-decided answers = (
       refl,
-      decides-row-9 (second-vectors net r1) answers,
+      decides-row-9 (length (second-vectors net r1)) (length answers),
       λ same. (refl, decides-high-bit net answers, λ low. (refl, decides-row-14 answers (as-many answers same) low, λ _. tt)),
     )
 
@@ -262,7 +262,7 @@ module _ (laws : Laws) where
       second-wrote = through (FirstRows (waits-first net (first-vectors net)) answers list) (first-tests net answers list) (second-vectors net answers) words (first-decided net answers list) past
 
       sized : length answers ≡ word-length net
-      sized = eqb-true _ _ (not-false _ (off (decides-row-9 (first-vectors net) answers) (free .0))) ∙ laws .first-size net
+      sized = eqb-true _ _ (not-false _ (off (decides-row-9 (length (first-vectors net)) (length answers)) (free .0))) ∙ laws .first-size net
 
       nets-low : 2 ≤ net .nets
       nets-low = nets-admitted net nets .0

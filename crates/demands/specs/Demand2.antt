@@ -39,7 +39,7 @@ DiagnosisProgram = Network → ℕ → (vectors responses lent : List ℕ) → F
 -- the rows before 14
 abbrev pub EarlierRows : Network → ℕ → (vectors responses : List ℕ) → ℕ → List (ℕ × Type 0)
 EarlierRows net k vectors responses room =
-    SetRows net k vectors ++ (9, Row9 vectors responses) ∷ (10, HighBit net responses) ∷ (12, Row12 (net .nets) room) ∷ (13, Row13 net k vectors) ∷ []
+    SetRows net k vectors ++ (9, Row9 (length vectors) (length responses)) ∷ (10, HighBit net responses) ∷ (12, Row12 (net .nets) room) ∷ (13, Row13 net k vectors) ∷ []
 
 -- what one call did
 pub record ReadsBack (net : Network) (k : ℕ) (vectors responses lent : List ℕ) (did : Filled ℕ) : Type 0 where

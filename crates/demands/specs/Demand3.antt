@@ -56,7 +56,7 @@ BeginRows net list = (5, Row5 net) ∷ (12, Row12 (length (first-vectors net)) (
 abbrev pub FirstRows : History → (answers list : List ℕ) → List (ℕ × Type 0)
 FirstRows none answers list = NotAwaited
 FirstRows (waits-first net v1) answers list =
-    (9, Row9 v1 answers) ∷ (10, HighBit net answers) ∷ (12, Row12 (length (second-vectors net answers)) (length list)) ∷ []
+    (9, Row9 (length v1) (length answers)) ∷ (10, HighBit net answers) ∷ (12, Row12 (length (second-vectors net answers)) (length list)) ∷ []
 FirstRows (waits-second net v1 r1 v2) answers list = NotAwaited
 FirstRows (finished-first net v1 r1 v2) answers list = NotAwaited
 FirstRows (finished-second net v1 r1 v2 r2) answers list = NotAwaited
@@ -65,7 +65,7 @@ abbrev pub SecondRows : History → (answers : List ℕ) → List (ℕ × Type 0
 SecondRows none answers = NotAwaited
 SecondRows (waits-first net v1) answers = NotAwaited
 SecondRows (waits-second net v1 r1 v2) answers =
-    (9, Row9 v2 answers)
+    (9, Row9 (length v2) (length answers))
     ∷ (10, HighBit net answers)
     ∷ (14, ¬ ((state : List ℕ) × FitsAnswers (finished-second net v1 r1 v2 answers) state))
     ∷ []

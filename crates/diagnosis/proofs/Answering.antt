@@ -25,7 +25,7 @@ use Rattle.diagnosis.specs.Diagnosis.{Row13, OwnRows, DiagnosisRows, not
 use Rattle.diagnosis.proofs.ReadingBack.{read-back-fits, decides-no-state-fits}
 
 -- as many responses as vectors
-pub same-count : (vectors responses : List ℕ) → ¬ (Row9 vectors responses) → length responses ≡ length vectors
+pub same-count : (vectors responses : List ℕ) → ¬ (Row9 (length vectors) (length responses)) → length responses ≡ length vectors
 same-count vectors responses h =
     ⊎-elim (eqb-true (length responses) (length vectors)) (λ e. absurd (h (eqb-false (length responses) (length vectors) e)))
     (cases (eqb (length responses) (length vectors)))
@@ -56,7 +56,7 @@ module _ (net : Network) (k : ℕ) (vectors responses : List ℕ) (room : ℕ) w
   decides-own : NoneHolds (SetRows net k vectors) → Decided (OwnRows net k vectors responses room) (own-tests net k vectors responses room)
   decides-own none = (
     refl,
-    decides-row-9 vectors responses,
+    decides-row-9 (length vectors) (length responses),
     λ nine. (
       refl,
       decides-high-bit net responses,

@@ -2,6 +2,7 @@
 use Prim.Native.Nat.{ℕ}
 use mathlib.Core.Bool.{Bool, true, false}
 use mathlib.Core.List.{List, [], _∷_, _++_}
+use lib.ListN.{length}
 use Rattle.words.specs.Answers.{Answer, refused, full, by-tests}
 use Rattle.network.specs.declared.Network.{Network}
 use Rattle.network.specs.States.{Fits}
@@ -24,7 +25,7 @@ Row14 net k vectors responses = ¬ ((state : List ℕ) × Fits net k vectors res
 -- the call's own rows: 9, 10, 12, 13 and 14
 abbrev pub OwnRows : Network → ℕ → (vectors responses : List ℕ) → ℕ → List (ℕ × Type 0)
 OwnRows net k vectors responses room =
-    (9, Row9 vectors responses)
+    (9, Row9 (length vectors) (length responses))
     ∷ (10, HighBit net responses)
     ∷ (12, Row12 (net .nets) room)
     ∷ (13, Row13 net k vectors)
@@ -40,7 +41,7 @@ not-passed (Pair a b) = true
 
 abbrev pub own-tests : Network → ℕ → (vectors responses : List ℕ) → ℕ → List (ℕ × Bool)
 own-tests net k vectors responses room =
-    (9, bad-response-count vectors responses)
+    (9, bad-response-count (length vectors) (length responses))
     ∷ (10, has-high-bit net responses)
     ∷ (12, no-room (net .nets) room)
     ∷ (13, not-passed (verdict net k vectors))

@@ -82,7 +82,7 @@ pub fn diagnose(
     if let Admission::Refused(number) = admission {
         return Diagnosed::Refused(number);
     }
-    if network::refusals::bad_response_count(vectors, responses) {
+    if network::refusals::bad_response_count(vectors.len(), responses.len()) {
         return Diagnosed::Refused(9);
     }
     if network::refusals::has_high_bit(net, responses) {

@@ -34,8 +34,8 @@ unfolding has-high-bit
 decides-high-bit net words =
     decides-any (λ t. leb (2 ^ (net .nets)) (at words t)) (λ t. 2 ^ (net .nets) ≤ at words t) (length words) (λ t. decides-at-most (2 ^ (net .nets)) (at words t))
 
-pub decides-row-9 : (vectors responses : List ℕ) → Decides (bad-response-count vectors responses) (Row9 vectors responses)
-decides-row-9 vectors responses = decides-not (decides-equal (length responses) (length vectors))
+pub decides-row-9 : (vectors responses : ℕ) → Decides (bad-response-count vectors responses) (Row9 vectors responses)
+decides-row-9 vectors responses = decides-not (decides-equal responses vectors)
 
 pub decides-row-12 : (result room : ℕ) → Decides (no-room result room) (Row12 result room)
 decides-row-12 result room = decides-less room result

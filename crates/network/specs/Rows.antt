@@ -33,8 +33,8 @@ abbrev pub HighBit : Network → List ℕ → Type 0
 HighBit net words = (t : ℕ) × (t < length words) × (2 ^ (net .nets) ≤ at words t)
 
 -- responses: not as many as vectors
-abbrev pub Row9 : (vectors responses : List ℕ) → Type 0
-Row9 vectors responses = length responses ≢ length vectors
+abbrev pub Row9 : (vectors responses : ℕ) → Type 0
+Row9 vectors responses = responses ≢ vectors
 
 -- wiring state: not one of the class
 abbrev pub Row11 : Network → ℕ → List ℕ → Type 0
@@ -58,8 +58,8 @@ bad-vector-count vectors = ltb (length vectors) 1 || ltb 64 (length vectors)
 unfoldable pub has-high-bit : Network → List ℕ → Bool
 has-high-bit net words = any (length words) (λ t. leb (2 ^ (net .nets)) (at words t))
 
-abbrev pub bad-response-count : (vectors responses : List ℕ) → Bool
-bad-response-count vectors responses = not (eqb (length responses) (length vectors))
+abbrev pub bad-response-count : (vectors responses : ℕ) → Bool
+bad-response-count vectors responses = not (eqb responses vectors)
 
 abbrev pub no-room : ℕ → ℕ → Bool
 no-room result room = ltb room result

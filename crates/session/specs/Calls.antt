@@ -32,7 +32,7 @@ unfoldable pub first-answer : Session → List ℕ → ℕ → Answer (List ℕ)
 first-answer session answers room =
     by-tests
     ((4, not (awaits-first session))
-    ∷ (9, bad-response-count (first-vectors (session .network)) answers)
+    ∷ (9, bad-response-count (length (first-vectors (session .network))) (length answers))
     ∷ (10, has-high-bit (session .network) answers)
     ∷ (12, no-room (length (second-vectors (session .network) answers)) room)
     ∷ [])
@@ -61,7 +61,7 @@ unfoldable pub second-answer : Session → List ℕ → Answer (List ℕ)
 second-answer session answers =
     by-tests
     ((4, not (awaits-second session))
-    ∷ (9, bad-response-count (second-vectors (session .network) (held-answers session)) answers)
+    ∷ (9, bad-response-count (length (second-vectors (session .network) (held-answers session))) (length answers))
     ∷ (10, has-high-bit (session .network) answers)
     ∷ (14, no-state-fits (session .network) (session .network .nets) (vectors-driven session) (all-answers session answers))
     ∷ [])

@@ -1,4 +1,9 @@
 // The two-step session: a record that each accepted call advances.
+ghost use mathlib.Core.Path.{_≡_};
+ghost use lib.ListN.{length};
+ghost use Rattle.words.specs.Answers.{«lent-after»};
+ghost use Rattle.session.specs.Calls.{«begin-answer», begun};
+
 mod new_record;
 
 use network::Network;
@@ -16,4 +21,28 @@ pub struct Session {
 pub struct Stepped {
     pub code: u64,
     pub session: Session,
+}
+
+// The call *begin*: the vectors of step one into the front of `list`. Rows 5 and 12.
+pub fn begin_step(session: Session, net: Network, list: &mut [u64]) -> Stepped
+    ensures { λ r. ⌜ (r .session ≡ begun session net (length (now (list .entry))) .session) × (r .code ≡ begun session net (length (now (list .entry))) .code) × (now (list .exit) ≡ lent-after (begin-answer net (length (now (list .entry)))) (now (list .entry))) ⌝ }
+{
+    if network::refusals::bad_net_count(net) {
+        return Stepped {
+            code: 5,
+            session: session,
+        };
+    }
+    let p = steps::first::word_length(net);
+    if network::refusals::no_room(p as usize, list.len()) {
+        return Stepped {
+            code: 12,
+            session: session,
+        };
+    }
+    steps::first::first_vectors(net, list);
+    Stepped {
+        code: 0,
+        session: new_record::awaiting_first(net),
+    }
 }

@@ -33,6 +33,7 @@ use Rattle.diagnosis.proofs.ReadingBack.{fits-answers, answers-fit, read-back-f
 use Rattle.steps.specs.FirstStep.{word-length, sequential-words, first-vectors}
 use Rattle.steps.specs.SecondStep.{only-at, is-clear, Clear, unclear, settling-vectors, second-vectors, session-vectors, fault-free-state}
 use Rattle.steps.proofs.WordsApart.{WordsApart}
+use Rattle.steps.proofs.StepOneWords.{first-size, first-has}
 
 -- ---- one list after another
 
@@ -91,10 +92,6 @@ module _ (net : Network) (k : ℕ) (vectors responses state : List ℕ) (fits : 
 -- ---- the vectors of step one
 
 module _ (net : Network) where
-  pub first-size : length (first-vectors net) ≡ word-length net
-  unfolding first-vectors
-  first-size = transpose-size (word-length net) (sequential-words net)
-
   -- a receiver that one driver alone reaches reads what it drives
   reads-alone : (i vector : ℕ) → i < net .nets → reads net (2 ^ i) vector ≡ has vector i
   reads-alone i vector l =
@@ -103,13 +100,8 @@ module _ (net : Network) where
       (λ e. reads-driven net (2 ^ i) vector i l (has-own i) e)
 
 module _ (net : Network) (apart : WordsApart net) where
-  pub has-first : (t i : ℕ) → t < word-length net → i < net .nets → has (at (first-vectors net) t) i ≡ has (at (sequential-words net) i) t
-  unfolding first-vectors
-  has-first t i l m = transpose-bits (word-length net) (sequential-words net) t i (rw (apart .size) m) l
-
-  pub first-below : (t : ℕ) → t < length (first-vectors net) → at (first-vectors net) t < 2 ^ (net .nets)
-  unfolding first-vectors
-  first-below t l = rw (apart .size) at (transpose-below (word-length net) (sequential-words net) t (rw (first-size net) at l))
+  has-first : (t i : ℕ) → t < word-length net → i < net .nets → has (at (first-vectors net) t) i ≡ has (at (sequential-words net) i) t
+  has-first t i l m = first-has net t i l (rw (apart .size) m)
 
   -- a reach that returns net i's word is its driver alone
   pub own-word : (i a : ℕ) → i < net .nets → a < 2 ^ (net .nets) → sequential-response net (first-vectors net) a ≡ at (sequential-words net) i → a ≡ 2 ^ i

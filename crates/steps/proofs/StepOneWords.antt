@@ -197,11 +197,6 @@ module _ (net : Network) (two : 2 ≤ net .nets) (most : net .nets ≤ 48) where
             rw (word-at i l, word-at j m) (balanced-apart p (bounds .0) (bounds .1) i j (omega (arith, enough-words)) (omega (arith, enough-words)) d);
       }
 
-  -- each first vector drives nets of the network only
-  pub first-below : (t : ℕ) → t < word-length net → at (first-vectors net) t < 2 ^ net .nets
-  unfolding first-vectors
-  first-below t l = rw size at (transpose-below (word-length net) (sequential-words net) t l)
-
 -- ---- the vectors
 
 pub first-size : (net : Network) → length (first-vectors net) ≡ word-length net

@@ -28,11 +28,11 @@ module _ (net : Network) (k : ℕ) (vectors responses lent : List ℕ) where
     unfolding diagnosis-answer
     by-own = set-admits net k vectors (own-tests net k vectors responses (length lent)) (read-back net k vectors responses) admitted
 
-    by-row-9 : bad-response-count vectors responses ≡ true → diagnosis-answer net k vectors responses (length lent) ≡ refused 9
+    by-row-9 : bad-response-count (length vectors) (length responses) ≡ true → diagnosis-answer net k vectors responses (length lent) ≡ refused 9
     unfolding by-tests
     by-row-9 e = by-own ∙ rw e
 
-    module _ (nine : bad-response-count vectors responses ≡ false) where
+    module _ (nine : bad-response-count (length vectors) (length responses) ≡ false) where
       by-row-10 : has-high-bit net responses ≡ true → diagnosis-answer net k vectors responses (length lent) ≡ refused 10
       unfolding by-tests
       by-row-10 e = by-own ∙ rw (nine, e)
@@ -82,7 +82,7 @@ returns-2 c =
     owed-refused _ 9 (a .out .now)
     (by-row-9 (a .net) (a .class) (a .vectors .now) (a .responses .now) (a .out .now) (admitted d) (sym (c .before .bad-response-count .ensures) ∙ c .if1 .taken))
 
-nine : (c : tie.Else1) → let a = c .before .before .before .before .before .before .before .before .args in bad-response-count (a .vectors .now) (a .responses .now) ≡ false
+nine : (c : tie.Else1) → let a = c .before .before .before .before .before .before .before .before .args in bad-response-count (length (a .vectors .now)) (length (a .responses .now)) ≡ false
 nine c = sym (c .before .bad-response-count .ensures) ∙ c .if1 .left
 
 has-high-bit-requires : tie.Need-has-high-bit-requires

@@ -1,0 +1,18 @@
+-- What a step owes when it refuses, and when it is accepted.
+use Prim.Native.Nat.{ℕ}
+use mathlib.Core.Path.{_≡_, refl}
+use mathlib.Core.List.{List}
+use Rattle.words.specs.Answers.{Answer, refused, full, lent-after}
+use Rattle.session.specs.declared.Session.{Session}
+use Rattle.session.specs.Calls.{stepped}
+
+module _ (answer : Answer (List ℕ)) (new old : Session) where
+  pub owed-refused : (number : ℕ) (lent : List ℕ) → answer ≡ refused number
+      → (old ≡ stepped answer new old .session) × (number ≡ stepped answer new old .code) × (lent ≡ lent-after answer lent)
+  unfolding stepped lent-after
+  owed-refused number lent e = (rw e, rw e, rw e)
+
+  pub owed-full : (after : Session) (words lent list : List ℕ) → answer ≡ full words → after ≡ new → list ≡ lent-after (full words) lent
+      → (after ≡ stepped answer new old .session) × (0 ≡ stepped answer new old .code) × (list ≡ lent-after answer lent)
+  unfolding stepped
+  owed-full after words lent list e a l = (rw e a, rw e, rw e l)
