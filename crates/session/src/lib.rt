@@ -1,4 +1,6 @@
 // The two-step session: a record that each accepted call advances.
+mod record;
+
 use network::Network;
 
 // A session's record. Step 1 waits for first answers, 2 for second answers, 3 is finished; what a step does not use is 0.
