@@ -3,11 +3,10 @@ use mathlib.Core.Path.{_≡_, refl, sym, ap, _∙_}
 use mathlib.Core.Bool.{Bool, true, false, not, _&&_}
 use mathlib.Core.Logic.{_≢_}
 use mathlib.Core.List.{List, [], _∷_, _++_}
-use Prim.Native.Nat.{ℕ, _+_, _-_, _≤_, _<_}
-use native.Mathlib.Nat.{le-refl}
+use Prim.Native.Nat.{ℕ, zero, suc, _+_, _-_, _≤_, _<_}
 use native.Mathlib.Omega.{arith}
 use lib.Dec.{eqb}
-use lib.ListN.{length, take, drop, replicate, length-append, length-take, length-replicate, getD-replicate, take-append-drop}
+use lib.ListN.{length, getD, drop, replicate, length-append, length-replicate, getD-replicate, take-append-drop}
 use lib.Seq.{ext-getD, take-at, drop-at, length-take-le}
 use borrow.Author.Tests.{eqb-true, eqb-false, eq-eqb, ne-eqb, not-true, not-false}
 use Rattle.words.specs.Bits.{at}
@@ -54,3 +53,101 @@ pub zeros-of : (size : ℕ) → is-zeros size (replicate size 0) ≡ true
 zeros-of size =
     zeros-hold size (replicate size 0) (length-replicate {A = ℕ} size 0)
     (λ i l. getD-replicate {A = ℕ} size i 0 0 (rw (length-replicate {A = ℕ} size 0) at l))
+
+-- told by a test of the whole list
+pub zeros-by : (size : ℕ) (words : List ℕ) {b d : Bool} → length words ≡ size → b ≡ is-zeros (length words) words → b ≡ d → is-zeros size words ≡ d
+zeros-by size words e h f = ap (λ (n : ℕ). is-zeros n words) (sym e) ∙ sym h ∙ f
+
+-- ---- tests one by one
+
+pub and-true : (b : Bool) → b && true ≡ b
+and-true true = refl
+and-true false = refl
+
+-- where all tests hold, the test at an index does
+hold-at : (i : ℕ) (tests : List Bool) → all-hold tests ≡ true → getD tests i true ≡ true
+unfolding all-hold
+hold-at i [] e = refl
+hold-at zero (test ∷ tests) e = and-left test _ e
+hold-at (suc i) (test ∷ tests) e = hold-at i tests (and-right test _ e)
+
+-- ---- a record that waits for first answers
+
+pub awaits-first-of : (net : Network) → bad-net-count net ≡ false → awaits-first (awaiting-first net) ≡ true
+unfolding awaits-first all-hold
+awaits-first-of net e = rw (e, zeros-of 8, zeros-of 48)
+
+module _ (s : Session) (e : awaits-first s ≡ true) where
+  pub awaits-first-step : s .step ≡ 1
+  unfolding awaits-first
+  awaits-first-step = eqb-true (s .step) 1 (hold-at 0 _ e)
+
+  pub awaits-first-is : (s ≡ awaiting-first (s .network)) × (bad-net-count (s .network) ≡ false)
+  unfolding awaits-first
+  awaits-first-is = (
+    λ j. record {
+      step = awaits-first-step j;
+      network = s .network;
+      first = zeros-are 8 (s .first) (hold-at 2 _ e) j;
+      reaches = zeros-are 48 (s .reaches) (hold-at 3 _ e) j;
+      spent = eqb-true (s .spent) 0 (hold-at 4 _ e) j;
+    },
+    not-true _ (hold-at 1 _ e),
+  )
+
+-- ---- a record that waits for second answers
+
+pub held-of : (net : Network) (answers : List ℕ) → length answers ≡ word-length net → held-answers (awaiting-second net answers) ≡ answers
+held-of net answers e = take-at answers (replicate (8 - length answers) 0) (word-length net) e
+
+pub awaits-second-of : (net : Network) (answers : List ℕ) → bad-net-count net ≡ false → length answers ≡ word-length net → word-length net ≤ 8
+    → has-high-bit net answers ≡ false → length (unclear net answers) ≢ 0 → awaits-second (awaiting-second net answers) ≡ true
+unfolding awaits-second all-hold
+awaits-second-of net answers count e l high some =
+    let size : length (pad 8 answers) ≡ 8 =
+    length-append answers (replicate (8 - length answers) 0) ∙ omega (arith, length-replicate {A = ℕ} (8 - length answers) 0)
+    in
+    let rest : drop (word-length net) (pad 8 answers) ≡ replicate (8 - word-length net) 0 =
+    drop-at answers (replicate (8 - length answers) 0) (word-length net) e ∙ ap (λ (n : ℕ). replicate (8 - n) 0) e
+    in
+    rw (count, eq-eqb _ _ size, rest, zeros-of (8 - word-length net), held-of net answers e, high, ne-eqb _ _ some, zeros-of 48)
+
+pub record WaitsForSecond (s : Session) : Type 0 where
+  pub is : s ≡ awaiting-second (s .network) (held-answers s)
+  pub nets-admitted : bad-net-count (s .network) ≡ false
+  pub one-a-vector : length (held-answers s) ≡ word-length (s .network)
+  pub no-high-bit : has-high-bit (s .network) (held-answers s) ≡ false
+  pub some-unclear : length (unclear (s .network) (held-answers s)) ≢ 0
+
+module _ (s : Session) (e : awaits-second s ≡ true) where
+  pub awaits-second-step : s .step ≡ 2
+  unfolding awaits-second
+  awaits-second-step = eqb-true (s .step) 2 (hold-at 0 _ e)
+
+  pub awaits-second-is : word-length (s .network) ≤ 8 → WaitsForSecond s
+  unfolding awaits-second
+  awaits-second-is l = record {
+    is = λ j. record {
+      step = awaits-second-step j;
+      network = s .network;
+      first = padded j;
+      reaches = zeros-are 48 (s .reaches) (hold-at 6 _ e) j;
+      spent = eqb-true (s .spent) 0 (hold-at 7 _ e) j;
+    };
+    nets-admitted = not-true _ (hold-at 1 _ e);
+    one-a-vector = size;
+    no-high-bit = not-true _ (hold-at 4 _ e);
+    some-unclear = eqb-false _ 0 (not-true _ (hold-at 5 _ e));
+  }
+    where
+      eight : length (s .first) ≡ 8
+      eight = eqb-true _ 8 (hold-at 2 _ e)
+
+      size : length (held-answers s) ≡ word-length (s .network)
+      size = length-take-le (word-length (s .network)) (s .first) (omega (arith, eight, l))
+
+      rest : drop (word-length (s .network)) (s .first) ≡ replicate (8 - length (held-answers s)) 0
+      rest = zeros-are (8 - word-length (s .network)) _ (hold-at 3 _ e) ∙ ap (λ (n : ℕ). replicate (8 - n) 0) (sym size)
+
+      padded : s .first ≡ pad 8 (held-answers s)
+      padded = sym (take-append-drop (word-length (s .network)) (s .first)) ∙ ap (λ (r : List ℕ). held-answers s ++ r) rest
