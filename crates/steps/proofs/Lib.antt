@@ -1,1 +1,2 @@
 pub mod WordsApart
+pub mod Settling
