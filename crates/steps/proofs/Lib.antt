@@ -1,2 +1,3 @@
 pub mod WordsApart
+pub mod StepOneWords
 pub mod Settling

@@ -1,4 +1,5 @@
 // The vectors of a session's two steps.
+pub mod first;
 pub mod second;
 
 // The vectors of step two: `count` of them, from the start of `words`.

@@ -6,8 +6,8 @@ use mathlib.Core.List.{List, [], _∷_, _++_}
 use Prim.Native.Nat.{ℕ, zero, suc, _+_, _≤_, _<_}
 use native.Mathlib.Nat.{not-suc-le-zero, eq-or-lt-of-le, le-of-suc-le-suc, le-refl, add-zero, add-suc}
 use native.Mathlib.Omega.{arith}
-use lib.ListN.{length, length-append, List·getD-append}
-use lib.Seq.{getD-at}
+use lib.ListN.{length, take, length-append, List·getD-append}
+use lib.Seq.{getD-at, take-length, take-append-le}
 use Rattle.words.specs.declared.Search.the-variants.{Found, Missing}
 use Rattle.words.specs.Bits.{at, digit}
 use Rattle.words.specs.Searching.{least, passing}
@@ -69,6 +69,18 @@ module _ (p : ℕ → Bool) where
 
   pub count-grows-past : (a b : ℕ) → a < b → p a ≡ true → length (passing p a) < length (passing p b)
   count-grows-past a b l e = omega (arith, count-passed a e, count-grows (suc a) b l)
+
+  front-kept : (b m : ℕ) → m ≤ length (passing p b) → take m (passing p (suc b)) ≡ take m (passing p b)
+  front-kept b m l =
+      ⊎-elim (λ e. rw (passing-yes b e) (take-append-le m (passing p b) (b ∷ []) l)) (λ e. rw (passing-no b e)) (cases (p b))
+
+  -- those below a are the front of those below b
+  pub passing-front : (a b : ℕ) → a ≤ b → take (length (passing p a)) (passing p b) ≡ passing p a
+  passing-front a zero l = let e : a ≡ 0 = omega arith in rw e (take-length (passing p 0))
+  passing-front a (suc b) l =
+      ⊎-elim (λ e. rw e (take-length (passing p (suc b))))
+      (λ m. let n = le-of-suc-le-suc m in front-kept b (length (passing p a)) (count-grows a b n) ∙ passing-front a b n)
+      (eq-or-lt-of-le l)
 
   entry-kept : (b m : ℕ) → m < length (passing p b) → at (passing p (suc b)) m ≡ at (passing p b) m
   entry-kept b m l =
