@@ -1,4 +1,5 @@
 // The two-step session: a record that each accepted call advances.
+pub mod drive;
 mod record;
 
 use network::Network;
