@@ -1,3 +1,4 @@
 pub mod WordsApart
 pub mod StepOneWords
+pub mod WordsGathered
 pub mod Settling

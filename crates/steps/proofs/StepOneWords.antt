@@ -114,6 +114,10 @@ module _ (p : ℕ) (two : 2 ≤ p) (eight : p ≤ 8) where
       let a = has (at words i) (r .0) in
       (r .0, r .1, and-left b (not a) (r .2), not-true a (and-right b (not a) (r .2)))
 
+-- a number with p/2 ones, for the network's p
+abbrev pub balanced : Network → ℕ → Bool
+balanced net w = eqb (ones-of (word-length net) w) (word-length net / 2)
+
 -- ---- the length of the words
 
 module _ (net : Network) (two : 2 ≤ net .nets) (most : net .nets ≤ 48) where
@@ -160,28 +164,25 @@ module _ (net : Network) (two : 2 ≤ net .nets) (most : net .nets ≤ 48) where
   unfolding sequential-words
   word-at i l = getD-take (net .nets) (balanced-words (word-length net)) i 0 l
 
-  balanced : ℕ → Bool
-  balanced w = eqb (ones-of (word-length net) w) (word-length net / 2)
-
-  word-is : (i : ℕ) → i < net .nets → Entry balanced (2 ^ word-length net) i (at (sequential-words net) i)
-  unfolding balanced-words balanced
-  word-is i l = rw (word-at i l) (entry-is balanced (2 ^ word-length net) i (omega (arith, enough-words)))
+  word-is : (i : ℕ) → i < net .nets → Entry (balanced net) (2 ^ word-length net) i (at (sequential-words net) i)
+  unfolding balanced-words
+  word-is i l = rw (word-at i l) (entry-is (balanced net) (2 ^ word-length net) i (omega (arith, enough-words)))
 
   -- a word with a larger index is a larger word
-  larger : (a b : ℕ) → length (passing balanced a) < length (passing balanced b) → a < b
-  larger a b l = ⊎-elim (λ m. m) (λ m. absurd (not-suc-le-zero {n = 0} (omega (arith, count-grows balanced b a m)))) (less-or-not a b)
+  larger : (a b : ℕ) → length (passing (balanced net) a) < length (passing (balanced net) b) → a < b
+  larger a b l = ⊎-elim (λ m. m) (λ m. absurd (not-suc-le-zero {n = 0} (omega (arith, count-grows (balanced net) b a m)))) (less-or-not a b)
 
   pub words-are-smallest : SmallestWords net (word-length net) (sequential-words net)
-  unfolding balanced-words balanced
+  unfolding balanced-words
   words-are-smallest = record {
     one-a-net = size;
     below = λ i l. word-is i l .below;
     half-ones = λ i l. eqb-true _ _ (word-is i l .passes);
     ascending = λ i j l m. larger _ _ (rw (word-is i (omega arith) .index, word-is j m .index) l);
     smallest = λ w l e. ⊎-elim
-        (λ m. inl (length (passing balanced w), m, word-at _ m ∙ entry-of balanced (2 ^ word-length net) w l (eq-eqb _ _ e)))
-        (λ (m : net .nets ≤ length (passing balanced w)). inr (λ i k. larger _ _ (rw (word-is i k .index) (omega arith))))
-        (less-or-not (length (passing balanced w)) (net .nets));
+        (λ m. inl (length (passing (balanced net) w), m, word-at _ m ∙ entry-of (balanced net) (2 ^ word-length net) w l (eq-eqb _ _ e)))
+        (λ (m : net .nets ≤ length (passing (balanced net) w)). inr (λ i k. larger _ _ (rw (word-is i k .index) (omega arith))))
+        (less-or-not (length (passing (balanced net) w)) (net .nets));
   }
 
   pub words-apart : WordsApart net

@@ -114,6 +114,17 @@ fill-more done d t x e h =
     ap (λ (l : List ℕ). set (done ++ l) t x) (drop-cons d t 0 h) ∙ set-at done (at d t) (drop (suc t) d) x t e
     ∙ sym (append-snoc done x (drop (suc t) d)) ∙ ap (λ (n : ℕ). done ++ (x ∷ []) ++ drop n d) (sym (add-one t))
 
+-- each entry of a list into the front of a list d: a turn, and the end
+pub list-fill : (xs d : List ℕ) (t : ℕ) → t < length xs → t < length d → set (take t xs ++ drop t d) t (at xs t) ≡ take (t + 1) xs ++ drop (t + 1) d
+list-fill xs d t h l =
+    let more : take (t + 1) xs ≡ take t xs ++ at xs t ∷ [] = rw add-one (take-suc xs t 0 h) in
+    fill-more (take t xs) d t (at xs t) (length-take-le t xs (omega arith)) l ∙ ap (λ (m : List ℕ). m ++ drop (t + 1) d) (sym more)
+
+pub list-filled : (xs d : List ℕ) (t : ℕ) → t ≤ length xs → length xs ≤ t → take t xs ++ drop t d ≡ xs ++ drop (length xs) d
+list-filled xs d t h l =
+    let e : t ≡ length xs = omega arith in
+    ap₂ (λ (m : List ℕ) (n : ℕ). m ++ drop n d) (take-all t xs l) e
+
 -- f of each entry into the front of a list d: a turn, and the end
 pub map-fill : (f : ℕ → ℕ) (xs d : List ℕ) (t : ℕ) → t < length xs → t < length d
     → set (map f (take t xs) ++ drop t d) t (f (at xs t)) ≡ map f (take (t + 1) xs) ++ drop (t + 1) d

@@ -1,14 +1,12 @@
 use borrow.Author.Needs.{needs}
-use Prim.Native.Nat.{ℕ, _+_, _≤_, _-_}
-use native.Mathlib.Numerals.{add-one}
+use Prim.Native.Nat.{ℕ, _≤_, _-_}
 use native.Mathlib.Omega.{arith}
-use mathlib.Core.Path.{_≡_, sym, ap, ap₂, _∙_}
-use mathlib.Core.List.{List, [], _∷_, _++_}
+use mathlib.Core.Path.{_≡_, ap, _∙_}
+use mathlib.Core.List.{List, _++_}
 use lib.ListN.{length, take, drop, set}
-use lib.Seq.{take-suc, take-all, length-take-le}
 use Rattle.words.specs.Bits.{at}
 use Rattle.words.specs.Answers.{lent-after}
-use Rattle.words.proofs.Making.{fill-more}
+use Rattle.words.proofs.Making.{list-fill, list-filled}
 use Rattle.words.proofs.lists.copy_words.Statement.{statement}
 use Rattle.words.proofs.lists.copy_words.Tie as tie
 
@@ -42,15 +40,10 @@ loop-less c = search needs
 loop-again : tie.Need-loop-again Inv-loop μ-loop
 loop-again c =
     let a = c .before .before .before .args in
-    let l = c .before .before .loop in
-    let from = a .from .now in
-    let old = a .out .now in
-    let more : take (l .t + 1) from ≡ take (l .t) from ++ at from (l .t) ∷ [] = rw add-one (take-suc from (l .t) 0 (omega arith)) in (
+    let l = c .before .before .loop in (
       search needs,
       search needs,
-      ap (λ (m : List ℕ). set m (l .t) (at from (l .t))) (l .inv .2)
-          ∙ fill-more (take (l .t) from) old (l .t) (at from (l .t)) (length-take-le (l .t) from (omega arith)) (omega arith)
-          ∙ ap (λ (m : List ℕ). m ++ drop (l .t + 1) old) (sym more),
+      ap (λ (m : List ℕ). set m (l .t) (at (a .from .now) (l .t))) (l .inv .2) ∙ list-fill (a .from .now) (a .out .now) (l .t) (omega arith) (omega arith),
     )
 
 same-length : tie.Need-same-length Inv-loop μ-loop
@@ -61,8 +54,7 @@ unfolding lent-after
 returns c =
     let a = c .before .before .args in
     let l = c .before .loop in
-    let whole : l .t ≡ length (a .from .now) = omega arith in
-    l .inv .2 ∙ ap₂ (λ (m : List ℕ) (n : ℕ). m ++ drop n (a .out .now)) (take-all (l .t) (a .from .now) (c .loop-test .left)) whole
+    l .inv .2 ∙ list-filled (a .from .now) (a .out .now) (l .t) (l .inv .0) (c .loop-test .left)
 
 pub copy-words-spec : {M : Type 1} → statement M
 copy-words-spec =
