@@ -8,13 +8,14 @@ use native.Mathlib.Numerals.{add-one}
 use native.Mathlib.Omega.{arith}
 use lib.Dec.{eqb}
 use lib.ListN.{length, take, set, replicate, length-set, length-replicate}
-use lib.Seq.{take-suc-set}
+use lib.Seq.{take-suc-set, length-take-le, getD-take, ext-getD}
 use borrow.Author.Tests.{ne-eqb}
 use Rattle.words.specs.Bits.{at}
 use Rattle.words.specs.Searching.{passing}
-use Rattle.words.specs.Turning.{transpose}
+use Rattle.words.specs.Turning.{column, transpose}
 use Rattle.words.proofs.Passing.{passing-yes, passing-no, count-passed}
 use Rattle.words.proofs.Making.{map-snoc}
+use Rattle.words.proofs.Columns.{transpose-size, transpose-at}
 use Rattle.network.specs.declared.Network.{Network}
 use Rattle.network.specs.Reading.{walking-vector, extra-vector}
 use Rattle.steps.specs.FirstStep.{sequential-words}
@@ -37,6 +38,15 @@ settling-empty net (i ∷ nets) = ne-eqb (length (settling-vectors net (i ∷ ne
 pub second-empty : (net : Network) (answers : List ℕ) → eqb (length (second-vectors net answers)) 0 ≡ eqb (length (unclear net answers)) 0
 unfolding second-vectors
 second-empty net answers = settling-empty net (unclear net answers)
+
+-- ---- what the receivers returned
+
+pub columns-are : (n : ℕ) (columns answers : List ℕ) → n ≤ length columns → ((i : ℕ) → i < n → at columns i ≡ column answers i)
+    → take n columns ≡ transpose n answers
+columns-are n columns answers l h =
+    let size : length (take n columns) ≡ n = length-take-le n columns l in
+    ext-getD 0 (take n columns) (transpose n answers) (size ∙ sym (transpose-size n answers))
+    (λ i m. let k : i < n = rw size at m in getD-take n columns i 0 k ∙ h i k ∙ sym (transpose-at n answers i k))
 
 -- ---- net by net
 

@@ -51,3 +51,14 @@ fn settle(net: Network, words: &[u64], returned: &[u64]) -> SecondVectors
         words: vectors,
     }
 }
+
+// The vectors of step two, by the first answers.
+pub fn second_vectors(net: Network, answers: &[u64]) -> SecondVectors
+    requires { ⌜ (2 ≤ net .nets) × (net .nets ≤ 48) × (length (now answers) ≤ 64) ⌝ }
+    ensures { λ r. ⌜ (length (r .words) ≡ 49) × (r .count ≤ 49) × (take (r .count) (r .words) ≡ second-vectors net (now (answers .entry))) ⌝ }
+{
+    let n = net.nets as usize;
+    let words = crate::first::sequential_words(net);
+    let returned = diagnosis::fit::answers_of(net, answers);
+    settle(net, &words[..n], &returned[..n])
+}
