@@ -4,10 +4,11 @@ use mathlib.Core.Bool.{Bool, true, false, not, _&&_}
 use mathlib.Core.Logic.{_≢_}
 use mathlib.Core.List.{List, [], _∷_, _++_}
 use Prim.Native.Nat.{ℕ, zero, suc, _+_, _-_, _≤_, _<_}
+use native.Mathlib.Nat.{le-refl}
 use native.Mathlib.Omega.{arith}
 use lib.Dec.{eqb}
-use lib.ListN.{length, getD, drop, replicate, length-append, length-replicate, getD-replicate, take-append-drop}
-use lib.Seq.{ext-getD, take-at, drop-at, length-take-le}
+use lib.ListN.{length, getD, take, length-drop, drop, replicate, length-append, length-replicate, getD-replicate, take-append-drop}
+use lib.Seq.{take-all, ext-getD, take-at, drop-at, length-take-le}
 use borrow.Author.Tests.{eqb-true, eqb-false, eq-eqb, ne-eqb, not-true, not-false}
 use Rattle.words.specs.Bits.{at}
 use Rattle.words.specs.Searching.{any}
@@ -18,7 +19,7 @@ use Rattle.network.specs.Rows.{bad-net-count, has-high-bit}
 use Rattle.steps.specs.FirstStep.{word-length}
 use Rattle.steps.specs.SecondStep.{unclear}
 use Rattle.session.specs.declared.Session.{Session}
-use Rattle.session.specs.Record.{pad, awaiting-first, awaiting-second, is-zeros, all-hold, held-answers, awaits-first, awaits-second}
+use Rattle.session.specs.Record.{first-answers-held, pad, awaiting-first, awaiting-second, is-zeros, all-hold, held-answers, awaits-first, awaits-second}
 
 -- ---- words that are all 0
 
@@ -58,6 +59,18 @@ zeros-of size =
 pub zeros-by : (size : ℕ) (words : List ℕ) {b d : Bool} → length words ≡ size → b ≡ is-zeros (length words) words → b ≡ d → is-zeros size words ≡ d
 zeros-by size words e h f = ap (λ (n : ℕ). is-zeros n words) (sym e) ∙ sym h ∙ f
 
+-- told by a test of the words from p on
+pub zeros-after : (words : List ℕ) (p q : ℕ) {b d : Bool} → length words ≡ 8 → p ≡ q
+    → b ≡ is-zeros (length (take (length words - p) (drop p words))) (take (length words - p) (drop p words)) → b ≡ d → is-zeros (8 - q) (drop q words) ≡ d
+zeros-after words p q eight same h f =
+    let size : length (drop q words) ≡ 8 - q = length-drop q words ∙ ap (λ (n : ℕ). n - q) eight in
+    let whole : take (length words - p) (drop p words) ≡ drop q words = rw same (take-all (length words - q) (drop q words) (rw (length-drop q words) (le-refl (length words - q)))) in
+    zeros-by (8 - q) (drop q words) size (rw whole at h) f
+
+-- the length of a list that is the front of another
+pub length-front : (count : ℕ) (words : List ℕ) {front : List ℕ} → count ≤ length words → take count words ≡ front → length front ≡ count
+length-front count words l e = ap length (sym e) ∙ length-take-le count words l
+
 -- ---- tests one by one
 
 pub and-true : (b : Bool) → b && true ≡ b
@@ -96,6 +109,28 @@ module _ (s : Session) (e : awaits-first s ≡ true) where
   )
 
 -- ---- a record that waits for second answers
+
+hold-three : (a b c : Bool) (tests : List Bool) → all-hold (a ∷ b ∷ c ∷ tests) ≡ all-hold (a ∷ b ∷ c ∷ []) && all-hold tests
+unfolding all-hold
+hold-three true true true tests = refl
+hold-three true true false tests = refl
+hold-three true false c tests = refl
+hold-three false b c tests = refl
+
+-- the tests of an array of 8 entries, in the order in which the code asks them
+pub awaits-second-by : (s : Session) → length (s .first) ≡ 8
+    → awaits-second s
+    ≡ eqb (s .step) 2 && (not (bad-net-count (s .network)) && (first-answers-held (s .network) (s .first) && (is-zeros 48 (s .reaches) && eqb (s .spent) 0)))
+unfolding awaits-second all-hold
+awaits-second-by s e =
+    let net = s .network in
+    let zeros = is-zeros (8 - word-length net) (drop (word-length net) (s .first)) in
+    let narrow = not (has-high-bit net (held-answers s)) in
+    let some = not (eqb (length (unclear net (held-answers s))) 0) in
+    rw (eq-eqb _ _ e)
+    (ap (λ (b : Bool). eqb (s .step) 2 && (not (bad-net-count net) && b))
+    (hold-three zeros narrow some (is-zeros 48 (s .reaches) ∷ eqb (s .spent) 0 ∷ [])
+    ∙ ap (λ (b : Bool). first-answers-held net (s .first) && (is-zeros 48 (s .reaches) && b)) (and-true (eqb (s .spent) 0))))
 
 pub held-of : (net : Network) (answers : List ℕ) → length answers ≡ word-length net → held-answers (awaiting-second net answers) ≡ answers
 held-of net answers e = take-at answers (replicate (8 - length answers) 0) (word-length net) e
