@@ -159,6 +159,10 @@ module _ (s : Session) (e : awaits-second s ≡ true) where
   unfolding awaits-second
   awaits-second-step = eqb-true (s .step) 2 (hold-at 0 _ e)
 
+  pub awaits-second-nets : bad-net-count (s .network) ≡ false
+  unfolding awaits-second
+  awaits-second-nets = not-true _ (hold-at 1 _ e)
+
   pub awaits-second-is : word-length (s .network) ≤ 8 → WaitsForSecond s
   unfolding awaits-second
   awaits-second-is l = record {
@@ -169,7 +173,7 @@ module _ (s : Session) (e : awaits-second s ≡ true) where
       reaches = zeros-are 48 (s .reaches) (hold-at 6 _ e) j;
       spent = eqb-true (s .spent) 0 (hold-at 7 _ e) j;
     };
-    nets-admitted = not-true _ (hold-at 1 _ e);
+    nets-admitted = awaits-second-nets;
     one-a-vector = size;
     no-high-bit = not-true _ (hold-at 4 _ e);
     some-unclear = eqb-false _ 0 (not-true _ (hold-at 5 _ e));

@@ -1,7 +1,9 @@
-// How a record that waits for answers is told.
+// How a record that waits for answers is told. Those that need the nets admitted by row 5, and 8 words, are helpers of this crate.
 ghost use mathlib.Core.Path.{_≡_};
 ghost use Prim.Native.Nat.{_≤_};
-ghost use lib.ListN.{length};
+ghost use lib.ListN.{length, take};
+ghost use Rattle.steps.specs.FirstStep.{«word-length»};
+ghost use Rattle.steps.specs.SecondStep.{«second-vectors»};
 ghost use Rattle.session.specs.Record.{«is-zeros», «first-answers-held», «awaits-first», «awaits-second»};
 use crate::Session;
 use network::Network;
@@ -20,6 +22,15 @@ fn is_zeros(words: &[u64]) -> bool
     true
 }
 
+// The number of vectors of step two, by the first answers that an array begins with.
+pub fn second_count(net: Network, first: &[u64]) -> usize
+    requires { ⌜ (2 ≤ net .nets) × (net .nets ≤ 48) × (length (now first) ≡ 8) ⌝ }
+    ensures { λ r. ⌜ r ≡ length (second-vectors net (take (word-length net) (now (first .entry)))) ⌝ }
+{
+    let p = steps::first::word_length(net) as usize;
+    steps::second::second_vectors(net, &first[..p]).count
+}
+
 // Whether the words are first answers that leave a net unclear, and then zeros.
 fn holds_first_answers(net: Network, first: &[u64]) -> bool
     requires { ⌜ (2 ≤ net .nets) × (net .nets ≤ 48) × (length (now first) ≡ 8) ⌝ }
@@ -32,8 +43,7 @@ fn holds_first_answers(net: Network, first: &[u64]) -> bool
     if network::refusals::has_high_bit(net, &first[..p]) {
         return false;
     }
-    let vectors = steps::second::second_vectors(net, &first[..p]);
-    vectors.count != 0
+    second_count(net, first) != 0
 }
 
 // Whether accepted calls leave this record, and it waits for first answers.

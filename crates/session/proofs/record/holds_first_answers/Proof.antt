@@ -9,11 +9,11 @@ use lib.ListN.{length, take, drop}
 use lib.Seq.{length-take-le}
 use Rattle.network.specs.Rows.{has-high-bit}
 use Rattle.steps.specs.FirstStep.{word-length}
-use Rattle.steps.specs.SecondStep.{unclear, second-vectors}
+use Rattle.steps.specs.SecondStep.{unclear}
 use Rattle.steps.proofs.StepOneWords.{length-bounds}
 use Rattle.steps.proofs.Settling.{second-empty}
 use Rattle.session.specs.Record.{is-zeros, all-hold}
-use Rattle.session.proofs.Records.{zeros-after, length-front, and-true}
+use Rattle.session.proofs.Records.{zeros-after, and-true}
 use Rattle.session.proofs.record.holds_first_answers.Statement.{statement}
 use Rattle.session.proofs.record.holds_first_answers.Tie as tie
 
@@ -71,29 +71,19 @@ returns-2 c =
     let high : has-high-bit (a .net) (take (word-length (a .net)) (a .first .now)) ≡ true = rw (← (b .word-length .ensures)) (sym (c .before .has-high-bit .ensures) ∙ c .if2 .taken) in
     rw (zeros-rest z, high)
 
-slice-aggregate-second-vectors : tie.Need-slice-aggregate-second-vectors
-slice-aggregate-second-vectors c = sym (length-take-le _ _ (room (c .before .before .before .before .before .before .before)))
-
-second-vectors-requires : tie.Need-second-vectors-requires
-second-vectors-requires c κs =
-    let b = c .before .before .before .before .before .before .before in
-    let p = b .before .before .pre in
-    (p .0, p .1, omega (arith, short b, length-take-le (b .word-length .result) (b .before .before .args .first .now) (room b)))
+second-count-requires : tie.Need-second-count-requires
+second-count-requires c κs = search needs
 
 returns-3 : tie.Need-returns-3
 unfolding all-hold
 returns-3 c =
-    let v = c .before .second-vectors in
-    let h = c .before .before .before in
+    let h = c .before in
     let z = h .before .before .before in
     let b = z .before .before .before in
     let a = b .before .before .args in
     let held = take (word-length (a .net)) (a .first .now) in
     let narrow : has-high-bit (a .net) held ≡ false = rw (← (b .word-length .ensures)) (sym (h .before .has-high-bit .ensures) ∙ h .if2 .left) in
-    let vectors : take (v .result .count) (v .result .words) ≡ second-vectors (a .net) held = rw (← (b .word-length .ensures)) (v .ensures .2) in
-    let number : eqb (v .result .count) 0 ≡ eqb (length (unclear (a .net) held)) 0 =
-    ap (λ (n : ℕ). eqb n 0) (sym (length-front (v .result .count) (v .result .words) (omega (arith, v .ensures .0, v .ensures .1)) vectors)) ∙ second-empty (a .net) held
-    in
+    let number : eqb (c .second-count .result) 0 ≡ eqb (length (unclear (a .net) held)) 0 = ap (λ (n : ℕ). eqb n 0) (c .second-count .ensures) ∙ second-empty (a .net) held in
     rw (zeros-rest z, narrow, number) (sym (and-true (not (eqb (length (unclear (a .net) held)) 0))))
 
 pub holds-first-answers-spec : {M : Type 1} → statement M
@@ -110,6 +100,5 @@ holds-first-answers-spec =
     slice-aggregate-has-high-bit
     has-high-bit-requires
     returns-2
-    slice-aggregate-second-vectors
-    second-vectors-requires
+    second-count-requires
     returns-3)
