@@ -1,7 +1,7 @@
 use borrow.Author.Needs.{needs}
 use borrow.Author.Tests.{not-true, not-false}
 use mathlib.Core.Path.{_≡_, sym, ap, _∙_}
-use mathlib.Core.Bool.{true, false, not}
+use mathlib.Core.Bool.{Bool, true, false, not}
 use Prim.Native.Nat.{ℕ, _≤_, _-_}
 use native.Mathlib.Omega.{arith}
 use lib.Dec.{eqb}
@@ -43,24 +43,23 @@ part-is-zeros-end c = search needs
 is-zeros-requires : tie.Need-is-zeros-requires
 is-zeros-requires c κs = search needs
 
+-- what the test of the words after the first answers tells
+zeros-told : (c : tie.After-is-zeros) {d : Bool} → c .is-zeros .result ≡ d
+    → let a = c .before .before .before .before .args in is-zeros (8 - word-length (a .net)) (drop (word-length (a .net)) (a .first .now)) ≡ d
+zeros-told c e =
+    let b = c .before .before in
+    let a = b .before .before .args in
+    zeros-after (a .first .now) (b .word-length .result) (word-length (a .net)) (b .before .before .pre .2) (b .word-length .ensures) (c .is-zeros .ensures) e
+
 returns : tie.Need-returns
 unfolding all-hold
-returns c =
-    let b = c .before .before .before in
-    let a = b .before .before .args in
-    rw (zeros-after (a .first .now) (b .word-length .result) (word-length (a .net)) (b .before .before .pre .2) (b .word-length .ensures) (c .before .is-zeros .ensures) (not-true _ (c .if1 .taken)))
+returns c = rw (zeros-told (c .before) (not-true _ (c .if1 .taken)))
 
 slice-aggregate-has-high-bit : tie.Need-slice-aggregate-has-high-bit
 slice-aggregate-has-high-bit c = sym (length-take-le _ _ (room (c .before .before .before .before)))
 
 has-high-bit-requires : tie.Need-has-high-bit-requires
 has-high-bit-requires c κs = search needs
-
-zeros-rest : (c : tie.Else1) → let a = c .before .before .before .before .before .args in is-zeros (8 - word-length (a .net)) (drop (word-length (a .net)) (a .first .now)) ≡ true
-zeros-rest c =
-    let b = c .before .before .before in
-    let a = b .before .before .args in
-    zeros-after (a .first .now) (b .word-length .result) (word-length (a .net)) (b .before .before .pre .2) (b .word-length .ensures) (c .before .is-zeros .ensures) (not-false _ (c .if1 .left))
 
 returns-2 : tie.Need-returns-2
 unfolding all-hold
@@ -69,7 +68,7 @@ returns-2 c =
     let b = z .before .before .before in
     let a = b .before .before .args in
     let high : has-high-bit (a .net) (take (word-length (a .net)) (a .first .now)) ≡ true = rw (← (b .word-length .ensures)) (sym (c .before .has-high-bit .ensures) ∙ c .if2 .taken) in
-    rw (zeros-rest z, high)
+    rw (zeros-told (z .before) (not-false _ (z .if1 .left)), high)
 
 second-count-requires : tie.Need-second-count-requires
 second-count-requires c κs = search needs
@@ -84,7 +83,7 @@ returns-3 c =
     let held = take (word-length (a .net)) (a .first .now) in
     let narrow : has-high-bit (a .net) held ≡ false = rw (← (b .word-length .ensures)) (sym (h .before .has-high-bit .ensures) ∙ h .if2 .left) in
     let number : eqb (c .second-count .result) 0 ≡ eqb (length (unclear (a .net) held)) 0 = ap (λ (n : ℕ). eqb n 0) (c .second-count .ensures) ∙ second-empty (a .net) held in
-    rw (zeros-rest z, narrow, number) (sym (and-true (not (eqb (length (unclear (a .net) held)) 0))))
+    rw (zeros-told (z .before) (not-false _ (z .if1 .left)), narrow, number) (sym (and-true (not (eqb (length (unclear (a .net) held)) 0))))
 
 pub holds-first-answers-spec : {M : Type 1} → statement M
 holds-first-answers-spec =
