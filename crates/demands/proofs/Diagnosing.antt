@@ -16,13 +16,8 @@ use Rattle.diagnosis.specs.Diagnosis.{Row14, DiagnosisRows, diagnosis-answer}
 use Rattle.diagnosis.specs.Open.{open-diagnosis}
 use Rattle.diagnosis.proofs.Answering.{diagnosis-by-table, diagnosis-determined, passed-apart}
 use Rattle.demands.specs.Demand2.{DiagnosisProgram, EarlierRows, Diagnoses, OpenAndShort, Demand2}
-use Rattle.demands.proofs.Responding.{our-response, responds}
-
--- what the call's contract says that it returns, and leaves in the list
-abbrev pub our-diagnosis : DiagnosisProgram
-our-diagnosis net k vectors responses lent =
-    let answer = diagnosis-answer net k vectors responses (length lent) in
-    record { returned = count-of answer; list = lent-after answer lent }
+use Rattle.demands.specs.Programs.{our-response, our-diagnosis}
+use Rattle.demands.proofs.Responding.{responds}
 
 module _ (net : Network) (k : ℕ) (vectors responses lent : List ℕ) where
   -- a state into the list: the list then begins with it

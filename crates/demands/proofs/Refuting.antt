@@ -17,9 +17,11 @@ use Rattle.checker.specs.Check.{check-answer}
 use Rattle.demands.specs.Demand2.{ResponseProgram, Responds, DiagnosisProgram, Diagnoses}
 use Rattle.demands.specs.Demand3.{CheckProgram, Judged, Checks}
 use Rattle.demands.specs.Refuted.{passes-all-sets, shows-one-pair, refuses-every-set, writes-nothing, drops-tail, writes-when-refused, refuses-every-state, says-14, reads-nothing-back, accepts-conflicts, refuses-every-response, Refuted}
-use Rattle.demands.proofs.Responding.{our-response, responds, response-determined}
-use Rattle.demands.proofs.Diagnosing.{our-diagnosis, diagnoses, diagnosis-determined-program}
+use Rattle.demands.specs.Programs.{our-response, our-diagnosis}
+use Rattle.demands.proofs.Responding.{responds, response-determined}
+use Rattle.demands.proofs.Diagnosing.{diagnoses, diagnosis-determined-program}
 use Rattle.demands.proofs.Checking.{checks, pair-not-one}
+use Rattle.demands.proofs.RefutingSessions.{guessed, counted-itself, refuses-begins, uncounted, no-vectors}
 
 -- two nets, class 2
 abbrev two : Network
@@ -135,4 +137,9 @@ refuted = record {
   state-not-written = state-not-written;
   conflicts-accepted = conflicts-accepted;
   refuses-responses = refuses-responses;
+  guessed = guessed;
+  counted-itself = counted-itself;
+  refuses-begins = refuses-begins;
+  uncounted = uncounted;
+  no-vectors = no-vectors;
 }

@@ -3,19 +3,13 @@ use mathlib.Core.Path.{_≡_, refl}
 use mathlib.Core.List.{List}
 use Prim.Native.Nat.{ℕ}
 use lib.ListN.{length}
-use Rattle.words.specs.Answers.{lent-after, count-of}
 use Rattle.words.proofs.Answers.{fills-determined}
 use Rattle.network.specs.declared.Network.{Network}
 use Rattle.network.specs.Reading.{Response}
 use Rattle.network.specs.Respond.{ResponseRows, response-answer}
 use Rattle.network.proofs.Respond.{response-by-table, response-answer-determined}
 use Rattle.demands.specs.Demand2.{ResponseProgram, Responds}
-
--- what the call's contract says that it returns, and leaves in the list
-abbrev pub our-response : ResponseProgram
-our-response net k vectors state lent =
-    let answer = response-answer net k vectors state (length lent) in
-    record { returned = count-of answer; list = lent-after answer lent }
+use Rattle.demands.specs.Programs.{our-response}
 
 pub responds : Responds our-response
 responds net k vectors state lent = record {

@@ -1,16 +1,36 @@
 -- The starred cases and the bounds, by computation; and that nothing is left open.
-use mathlib.Core.Path.{refl}
+use Prim.Native.Nat.{ℕ}
+use mathlib.Core.Path.{_≡_, refl, subst₂}
+use mathlib.Core.List.{List, [], _∷_}
+use Rattle.session.specs.declared.Session.{Session}
+use Rattle.session.specs.Record.{finished}
+use Rattle.session.specs.Open.{open-session}
+use Rattle.demands.specs.SessionCalls.{History, finished-second, history, record-after, OnlyFit}
+use Rattle.demands.specs.Demand3.{Ended}
+use Rattle.demands.specs.Programs.{our-sessions}
+use Rattle.demands.proofs.Laws.{Laws}
+use Rattle.demands.proofs.Sessions.{sessions}
 use Rattle.diagnosis.specs.Open.{open-diagnosis}
 use Rattle.demands.specs.Determined.{Determined}
-use Rattle.demands.specs.Starred.{Starred}
+use Rattle.demands.specs.Starred.{four, junk, four-calls, Starred}
 use Rattle.demands.specs.Boundary.{Boundary}
 use Rattle.demands.proofs.Responding.{response-determined}
 use Rattle.demands.proofs.Diagnosing.{diagnosis-determined-program}
 use Rattle.demands.proofs.Checking.{check-determined-program}
+use Rattle.demands.proofs.SessionsAlike.{sessions-determined}
 
-pub starred : Starred
-unfolding open-diagnosis
-starred = record {
+-- demand 3's theorem at the end of the starred session
+abbrev ended-history : History
+ended-history = finished-second four (11 ∷ 5 ∷ 6 ∷ 8 ∷ []) (15 ∷ 7 ∷ 7 ∷ 12 ∷ []) (0 ∷ 1 ∷ 2 ∷ 4 ∷ []) (4 ∷ 7 ∷ 7 ∷ 4 ∷ [])
+
+four-ended : Laws → history our-sessions junk four-calls ≡ ended-history → record-after our-sessions junk four-calls ≡ finished four (3 ∷ 3 ∷ 0 ∷ 8 ∷ []) 8
+    → OnlyFit ended-history (3 ∷ 3 ∷ 0 ∷ 8 ∷ [])
+four-ended laws h r =
+    subst₂ (λ (x : History) (s : Session). Ended x s) h r (sessions laws junk four-calls .ended) .state
+
+pub starred : Laws → Starred
+unfolding open-session
+starred laws = record {
   walking = refl;
   no-extra-vector = refl;
   no-vector-of-net-3 = refl;
@@ -25,6 +45,12 @@ starred = record {
   second-answers = refl;
   and-back = refl;
   no-state = refl;
+  session-answers = refl;
+  session-record = refl;
+  session-history = refl;
+  session-state = four-ended laws refl refl;
+  sound-pair = refl;
+  floating-pair = refl;
 }
 
 pub boundary : Boundary
@@ -58,4 +84,4 @@ boundary = record {
 }
 
 pub determined : Determined
-determined = record { response = response-determined; check = check-determined-program; diagnosis = diagnosis-determined-program }
+determined = record { response = response-determined; check = check-determined-program; diagnosis = diagnosis-determined-program; session = sessions-determined }

@@ -7,11 +7,32 @@ use Rattle.network.specs.declared.Network.{Network}
 use Rattle.network.specs.Rows.{SetRows}
 use Rattle.checker.specs.Rule.{Rule}
 use Rattle.demands.specs.Demand2.{ResponseProgram, Responds, DiagnosisProgram, Diagnoses}
-use Rattle.demands.specs.Demand3.{CheckProgram}
+use Rattle.session.specs.declared.Session.{Session}
+use Rattle.demands.specs.SessionCalls.{Call, begin, SessionProgram, History, none, waits-first, waits-second, finished-first, finished-second, LeftBy}
+use Rattle.demands.specs.Demand3.{CheckProgram, Sessions}
 
 -- refused by the first row that holds, or the verdict of document 01's rule
 abbrev pub ChecksByRule : CheckProgram → Type 0
 ChecksByRule program = (net : Network) (k : ℕ) (vectors : List ℕ) → ByTable (SetRows net k vectors) (Rule net k vectors) (program net k vectors)
+
+-- two calls that answer and write the same
+abbrev pub DidAlike : SessionProgram → SessionProgram → Session → Session → Call → Type 0
+DidAlike p q s u call = (p s call .answer ≡ q u call .answer) × (p s call .list ≡ q u call .list)
+
+abbrev pub IsFinished : History → Type 0
+IsFinished none = ⊥
+IsFinished (waits-first net v1) = ⊥
+IsFinished (waits-second net v1 r1 v2) = ⊥
+IsFinished (finished-first net v1 r1 v2) = Unit {0}
+IsFinished (finished-second net v1 r1 v2 r2) = Unit {0}
+
+-- A record's step numbers and what it keeps between the calls are left to the program; all else is not.
+pub record SessionsDetermined (p q : SessionProgram) : Type 0 where
+  -- begin takes any record; the other calls go by the session that leaves the record
+  pub begins : (s u : Session) (net : Network) (list : List ℕ) → DidAlike p q s u (begin net list)
+  pub in-session : (h : History) (s u : Session) (call : Call) → LeftBy p h s → LeftBy q h u → DidAlike p q s u call
+  pub reported : (h : History) (s u : Session) → LeftBy p h s → LeftBy q h u → IsFinished h
+      → (s .network ≡ u .network) × (s .reaches ≡ u .reaches) × (s .spent ≡ u .spent)
 
 pub record Determined : Type 0 where
   pub response : (p q : ResponseProgram) → Responds p → Responds q → (net : Network) (k : ℕ) (vectors state lent : List ℕ)
@@ -19,3 +40,4 @@ pub record Determined : Type 0 where
   pub check : (p q : CheckProgram) → ChecksByRule p → ChecksByRule q → (net : Network) (k : ℕ) (vectors : List ℕ) → p net k vectors ≡ q net k vectors
   pub diagnosis : (p q : DiagnosisProgram) → Diagnoses p → Diagnoses q → (net : Network) (k : ℕ) (vectors responses lent : List ℕ)
       → p net k vectors responses lent ≡ q net k vectors responses lent
+  pub session : (p q : SessionProgram) → Sessions p → Sessions q → SessionsDetermined p q

@@ -1,5 +1,8 @@
 pub mod Demand2
+pub mod SessionCalls
 pub mod Demand3
+pub mod SessionRecords
+pub mod Programs
 pub mod Determined
 pub mod Refuted
 pub mod Starred

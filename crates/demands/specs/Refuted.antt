@@ -1,6 +1,8 @@
 -- Wrong programs that the demands shut out.
 use Prim.Native.Nat.{ℕ}
-use mathlib.Core.List.{List, _++_, map}
+use mathlib.Core.Bool.{true, false, cond}
+use mathlib.Core.List.{List, [], _∷_, _++_, map}
+use lib.Dec.{eqb}
 use lib.ListN.{length, take, drop}
 use Rattle.words.specs.Answers.{Answer, refused, full, lent-after, count-of}
 use Rattle.network.specs.Respond.{response-answer}
@@ -8,7 +10,13 @@ use Rattle.diagnosis.specs.ReadBack.{read-back}
 use Rattle.diagnosis.specs.Diagnosis.{diagnosis-answer}
 use Rattle.checker.specs.declared.Verdict.the-variants.{Pass, Pair}
 use Rattle.demands.specs.Demand2.{ResponseProgram, Responds, DiagnosisProgram, Diagnoses}
-use Rattle.demands.specs.Demand3.{CheckProgram, Checks}
+use Rattle.network.specs.declared.Network.{Network}
+use Rattle.session.specs.declared.Session.{Session}
+use Rattle.session.specs.Record.{finished, held-answers}
+use Rattle.session.specs.Calls.{stepped, vectors-driven}
+use Rattle.demands.specs.SessionCalls.{Call, begin, first, second, lent, SessionProgram}
+use Rattle.demands.specs.Demand3.{CheckProgram, Checks, Sessions}
+use Rattle.demands.specs.Programs.{our-answer, our-sessions}
 
 -- ---- checkers
 
@@ -65,6 +73,60 @@ accepts-conflicts net k vectors responses lent =
 abbrev pub refuses-every-response : ℕ → DiagnosisProgram
 refuses-every-response number net k vectors responses lent = record { returned = refused number; list = lent }
 
+-- ---- sessions
+
+-- the state is guessed from the first answers, whatever the second ones are
+abbrev pub guesses : (Network → List ℕ → List ℕ) → SessionProgram
+guesses guess session (begin net list) = our-sessions session (begin net list)
+guesses guess session (first answers list) = our-sessions session (first answers list)
+guesses guess session (second answers) = record {
+  answer = our-answer session (second answers);
+  list = [];
+  session = stepped (our-answer session (second answers))
+      (finished (session .network) (guess (session .network) (held-answers session)) (length (vectors-driven session))) session .session;
+}
+
+-- a finished record holds a count of the program's own
+abbrev pub recounted : ℕ → Session → Session
+recounted count session = record {
+  step = session .step;
+  network = session .network;
+  first = session .first;
+  reaches = session .reaches;
+  spent = cond (eqb (session .step) 3) count (session .spent);
+}
+
+abbrev pub counts-itself : ℕ → SessionProgram
+counts-itself count session call = record {
+  answer = our-answer session call;
+  list = our-sessions session call .list;
+  session = recounted count (our-sessions session call .session);
+}
+
+abbrev pub refuses-every-begin : ℕ → SessionProgram
+refuses-every-begin number session (begin net list) = record { answer = refused number; list = list; session = session }
+refuses-every-begin number session (first answers list) = our-sessions session (first answers list)
+refuses-every-begin number session (second answers) = our-sessions session (second answers)
+
+-- a vector is written though no net is unclear, and is not counted
+abbrev pub one-more : Answer (List ℕ) → Answer (List ℕ)
+one-more (refused number) = refused number
+one-more (full []) = full (0 ∷ [])
+one-more (full (word ∷ words)) = full (word ∷ words)
+
+abbrev pub writes-uncounted : SessionProgram
+writes-uncounted session (begin net list) = our-sessions session (begin net list)
+writes-uncounted session (first answers list) = record {
+  answer = one-more (our-answer session (first answers list));
+  list = lent-after (one-more (our-answer session (first answers list))) list;
+  session = our-sessions session (first answers list) .session;
+}
+writes-uncounted session (second answers) = our-sessions session (second answers)
+
+-- the list is left as lent
+abbrev pub writes-no-vectors : SessionProgram
+writes-no-vectors session call = record { answer = our-answer session call; list = lent call; session = our-sessions session call .session }
+
 pub record Refuted : Type 0 where
   pub passes-all : ¬ (Checks passes-all-sets)
   pub one-pair : (a b : ℕ) → ¬ (Checks (shows-one-pair a b))
@@ -77,3 +139,8 @@ pub record Refuted : Type 0 where
   pub state-not-written : ¬ (Diagnoses reads-nothing-back)
   pub conflicts-accepted : ¬ (Diagnoses accepts-conflicts)
   pub refuses-responses : (number : ℕ) → ¬ (Diagnoses (refuses-every-response number))
+  pub guessed : (guess : Network → List ℕ → List ℕ) → ¬ (Sessions (guesses guess))
+  pub counted-itself : (count : ℕ) → ¬ (Sessions (counts-itself count))
+  pub refuses-begins : (number : ℕ) → ¬ (Sessions (refuses-every-begin number))
+  pub uncounted : ¬ (Sessions writes-uncounted)
+  pub no-vectors : ¬ (Sessions writes-no-vectors)

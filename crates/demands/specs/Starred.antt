@@ -1,13 +1,19 @@
 -- Document 01's starred cases, as one table of facts about the definitions that the contracts cite.
 use Prim.Native.Nat.{ℕ}
 use mathlib.Core.Path.{_≡_}
-use mathlib.Core.List.{List, [], _∷_}
+use mathlib.Core.List.{List, [], _∷_, _++_}
+use lib.ListN.{replicate}
 use Rattle.words.specs.Answers.{Answer, refused, full}
+use Rattle.network.specs.declared.Network.{Network}
 use Rattle.network.specs.Respond.{response-answer}
 use Rattle.checker.specs.declared.Verdict.{Verdict}
 use Rattle.checker.specs.declared.Verdict.the-variants.{Pass, Pair}
 use Rattle.checker.specs.Check.{check-answer}
 use Rattle.diagnosis.specs.Diagnosis.{diagnosis-answer}
+use Rattle.session.specs.declared.Session.{Session}
+use Rattle.session.specs.Record.{finished}
+use Rattle.demands.specs.SessionCalls.{Call, begin, first, second, finished-second, record-after, history, OnlyFit}
+use Rattle.demands.specs.Programs.{our-answer, our-sessions}
 
 -- *check*: the answer for n, k and the vectors
 abbrev pub check : ℕ → ℕ → List ℕ → Answer Verdict
@@ -24,6 +30,47 @@ diagnose n vectors responses = diagnosis-answer (record { nets = n }) n vectors 
 -- source document 004, table II
 abbrev pub table-II : List ℕ
 table-II = 34 ∷ 9 ∷ 49 ∷ 6 ∷ 76 ∷ 86 ∷ 96 ∷ []
+
+-- ---- sessions
+
+abbrev pub two : Network
+two = record { nets = 2 }
+
+abbrev pub four : Network
+four = record { nets = 4 }
+
+-- a record that no accepted calls leave, with something in every field
+abbrev pub junk : Session
+junk = record { step = 7; network = record { nets = 9 }; first = replicate 8 5; reaches = replicate 48 3; spent = 4 }
+
+-- the answers to a list of calls, in order
+abbrev pub answers-to : Session → List Call → List (Answer (List ℕ))
+answers-to session [] = []
+answers-to session (call ∷ calls) = our-answer session call ∷ answers-to (our-sessions session call .session) calls
+
+-- four nets and the state 3 3 0 8, with refused calls before and between
+abbrev pub four-calls : List Call
+four-calls =
+    second (4 ∷ 7 ∷ 7 ∷ 4 ∷ [])
+    ∷ begin (record { nets = 49 }) (9 ∷ 9 ∷ 9 ∷ 9 ∷ [])
+    ∷ begin four (9 ∷ 9 ∷ 9 ∷ [])
+    ∷ begin four (9 ∷ 9 ∷ 9 ∷ 9 ∷ 9 ∷ [])
+    ∷ second (4 ∷ 7 ∷ 7 ∷ 4 ∷ [])
+    ∷ first (15 ∷ 7 ∷ 7 ∷ []) (9 ∷ 9 ∷ 9 ∷ 9 ∷ [])
+    ∷ first (15 ∷ 7 ∷ 7 ∷ 16 ∷ []) (9 ∷ 9 ∷ 9 ∷ 9 ∷ [])
+    ∷ first (15 ∷ 7 ∷ 7 ∷ 12 ∷ []) (9 ∷ 9 ∷ 9 ∷ [])
+    ∷ first (15 ∷ 7 ∷ 7 ∷ 12 ∷ []) (9 ∷ 9 ∷ 9 ∷ 9 ∷ [])
+    ∷ first (15 ∷ 7 ∷ 7 ∷ 12 ∷ []) (9 ∷ 9 ∷ 9 ∷ 9 ∷ [])
+    ∷ second (4 ∷ 7 ∷ 7 ∷ [])
+    ∷ second (4 ∷ 7 ∷ 7 ∷ 16 ∷ [])
+    ∷ second (4 ∷ 7 ∷ 7 ∷ 12 ∷ [])
+    ∷ second (4 ∷ 7 ∷ 7 ∷ 4 ∷ [])
+    ∷ second (4 ∷ 7 ∷ 7 ∷ 4 ∷ [])
+    ∷ []
+
+-- two nets and these first answers
+abbrev pub two-calls : List ℕ → List Call
+two-calls answers = begin two (9 ∷ 9 ∷ []) ∷ first answers (9 ∷ 9 ∷ 9 ∷ []) ∷ []
 
 pub record Starred : Type 0 where
   -- walking ones with vector 0, without it, and without one of them
@@ -46,3 +93,30 @@ pub record Starred : Type 0 where
   -- and back; and a response that no state gives
   pub and-back : diagnose 4 (0 ∷ 1 ∷ 2 ∷ 4 ∷ 8 ∷ []) (4 ∷ 7 ∷ 7 ∷ 4 ∷ 12 ∷ []) ≡ full (3 ∷ 3 ∷ 0 ∷ 8 ∷ [])
   pub no-state : diagnose 4 (0 ∷ 1 ∷ 2 ∷ 4 ∷ 8 ∷ []) (4 ∷ 7 ∷ 7 ∷ 4 ∷ 4 ∷ []) ≡ refused 14
+  -- a session of four nets: what the calls answer, the record they leave, and the session as the calls tell it
+  pub session-answers : answers-to junk four-calls
+      ≡ refused 4
+      ∷ refused 5
+      ∷ refused 12
+      ∷ full (11 ∷ 5 ∷ 6 ∷ 8 ∷ [])
+      ∷ refused 4
+      ∷ refused 9
+      ∷ refused 10
+      ∷ refused 12
+      ∷ full (0 ∷ 1 ∷ 2 ∷ 4 ∷ [])
+      ∷ refused 4
+      ∷ refused 9
+      ∷ refused 10
+      ∷ refused 14
+      ∷ full []
+      ∷ refused 4
+      ∷ []
+  pub session-record : record-after our-sessions junk four-calls ≡ finished four (3 ∷ 3 ∷ 0 ∷ 8 ∷ []) 8
+  pub session-history : history our-sessions junk four-calls
+      ≡ finished-second four (11 ∷ 5 ∷ 6 ∷ 8 ∷ []) (15 ∷ 7 ∷ 7 ∷ 12 ∷ []) (0 ∷ 1 ∷ 2 ∷ 4 ∷ []) (4 ∷ 7 ∷ 7 ∷ 4 ∷ [])
+  -- demand 3 applied to it
+  pub session-state : OnlyFit (finished-second four (11 ∷ 5 ∷ 6 ∷ 8 ∷ []) (15 ∷ 7 ∷ 7 ∷ 12 ∷ []) (0 ∷ 1 ∷ 2 ∷ 4 ∷ []) (4 ∷ 7 ∷ 7 ∷ 4 ∷ []))
+      (3 ∷ 3 ∷ 0 ∷ 8 ∷ [])
+  -- two nets: sound; both floating
+  pub sound-pair : record-after our-sessions junk (two-calls (1 ∷ 2 ∷ [])) ≡ finished two (1 ∷ 2 ∷ []) 2
+  pub floating-pair : record-after our-sessions junk (two-calls (3 ∷ 3 ∷ []) ++ second (3 ∷ 3 ∷ 3 ∷ []) ∷ []) ≡ finished two (0 ∷ 0 ∷ []) 5

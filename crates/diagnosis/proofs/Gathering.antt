@@ -20,6 +20,8 @@ use Rattle.network.specs.Reading.{walking-vector, extra-vector, reads, sequenti
 use Rattle.network.proofs.Reading.{reads-floating, reads-walking, reads-extra, has-sequential}
 use Rattle.checker.specs.declared.Verdict.the-variants.{Pass}
 use Rattle.checker.specs.Rule.{FullRule, Rule}
+use Rattle.diagnosis.specs.ReadBack.{OnlyAnswer}
+use Rattle.diagnosis.specs.Walking.{Gathered, Walked}
 
 -- the trailing zeros of a walking vector are its net
 pub walking-names : (net : Network) (vector i : ℕ) → net .nets ≤ 48 → i < net .nets → vector ≡ walking-vector net i → trailingZeros 64 vector ≡ i
@@ -39,13 +41,6 @@ names-one net vector j most l name e inside = (
   inside,
   λ i m. (λ h. e ∙ ap (walking-vector net) (has-only j i h), λ q. ap (λ (x : ℕ). has (2 ^ x) i) (sym name ∙ walking-names net vector i most m q) ∙ has-own i),
 )
-
--- what the first t answers show: no answer of 1 to the extra vector, and the drivers whose walking vectors were answered with 1
-pub record Gathered (net : Network) (vectors : List ℕ) (answered t reach : ℕ) : Type 0 where
-  pub inside : reach < 2 ^ (net .nets)
-  pub driven : (u : ℕ) → u < t → has answered u ≡ true → at vectors u ≢ extra-vector net
-  pub sound : (j : ℕ) → j < net .nets → has reach j ≡ true → (u : ℕ) × (u < t) × (at vectors u ≡ walking-vector net j) × (has answered u ≡ true)
-  pub complete : (j u : ℕ) → j < net .nets → u < t → at vectors u ≡ walking-vector net j → has answered u ≡ true → has reach j ≡ true
 
 module _ (net : Network) (vectors : List ℕ) (answered : ℕ) where
   pub gathered-first : Gathered net vectors answered 0 0
@@ -88,21 +83,25 @@ module _ (net : Network) (vectors : List ℕ) (answered : ℕ) where
     answer-at : (t : ℕ) → t < length vectors → reads net set (at vectors t) ≡ has answered t
     answer-at t l = sym (has-sequential net vectors set t l) ∙ ap (λ (w : ℕ). has w t) reads-so
 
-    pub floats : (t : ℕ) → t < length vectors → at vectors t ≡ extra-vector net → has answered t ≡ true → set ≡ 0
+    floats : (t : ℕ) → t < length vectors → at vectors t ≡ extra-vector net → has answered t ≡ true → set ≡ 0
     floats t l e on = eqb-true set 0 (sym (reads-extra net set) ∙ ap (reads net set) (sym e) ∙ answer-at t l ∙ on)
 
-    pub gathered-is : (reach : ℕ) → FullRule net vectors Pass → set < 2 ^ (net .nets) → Gathered net vectors answered (length vectors) reach → set ≡ reach
-    gathered-is reach (extra, walking) inside g =
+  -- the set is the one shown, if the extra vector and the walking vectors of its drivers are among the vectors
+  module _ (set reach : ℕ) (reads-so : sequential-response net vectors set ≡ answered) (inside : set < 2 ^ (net .nets))
+      (extra : (t : ℕ) × (t < length vectors) × (at vectors t ≡ extra-vector net))
+      (walking : (j : ℕ) → j < net .nets → has set j ≡ true → (t : ℕ) × (t < length vectors) × (at vectors t ≡ walking-vector net j)) where
+    gathered-is : Gathered net vectors answered (length vectors) reach → set ≡ reach
+    gathered-is g =
         words-equal (net .nets) set reach inside (g .inside)
-        (λ j l. same-truth (has set j) (has reach j) (λ e. to j l e (walking j l)) (λ e. back j l (g .sound j l e)))
+        (λ j l. same-truth (has set j) (has reach j) (λ e. to j l e (walking j l e)) (λ e. back j l (g .sound j l e)))
       where
         driven : set ≢ 0
         driven e =
             g .driven (extra .0) (extra .1)
-            (sym (answer-at (extra .0) (extra .1)) ∙ ap (λ (x : ℕ). reads net x (at vectors (extra .0))) e ∙ reads-floating net (at vectors (extra .0))) (extra .2)
+            (sym (answer-at set reads-so (extra .0) (extra .1)) ∙ ap (λ (x : ℕ). reads net x (at vectors (extra .0))) e ∙ reads-floating net (at vectors (extra .0))) (extra .2)
 
         at-walking : (j u : ℕ) → j < net .nets → u < length vectors → at vectors u ≡ walking-vector net j → has answered u ≡ has set j
-        at-walking j u l m w = sym (answer-at u m) ∙ ap (reads net set) w ∙ reads-walking net set j l driven
+        at-walking j u l m w = sym (answer-at set reads-so u m) ∙ ap (reads net set) w ∙ reads-walking net set j l driven
 
         to : (j : ℕ) → j < net .nets → has set j ≡ true → (t : ℕ) × (t < length vectors) × (at vectors t ≡ walking-vector net j) → has reach j ≡ true
         to j l e (t, m, w) = g .complete j t l m w (at-walking j t l m w ∙ e)
@@ -110,7 +109,17 @@ module _ (net : Network) (vectors : List ℕ) (answered : ℕ) where
         back : (j : ℕ) → j < net .nets → (u : ℕ) × (u < length vectors) × (at vectors u ≡ walking-vector net j) × (has answered u ≡ true) → has set j ≡ true
         back j l (u, m, w, e) = sym (at-walking j u l m w) ∙ e
 
+    pub walked-is : Walked net vectors answered reach → set ≡ reach
+    walked-is (inl (t, l, e, on, none)) = floats set reads-so t l e on ∙ sym none
+    walked-is (inr g) = gathered-is g
+
 -- for k = n the rule is the one for k = n
 pub full-of-rule : (net : Network) (vectors : List ℕ) → Rule net (net .nets) vectors Pass → FullRule net vectors Pass
 full-of-rule net vectors (inl (e, r)) = r
 full-of-rule net vectors (inr (e, r)) = absurd (e refl)
+
+-- there no other set can have answered so
+pub walked-only : (net : Network) (vectors : List ℕ) (answered reach : ℕ) → FullRule net vectors Pass → Walked net vectors answered reach
+    → OnlyAnswer net (net .nets) vectors answered reach
+walked-only net vectors answered reach (extra, walking) w set d e =
+    walked-is net vectors answered set reach e (d .inside) extra (λ j l on. walking j l) w

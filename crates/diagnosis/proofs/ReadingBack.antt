@@ -3,7 +3,9 @@ use mathlib.Core.Path.{_≡_, sym, ap, _∙_, subst}
 use mathlib.Core.Bool.{Bool, true, false, not, _&&_, false≢true}
 use mathlib.Core.Logic.{⊎-elim}
 use mathlib.Core.List.{List}
-use Prim.Native.Nat.{ℕ, _^_, _<_, zero-le}
+use Prim.Native.Nat.{ℕ, _^_, _≤_, _<_, zero-le}
+use native.Mathlib.Nat.{le-refl}
+use native.Mathlib.Omega.{arith}
 use lib.Dec.{eqb}
 use lib.ListN.{length}
 use lib.Seq.{ext-getD}
@@ -19,7 +21,7 @@ use Rattle.words.proofs.Searching.{Least, first, nowhere, least-below, any-none
 use Rattle.words.proofs.Bits.{words-equal}
 use Rattle.words.proofs.Columns.{length-tabulate, tabulate-at, column-below, has-column}
 use Rattle.network.specs.declared.Network.{Network}
-use Rattle.network.specs.Reading.{reads, sequential-response, response}
+use Rattle.network.specs.Reading.{reads, ReadAlike, sequential-response, response}
 use Rattle.network.specs.States.{DriverSet, State, Fits, few-drivers, has-conflict}
 use Rattle.network.proofs.Reading.{decides-reads, has-sequential, sequential-below, sequential-alike, response-is, response-determined}
 use Rattle.network.proofs.States.{few-drivers-at, few-drivers-of, no-conflict, conflict-free}
@@ -127,11 +129,12 @@ module _ (net : Network) (k : ℕ) (vectors responses : List ℕ) where
           × (sequential-response net vectors (or-zero (reach-read net k vectors (column responses i))) ≡ column responses i)
       each i l = explained i (not-false _ (any-false (λ j. not (is-found (reach-read net k vectors (column responses j)))) (net .nets) i l (parts .0)))
 
-  -- sets apart: a state that fits is what is read back
-  pub fits-read-back : length responses ≡ length vectors → SetsApart net k vectors → (state : List ℕ) → Fits net k vectors responses state
+  -- a state that fits is what is read back, if each of its reaches is the smallest set that reads so
+  pub smallest-read-back : length responses ≡ length vectors → (state : List ℕ) → Fits net k vectors responses state
+      → ((i set : ℕ) → i < net .nets → DriverSet net k set → ReadAlike net vectors set (at state i) → at state i ≤ set)
       → (no-state-fits net k vectors responses ≡ false) × (read-back net k vectors responses ≡ state)
   unfolding no-state-fits is-found reach-test
-  fits-read-back size apart state h = (rw (none, free), same)
+  smallest-read-back size state h smallest = (rw (none, free), same)
     where
       inside : (i : ℕ) → i < net .nets → i < length state
       inside i l = rw (h .of-class .size) l
@@ -147,10 +150,12 @@ module _ (net : Network) (k : ℕ) (vectors responses : List ℕ) where
           go : (s : Search) → Least (reach-test i) 0 (2 ^ (net .nets)) s → s ≡ Found (at state i)
           go (Found set) (first x y z w) =
               let d : DriverSet net k set = record { inside = y; few = few-drivers-at net k set (and-left (few-drivers net k set) _ z) } in
-              ap Found
-              (apart set (at state i) d (h .of-class .reach i (inside i l))
-              (sequential-alike net vectors set (at state i)
-              (eqb-true _ _ (and-right (few-drivers net k set) _ z) ∙ sym (fits-answers net vectors responses size k state h i (inside i l)))))
+              let alike : ReadAlike net vectors set (at state i) =
+              sequential-alike net vectors set (at state i)
+              (eqb-true _ _ (and-right (few-drivers net k set) _ z) ∙ sym (fits-answers net vectors responses size k state h i (inside i l))) in
+              let up : at state i ≤ set = smallest i set l d alike in
+              let down : at state i < set → ⊥ = λ m. contrary passes (w (at state i) zero-le m) in
+              let q : set ≡ at state i = omega (arith, up, down) in ap Found q
           go Missing (nowhere w) = contrary passes (w (at state i) zero-le (h .of-class .reach i (inside i l) .inside))
 
       same : read-back net k vectors responses ≡ state
@@ -163,6 +168,13 @@ module _ (net : Network) (k : ℕ) (vectors responses : List ℕ) where
 
       free : has-conflict net (read-back net k vectors responses) ≡ false
       free = ap (has-conflict net) same ∙ conflict-free net state (h .of-class .meet-only-if-equal)
+
+  -- as it is where sets are told apart
+  pub fits-read-back : length responses ≡ length vectors → SetsApart net k vectors → (state : List ℕ) → Fits net k vectors responses state
+      → (no-state-fits net k vectors responses ≡ false) × (read-back net k vectors responses ≡ state)
+  fits-read-back size apart state h =
+      smallest-read-back size state h
+      (λ i set l d alike. rw (apart set (at state i) d (h .of-class .reach i (rw (h .of-class .size) l)) alike) (le-refl _))
 
   -- the test decides whether some state fits
   pub decides-no-state-fits : length responses ≡ length vectors → ((t : ℕ) → t < length responses → at responses t < 2 ^ (net .nets)) → SetsApart net k vectors

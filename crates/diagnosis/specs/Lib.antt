@@ -1,4 +1,5 @@
 pub mod ReadBack
+pub mod Walking
 pub mod Diagnosis
 pub mod Findings
 pub mod Open

@@ -12,7 +12,7 @@ ghost use Rattle.diagnosis.specs.Diagnosis.{«fit-answer», «diagnosis-
 mod classes;
 pub mod findings;
 pub mod fit;
-mod walking;
+pub mod walking;
 
 use checker::Verdict;
 use network::Admission;

@@ -1,5 +1,6 @@
 // Reading back for k = n: the extra vector tells whether a receiver floats, and the walking vectors which drivers reach it.
-// Helpers: the test set is passed for class n.
+// `walking_reach` needs no more than 48 nets and 64 vectors, and says what the answers show. `walking_reaches` needs a test set that is
+// passed for class n, and gives the only reaches that can have answered so.
 ghost use mathlib.Core.Path.{_≡_};
 ghost use mathlib.Core.Logic.{_↔_};
 ghost use mathlib.Core.Bool.{true};
@@ -8,6 +9,7 @@ ghost use lib.ListN.{length};
 ghost use Rattle.words.specs.Bits.{has, at};
 ghost use Rattle.network.specs.Reading.{«walking-vector»};
 ghost use Rattle.diagnosis.specs.ReadBack.{OnlyAnswer, Passed};
+ghost use Rattle.diagnosis.specs.Walking.{Walked};
 use network::Network;
 use words::Stv;
 
@@ -28,9 +30,9 @@ fn walked_driver(net: Network, vector: u64) -> u64
 }
 
 // The drivers whose walking vectors the receiver answered with 1, or none if it answered so to the extra vector.
-fn walking_reach(net: Network, vectors: &[u64], answered: Stv) -> u64
-    requires { ⌜ Passed net (net .nets) (now vectors) ⌝ }
-    ensures { λ r. ⌜ OnlyAnswer net (net .nets) (now (vectors .entry)) (answered .0) r ⌝ }
+pub fn walking_reach(net: Network, vectors: &[u64], answered: Stv) -> u64
+    requires { ⌜ (net .nets ≤ 48) × (length (now vectors) ≤ 64) ⌝ }
+    ensures { λ r. ⌜ Walked net (now (vectors .entry)) (answered .0) r ⌝ }
 {
     let extra = network::drivers::extra_vector(net);
     let mut reach: u64 = 0;

@@ -1,5 +1,6 @@
 // The two-step session: a record that each accepted call advances.
 pub mod drive;
+mod new_record;
 mod record;
 
 use network::Network;

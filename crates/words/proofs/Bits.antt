@@ -2,7 +2,7 @@
 use mathlib.Core.Path.{_≡_, refl, sym, ap, _∙_}
 use mathlib.Core.Bool.{Bool, true, false, not, _&&_, _||_, true≢false, false≢true}
 use mathlib.Core.Logic.{_≢_}
-use Prim.Native.Nat.{ℕ, zero, suc, _+_, _-_, _*_, _/_, _%_, _^_, _<_, min, max}
+use Prim.Native.Nat.{ℕ, zero, suc, _+_, _-_, _*_, _/_, _%_, _^_, _≤_, _<_, zero-le, min, max}
 use native.Mathlib.Nat.{mod-lt, zero-div, zero-lt-suc, div-one, le-of-suc-le-suc, not-suc-le-zero}
 use native.Mathlib.Numerals.{one-add}
 use native.Mathlib.Omega.{arith}
@@ -61,6 +61,20 @@ has-half w i = ap (λ (x : ℕ). eqb x 1) (bit-half w i)
 pub has-low : (w : ℕ) → has w 0 ≡ eqb (w % 2) 1
 unfolding has
 has-low w = ap (λ (x : ℕ). eqb x 1) (bit-low w)
+
+bit-at-most : (x y : ℕ) → x < 2 → (eqb x 1 ≡ true → eqb y 1 ≡ true) → x ≤ y
+bit-at-most zero y h e = zero-le
+bit-at-most (suc zero) y h e = let q : y ≡ 1 = eqb-true y 1 (e refl) in omega arith
+bit-at-most (suc (suc x)) y h e = absurd (not-suc-le-zero {n = 0} (omega arith))
+
+-- a word whose bits are all in another is at most that other
+pub subset-at-most : (n a b : ℕ) → a < 2 ^ n → ((i : ℕ) → i < n → has a i ≡ true → has b i ≡ true) → a ≤ b
+subset-at-most zero a b ha e = let q : a ≡ 0 = lt-one ha in omega arith
+subset-at-most (suc n) a b ha e =
+    let rest : a / 2 ≤ b / 2 =
+    subset-at-most n (a / 2) (b / 2) (half-below n ha) (λ i l h. sym (has-half b i) ∙ e (suc i) (omega arith) (has-half a i ∙ h)) in
+    let here : a % 2 ≤ b % 2 = bit-at-most (a % 2) (b % 2) (mod-lt a two-positive) (λ h. sym (has-low b) ∙ e 0 (omega arith) (has-low a ∙ h)) in
+    omega arith
 
 -- ---- a word made of its lowest bit and the rest
 

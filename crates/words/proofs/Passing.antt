@@ -11,6 +11,7 @@ use lib.Seq.{getD-at, take-length, take-append-le}
 use Rattle.words.specs.declared.Search.the-variants.{Found, Missing}
 use Rattle.words.specs.Bits.{at, digit}
 use Rattle.words.specs.Searching.{least, passing}
+use Rattle.words.proofs.Bits.{digit-below-two}
 use Rattle.words.proofs.Tests.{cases, less-or-not, and-both, and-false}
 use Rattle.words.proofs.Searching.{least-found, least-missing}
 
@@ -62,6 +63,11 @@ module _ (p : ℕ → Bool) where
   count-grows a zero l = let e : a ≡ 0 = omega arith in rw e (le-refl _)
   count-grows a (suc b) l =
       ⊎-elim (λ e. rw e (le-refl _)) (λ m. omega (arith, count-step p b, count-grows a b (le-of-suc-le-suc m))) (eq-or-lt-of-le l)
+
+  pub count-most : (b : ℕ) → length (passing p b) ≤ b
+  unfolding passing
+  count-most zero = le-refl 0
+  count-most (suc b) = omega (arith, count-step p b, digit-below-two (p b), count-most b)
 
   pub count-passed : (b : ℕ) → p b ≡ true → length (passing p (suc b)) ≡ suc (length (passing p b))
   unfolding digit

@@ -2,12 +2,12 @@ use borrow.Author.Needs.{needs}
 use borrow.Author.Tests.{eq-eqb, ne-eqb}
 use Prim.Native.Nat.{ℕ, _≤_, _-_, _+_}
 use native.Mathlib.Omega.{arith}
-use mathlib.Core.Path.{_≡_, sym, _∙_, subst}
-use mathlib.Core.Logic.{⊎-elim}
+use mathlib.Core.Path.{_≡_, refl, sym, _∙_, subst}
+use mathlib.Core.Logic.{inl, inr, ⊎-elim}
 use lib.ListN.{length}
 use Rattle.words.specs.Bits.{has}
-use Rattle.network.proofs.Rows.{AdmittedSet, admitted-set}
-use Rattle.diagnosis.proofs.Gathering.{Gathered, gathered-first, gathered-skip, gathered-add, gathered-is, floats, full-of-rule}
+use Rattle.diagnosis.specs.Walking.{Gathered}
+use Rattle.diagnosis.proofs.Gathering.{gathered-first, gathered-skip, gathered-add}
 use Rattle.diagnosis.proofs.walking.walking_reach.Statement.{statement}
 use Rattle.diagnosis.proofs.walking.walking_reach.Tie as tie
 
@@ -16,9 +16,6 @@ Inv-loop net vectors answered extra reach₀ t₀ reach t = (t ≤ length vector
 
 abbrev μ-loop : tie.MeasureT-loop
 μ-loop net vectors answered extra reach₀ t₀ reach t = length vectors - t
-
-admitted : (c : tie.Start Inv-loop μ-loop) → AdmittedSet (c .args .net) (c .args .net .nets) (c .args .vectors .now)
-admitted c = admitted-set (c .args .net) (c .args .net .nets) (c .args .vectors .now) (c .pre .0)
 
 extra-vector-requires : tie.Need-extra-vector-requires Inv-loop μ-loop
 extra-vector-requires c κs = search needs
@@ -33,18 +30,22 @@ shared-slice-read-vector : tie.Need-shared-slice-read-vector Inv-loop μ-loop
 shared-slice-read-vector c = search needs
 
 shr-if1 : tie.Need-shr-if1 Inv-loop μ-loop
-shr-if1 c = let s = admitted (c .before .before .before .before .before .before) in omega (arith, s .vectors-most)
+shr-if1 c = omega arith
 
 returns : tie.Need-returns Inv-loop μ-loop
 unfolding has
-returns c set d e =
+returns c =
     let g = c .before .before .before .before .before .before in
-    let a = g .before .before .before .args in
-    floats (a .net) (a .vectors .now) (a .answered .0) set e (g .loop .t) (c .before .before .before .before .before .loop-test .taken)
-    (c .if2 .taken ∙ g .before .extra-vector .ensures) (eq-eqb _ 1 (c .before .before .if1 .taken))
+    inl (
+      g .loop .t,
+      c .before .before .before .before .before .loop-test .taken,
+      c .if2 .taken ∙ g .before .extra-vector .ensures,
+      eq-eqb _ 1 (c .before .before .if1 .taken),
+      refl,
+    )
 
 walked-driver-requires : tie.Need-walked-driver-requires Inv-loop μ-loop
-walked-driver-requires c κs = let s = admitted (c .before .before .before .before .before .before .before .before .before) in s .most
+walked-driver-requires c κs = search needs
 
 add-t : tie.Need-add-t Inv-loop μ-loop
 add-t c = search needs
@@ -69,12 +70,11 @@ loop-again c =
     )
 
 returns-2 : tie.Need-returns-2 Inv-loop μ-loop
-returns-2 c set d e =
+returns-2 c =
     let g = c .before in
     let a = g .before .before .before .args in
     let end : g .loop .t ≡ length (a .vectors .now) = omega arith in
-    gathered-is (a .net) (a .vectors .now) (a .answered .0) set e (g .loop .reach) (full-of-rule (a .net) (a .vectors .now) (g .before .before .before .pre .1)) (d .inside)
-    (subst (λ (x : ℕ). Gathered (a .net) (a .vectors .now) (a .answered .0) x (g .loop .reach)) end (g .loop .inv .1))
+    inr (subst (λ (x : ℕ). Gathered (a .net) (a .vectors .now) (a .answered .0) x (g .loop .reach)) end (g .loop .inv .1))
 
 pub walking-reach-spec : {M : Type 1} → statement M
 walking-reach-spec =

@@ -10,6 +10,7 @@ use Rattle.words.specs.Bits.{at}
 use Rattle.words.proofs.Tests.{less-or-not}
 use Rattle.network.proofs.Rows.{AdmittedSet, admitted-set}
 use Rattle.diagnosis.specs.ReadBack.{OnlyAnswer}
+use Rattle.diagnosis.proofs.Gathering.{walked-only, full-of-rule}
 use Rattle.diagnosis.proofs.walking.walking_reaches.Statement.{statement}
 use Rattle.diagnosis.proofs.walking.walking_reaches.Tie as tie
 
@@ -40,7 +41,7 @@ shared-slice-read-t11 : tie.Need-shared-slice-read-t11 Inv-loop μ-loop
 shared-slice-read-t11 c = omega arith
 
 walking-reach-requires : tie.Need-walking-reach-requires Inv-loop μ-loop
-walking-reach-requires c κs = c .before .before .before .before .before .pre .1
+walking-reach-requires c κs = let s = admitted (c .before .before .before .before .before) in (s .most, s .vectors-most)
 
 mul-reaches : tie.Need-mul-reaches Inv-loop μ-loop
 mul-reaches c = omega arith
@@ -69,7 +70,8 @@ loop-again c =
           (sym (getD-set-other (l .reaches) (l .i) z _ 0 (λ q. omega arith))) (l .inv .4 z b))
           (λ b. let q : z ≡ l .i = omega arith in
           rw q (subst (λ (x : ℕ). OnlyAnswer (a .net) (a .net .nets) (a .vectors .now) (at (a .answers .now) (l .i)) x)
-          (sym (getD-set-same (l .reaches) (l .i) _ 0 room)) (c .walking-reach .ensures))) (less-or-not z (l .i)),
+          (sym (getD-set-same (l .reaches) (l .i) _ 0 room))
+          (walked-only (a .net) (a .vectors .now) (at (a .answers .now) (l .i)) _ (full-of-rule (a .net) (a .vectors .now) (g .before .before .before .pre .1 .1)) (c .walking-reach .ensures)))) (less-or-not z (l .i)),
     )
 
 returns : tie.Need-returns Inv-loop μ-loop

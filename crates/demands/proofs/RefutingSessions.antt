@@ -1,0 +1,82 @@
+-- Each wrong session program fails demand 3 on one short list of calls.
+use Prim.Native.Nat.{ℕ}
+use native.Mathlib.Omega.{arith}
+use mathlib.Core.Path.{_≡_, refl, sym, ap, _∙_, subst}
+use mathlib.Core.Logic.{⊎-elim}
+use mathlib.Core.List.{List, [], _∷_}
+use lib.ListN.{take}
+use Rattle.words.specs.Answers.{NoneHolds}
+use Rattle.words.specs.Bits.{at}
+use Rattle.words.proofs.Answers.{table-not-refused}
+use Rattle.network.specs.declared.Network.{Network}
+use Rattle.network.specs.States.{State}
+use Rattle.network.proofs.States.{test→state}
+use Rattle.steps.specs.FirstStep.{first-vectors}
+use Rattle.session.specs.declared.Session.{Session}
+use Rattle.session.specs.Record.{pad}
+use Rattle.session.specs.Open.{open-session}
+use Rattle.demands.specs.SessionCalls.{Call, begin, first, second, SessionProgram, History, finished-first, finished-second, history, record-after}
+use Rattle.demands.specs.Demand3.{BeginRows, Ended, Sessions}
+use Rattle.demands.specs.Starred.{two, junk}
+use Rattle.demands.specs.Refuted.{guesses, counts-itself, refuses-every-begin, writes-uncounted, writes-no-vectors}
+
+-- a session in which both nets are unclear, with these second answers; and one with none unclear
+abbrev unclear-calls : List ℕ → List Call
+unclear-calls answers = begin two (9 ∷ 9 ∷ []) ∷ first (3 ∷ 3 ∷ []) (9 ∷ 9 ∷ 9 ∷ []) ∷ second answers ∷ []
+
+abbrev clear-calls : List Call
+clear-calls = begin two (9 ∷ 9 ∷ []) ∷ first (1 ∷ 2 ∷ []) (9 ∷ []) ∷ []
+
+-- what the claim says at the end of a list of calls
+ended-so : (program : SessionProgram) → Sessions program → (calls : List Call) (h : History) → history program junk calls ≡ h → Ended h (record-after program junk calls)
+ended-so program claim calls h e = subst (λ (x : History). Ended x (record-after program junk calls)) e (claim junk calls .ended)
+
+-- ---- guesses
+
+-- both float; all is joined
+both-float : State two 2 (0 ∷ 0 ∷ [])
+unfolding open-session
+both-float = test→state two 2 (0 ∷ 0 ∷ []) refl
+
+all-joined : State two 2 (3 ∷ 3 ∷ [])
+unfolding open-session
+all-joined = test→state two 2 (3 ∷ 3 ∷ []) refl
+
+pub guessed : (guess : Network → List ℕ → List ℕ) → ¬ (Sessions (guesses guess))
+unfolding open-session
+guessed guess claim =
+    let told : List ℕ = take 2 (pad 48 (guess two (3 ∷ 3 ∷ []))) in
+    let a = ended-so (guesses guess) claim (unclear-calls (3 ∷ 3 ∷ 3 ∷ [])) (finished-second two (1 ∷ 2 ∷ []) (3 ∷ 3 ∷ []) (0 ∷ 1 ∷ 2 ∷ []) (3 ∷ 3 ∷ 3 ∷ [])) refl in
+    let b = ended-so (guesses guess) claim (unclear-calls (0 ∷ 3 ∷ 3 ∷ [])) (finished-second two (1 ∷ 2 ∷ []) (3 ∷ 3 ∷ []) (0 ∷ 1 ∷ 2 ∷ []) (0 ∷ 3 ∷ 3 ∷ [])) refl in
+    let p : 0 ∷ 0 ∷ [] ≡ told = a .state .only (0 ∷ 0 ∷ []) (both-float, refl, refl) in
+    let q : 3 ∷ 3 ∷ [] ≡ told = b .state .only (3 ∷ 3 ∷ []) (all-joined, refl, refl) in
+    let z : _≡_ {A = ℕ} 0 3 = ap (λ (ws : List ℕ). at ws 0) (p ∙ sym q) in omega arith
+
+-- ---- the others
+
+pub counted-itself : (count : ℕ) → ¬ (Sessions (counts-itself count))
+unfolding open-session
+counted-itself count claim =
+    let a = ended-so (counts-itself count) claim clear-calls (finished-first two (1 ∷ 2 ∷ []) (1 ∷ 2 ∷ []) []) refl in
+    let b = ended-so (counts-itself count) claim (unclear-calls (3 ∷ 3 ∷ 3 ∷ [])) (finished-second two (1 ∷ 2 ∷ []) (3 ∷ 3 ∷ []) (0 ∷ 1 ∷ 2 ∷ []) (3 ∷ 3 ∷ 3 ∷ [])) refl in
+    let p : count ≡ 2 = a .count in
+    let q : count ≡ 5 = b .count in omega arith
+
+pub refuses-begins : (number : ℕ) → ¬ (Sessions (refuses-every-begin number))
+unfolding open-session
+refuses-begins number claim =
+    let free : NoneHolds (BeginRows two (9 ∷ 9 ∷ [])) = (λ r. ⊎-elim (λ l. omega arith) (λ l. omega arith) r, (λ l. omega arith, tt)) in
+    table-not-refused (λ (words : List ℕ). words ≡ first-vectors two) (BeginRows two (9 ∷ 9 ∷ [])) number free
+    (claim junk (begin two (9 ∷ 9 ∷ []) ∷ []) .each [] [] (begin two (9 ∷ 9 ∷ [])) refl .begins two (9 ∷ 9 ∷ []) refl)
+
+pub uncounted : ¬ (Sessions writes-uncounted)
+unfolding open-session
+uncounted claim =
+    let a = ended-so writes-uncounted claim clear-calls (finished-first two (1 ∷ 2 ∷ []) (1 ∷ 2 ∷ []) (0 ∷ [])) refl in
+    let p : _≡_ {A = ℕ} 2 3 = a .count in omega arith
+
+pub no-vectors : ¬ (Sessions writes-no-vectors)
+unfolding open-session
+no-vectors claim =
+    let e : _≡_ {A = List ℕ} (9 ∷ 9 ∷ []) (1 ∷ 2 ∷ []) = claim junk (begin two (9 ∷ 9 ∷ []) ∷ []) .each [] [] (begin two (9 ∷ 9 ∷ [])) refl .list-after in
+    let z : _≡_ {A = ℕ} 9 1 = ap (λ (ws : List ℕ). at ws 0) e in omega arith

@@ -1,0 +1,51 @@
+-- The programs that the demands are proved of: what each call's contract says that it returns, and leaves in the memory lent to it.
+use Prim.Native.Nat.{ℕ}
+use mathlib.Core.List.{List}
+use lib.ListN.{length}
+use Rattle.words.specs.Answers.{Answer, lent-after, count-of}
+use Rattle.network.specs.Respond.{response-answer}
+use Rattle.checker.specs.Check.{check-answer}
+use Rattle.diagnosis.specs.ReadBack.{read-back}
+use Rattle.diagnosis.specs.Diagnosis.{diagnosis-answer}
+use Rattle.steps.specs.SecondStep.{unclear}
+use Rattle.session.specs.declared.Session.{Session}
+use Rattle.session.specs.Record.{awaiting-first, finished}
+use Rattle.session.specs.Calls.{stepped, begin-answer, first-answer, answered-by, second-answer, vectors-driven, all-answers}
+use Rattle.demands.specs.Demand2.{ResponseProgram, DiagnosisProgram}
+use Rattle.demands.specs.SessionCalls.{Call, begin, first, second, lent, SessionProgram}
+use Rattle.demands.specs.Demand3.{CheckProgram}
+
+abbrev pub our-response : ResponseProgram
+our-response net k vectors state lent =
+    let answer = response-answer net k vectors state (length lent) in
+    record { returned = count-of answer; list = lent-after answer lent }
+
+abbrev pub our-check : CheckProgram
+our-check net k vectors = check-answer net k vectors
+
+abbrev pub our-diagnosis : DiagnosisProgram
+our-diagnosis net k vectors responses lent =
+    let answer = diagnosis-answer net k vectors responses (length lent) in
+    record { returned = count-of answer; list = lent-after answer lent }
+
+-- ---- the session's calls
+
+abbrev pub our-answer : Session → Call → Answer (List ℕ)
+our-answer session (begin net list) = begin-answer net (length list)
+our-answer session (first answers list) = first-answer session answers (length list)
+our-answer session (second answers) = second-answer session answers
+
+-- the record after the call, if it is accepted
+abbrev pub our-new : Session → Call → Session
+our-new session (begin net list) = awaiting-first net
+our-new session (first answers list) = answered-by (session .network) answers (unclear (session .network) answers)
+our-new session (second answers) =
+    finished (session .network) (read-back (session .network) (session .network .nets) (vectors-driven session) (all-answers session answers))
+    (length (vectors-driven session))
+
+abbrev pub our-sessions : SessionProgram
+our-sessions session call = record {
+  answer = our-answer session call;
+  list = lent-after (our-answer session call) (lent call);
+  session = stepped (our-answer session call) (our-new session call) session .session;
+}
