@@ -4,7 +4,9 @@ ghost use lib.ListN.{length};
 ghost use Rattle.words.specs.Answers.{«lent-after»};
 ghost use Rattle.session.specs.Calls.{«begin-answer», begun};
 
+pub mod drive;
 mod new_record;
+mod record;
 
 use network::Network;
 
