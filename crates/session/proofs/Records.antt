@@ -16,8 +16,10 @@ use Rattle.words.proofs.Tests.{and-left, and-right, and-both, and-false}
 use Rattle.words.proofs.Searching.{any-at, any-none, any-false}
 use Rattle.network.specs.declared.Network.{Network}
 use Rattle.network.specs.Rows.{bad-net-count, has-high-bit}
+use Rattle.network.proofs.Rows.{decides-row-5, nets-admitted}
 use Rattle.steps.specs.FirstStep.{word-length}
 use Rattle.steps.specs.SecondStep.{unclear}
+use Rattle.steps.proofs.StepOneWords.{length-bounds}
 use Rattle.session.specs.declared.Session.{Session}
 use Rattle.session.specs.Record.{first-answers-held, pad, awaiting-first, awaiting-second, is-zeros, all-hold, held-answers, awaits-first, awaits-second}
 
@@ -110,28 +112,6 @@ module _ (s : Session) (e : awaits-first s ≡ true) where
 
 -- ---- a record that waits for second answers
 
-hold-three : (a b c : Bool) (tests : List Bool) → all-hold (a ∷ b ∷ c ∷ tests) ≡ all-hold (a ∷ b ∷ c ∷ []) && all-hold tests
-unfolding all-hold
-hold-three true true true tests = refl
-hold-three true true false tests = refl
-hold-three true false c tests = refl
-hold-three false b c tests = refl
-
--- the tests of an array of 8 entries, in the order in which the code asks them
-pub awaits-second-by : (s : Session) → length (s .first) ≡ 8
-    → awaits-second s
-    ≡ eqb (s .step) 2 && (not (bad-net-count (s .network)) && (first-answers-held (s .network) (s .first) && (is-zeros 48 (s .reaches) && eqb (s .spent) 0)))
-unfolding awaits-second all-hold
-awaits-second-by s e =
-    let net = s .network in
-    let zeros = is-zeros (8 - word-length net) (drop (word-length net) (s .first)) in
-    let narrow = not (has-high-bit net (held-answers s)) in
-    let some = not (eqb (length (unclear net (held-answers s))) 0) in
-    rw (eq-eqb _ _ e)
-    (ap (λ (b : Bool). eqb (s .step) 2 && (not (bad-net-count net) && b))
-    (hold-three zeros narrow some (is-zeros 48 (s .reaches) ∷ eqb (s .spent) 0 ∷ [])
-    ∙ ap (λ (b : Bool). first-answers-held net (s .first) && (is-zeros 48 (s .reaches) && b)) (and-true (eqb (s .spent) 0))))
-
 pub held-of : (net : Network) (answers : List ℕ) → length answers ≡ word-length net → held-answers (awaiting-second net answers) ≡ answers
 held-of net answers e = take-at answers (replicate (8 - length answers) 0) (word-length net) e
 
@@ -149,7 +129,7 @@ awaits-second-of net answers count e l high some =
 
 pub record WaitsForSecond (s : Session) : Type 0 where
   pub is : s ≡ awaiting-second (s .network) (held-answers s)
-  pub nets-admitted : bad-net-count (s .network) ≡ false
+  pub nets-good : bad-net-count (s .network) ≡ false
   pub one-a-vector : length (held-answers s) ≡ word-length (s .network)
   pub no-high-bit : has-high-bit (s .network) (held-answers s) ≡ false
   pub some-unclear : length (unclear (s .network) (held-answers s)) ≢ 0
@@ -163,30 +143,40 @@ module _ (s : Session) (e : awaits-second s ≡ true) where
   unfolding awaits-second
   awaits-second-nets = not-true _ (hold-at 1 _ e)
 
-  pub awaits-second-is : word-length (s .network) ≤ 8 → WaitsForSecond s
+  -- the tests of the first answers held
+  tests-held : first-answers-held (s .network) (s .first) ≡ true
   unfolding awaits-second
-  awaits-second-is l = record {
+  tests-held = hold-at 2 _ e
+
+  pub awaits-second-is : WaitsForSecond s
+  unfolding awaits-second
+  awaits-second-is = record {
     is = λ j. record {
       step = awaits-second-step j;
       network = s .network;
       first = padded j;
-      reaches = zeros-are 48 (s .reaches) (hold-at 6 _ e) j;
-      spent = eqb-true (s .spent) 0 (hold-at 7 _ e) j;
+      reaches = zeros-are 48 (s .reaches) (hold-at 3 _ e) j;
+      spent = eqb-true (s .spent) 0 (hold-at 4 _ e) j;
     };
-    nets-admitted = awaits-second-nets;
+    nets-good = awaits-second-nets;
     one-a-vector = size;
-    no-high-bit = not-true _ (hold-at 4 _ e);
-    some-unclear = eqb-false _ 0 (not-true _ (hold-at 5 _ e));
+    no-high-bit = not-true _ (hold-at 2 _ tests-held);
+    some-unclear = eqb-false _ 0 (not-true _ (hold-at 3 _ tests-held));
   }
     where
+      bounds : (2 ≤ word-length (s .network)) × (word-length (s .network) ≤ 8)
+      bounds =
+          let nets = nets-admitted (s .network) (decides-row-5 (s .network) .1 awaits-second-nets) in
+          length-bounds (s .network) (nets .0) (nets .1)
+
       eight : length (s .first) ≡ 8
-      eight = eqb-true _ 8 (hold-at 2 _ e)
+      eight = eqb-true _ 8 (hold-at 0 _ tests-held)
 
       size : length (held-answers s) ≡ word-length (s .network)
-      size = length-take-le (word-length (s .network)) (s .first) (omega (arith, eight, l))
+      size = length-take-le (word-length (s .network)) (s .first) (omega (arith, eight, bounds .1))
 
       rest : drop (word-length (s .network)) (s .first) ≡ replicate (8 - length (held-answers s)) 0
-      rest = zeros-are (8 - word-length (s .network)) _ (hold-at 3 _ e) ∙ ap (λ (n : ℕ). replicate (8 - n) 0) (sym size)
+      rest = zeros-are (8 - word-length (s .network)) _ (hold-at 1 _ tests-held) ∙ ap (λ (n : ℕ). replicate (8 - n) 0) (sym size)
 
       padded : s .first ≡ pad 8 (held-answers s)
       padded = sym (take-append-drop (word-length (s .network)) (s .first)) ∙ ap (λ (r : List ℕ). held-answers s ++ r) rest

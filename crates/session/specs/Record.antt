@@ -53,25 +53,23 @@ awaits-first session =
     ∷ eqb (session .spent) 0
     ∷ [])
 
+-- first answers that leave a net unclear, and then zeros
+abbrev pub first-answers-held : Network → List ℕ → Bool
+first-answers-held net first =
+    all-hold
+    (eqb (length first) 8
+    ∷ is-zeros (8 - word-length net) (drop (word-length net) first)
+    ∷ not (has-high-bit net (take (word-length net) first))
+    ∷ not (eqb (length (unclear net (take (word-length net) first))) 0)
+    ∷ [])
+
 -- accepted calls leave this record, and it waits for second answers
 unfoldable pub awaits-second : Session → Bool
 awaits-second session =
     all-hold
     (eqb (session .step) 2
     ∷ not (bad-net-count (session .network))
-    ∷ eqb (length (session .first)) 8
-    ∷ is-zeros (8 - word-length (session .network)) (drop (word-length (session .network)) (session .first))
-    ∷ not (has-high-bit (session .network) (held-answers session))
-    ∷ not (eqb (length (unclear (session .network) (held-answers session))) 0)
+    ∷ first-answers-held (session .network) (session .first)
     ∷ is-zeros 48 (session .reaches)
     ∷ eqb (session .spent) 0
-    ∷ [])
-
--- of these tests, those that ask about the array of the first answers only
-abbrev pub first-answers-held : Network → List ℕ → Bool
-first-answers-held net first =
-    all-hold
-    (is-zeros (8 - word-length net) (drop (word-length net) first)
-    ∷ not (has-high-bit net (take (word-length net) first))
-    ∷ not (eqb (length (unclear net (take (word-length net) first))) 0)
     ∷ [])

@@ -6,8 +6,8 @@ use lib.Dec.{eqb}
 use lib.ListN.{length}
 use Rattle.network.specs.Rows.{bad-net-count}
 use Rattle.network.proofs.Rows.{decides-row-5, nets-admitted}
-use Rattle.session.specs.Record.{is-zeros, first-answers-held}
-use Rattle.session.proofs.Records.{zeros-by, awaits-second-by}
+use Rattle.session.specs.Record.{first-answers-held, all-hold, awaits-second}
+use Rattle.session.proofs.Records.{zeros-by, and-true}
 use Rattle.session.proofs.record.awaits_second.Statement.{statement}
 use Rattle.session.proofs.record.awaits_second.Tie as tie
 
@@ -22,18 +22,18 @@ holds-first : (c : tie.Else3) → let a = c .before .before .before .before .bef
 holds-first c = sym (c .before .holds-first-answers .ensures) ∙ not-false _ (c .if3 .left)
 
 returns : tie.Need-returns
+unfolding awaits-second all-hold
 returns c =
-    let size : length (c .before .args .t1 .first) ≡ 8 = search needs in
-    rw (awaits-second-by (c .before .args .t1) size, ne-eqb _ _ (c .if1 .taken))
+    rw (ne-eqb _ _ (c .if1 .taken))
 
 bad-net-count-requires : tie.Need-bad-net-count-requires
 bad-net-count-requires c κs = search needs
 
 returns-2 : tie.Need-returns-2
+unfolding awaits-second all-hold
 returns-2 c =
     let a = c .before .before .before .before .args .t1 in
-    let size : length (a .first) ≡ 8 = search needs in
-    rw (awaits-second-by a size, holds-step (c .before .before .before), sym (c .before .bad-net-count .ensures) ∙ c .if2 .taken)
+    rw (holds-step (c .before .before .before), sym (c .before .bad-net-count .ensures) ∙ c .if2 .taken)
 
 holds-first-answers-requires : tie.Need-holds-first-answers-requires
 holds-first-answers-requires c κs =
@@ -43,24 +43,23 @@ holds-first-answers-requires c κs =
     (nets .0, nets .1, search needs)
 
 returns-3 : tie.Need-returns-3
+unfolding awaits-second all-hold
 returns-3 c =
     let b = c .before .before .before .before .before .before in
     let a = b .before .before .before .before .args .t1 in
-    let size : length (a .first) ≡ 8 = search needs in
-    rw (awaits-second-by a size, holds-step (b .before .before .before), holds-nets b, sym (c .before .holds-first-answers .ensures) ∙ not-true _ (c .if3 .taken))
+    rw (holds-step (b .before .before .before), holds-nets b, sym (c .before .holds-first-answers .ensures) ∙ not-true _ (c .if3 .taken))
 
 is-zeros-requires : tie.Need-is-zeros-requires
 is-zeros-requires c κs = search needs
 
 returns-4 : tie.Need-returns-4
+unfolding awaits-second all-hold
 returns-4 c =
     let z = c .before .before .before .before .before in
     let b = z .before .before .before .before .before .before in
     let a = b .before .before .before .before .args .t1 in
-    let size : length (a .first) ≡ 8 = search needs in
     let reaches-size : length (a .reaches) ≡ 48 = search needs in
     rw (
-      awaits-second-by a size,
       holds-step (b .before .before .before),
       holds-nets b,
       holds-first z,
@@ -68,19 +67,19 @@ returns-4 c =
     )
 
 returns-5 : tie.Need-returns-5
+unfolding awaits-second all-hold
 returns-5 c =
     let z = c .before .before .before .before .before in
     let b = z .before .before .before .before .before .before in
     let a = b .before .before .before .before .args .t1 in
-    let size : length (a .first) ≡ 8 = search needs in
     let reaches-size : length (a .reaches) ≡ 48 = search needs in
     rw (
-      awaits-second-by a size,
       holds-step (b .before .before .before),
       holds-nets b,
       holds-first z,
       zeros-by 48 (a .reaches) reaches-size (c .before .is-zeros .ensures) (not-false _ (c .if4 .left)),
     )
+    (sym (and-true (eqb (a .spent) 0)))
 
 pub awaits-second-spec : {M : Type 1} → statement M
 awaits-second-spec =

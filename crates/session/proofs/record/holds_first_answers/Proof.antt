@@ -1,5 +1,5 @@
 use borrow.Author.Needs.{needs}
-use borrow.Author.Tests.{not-true, not-false}
+use borrow.Author.Tests.{eq-eqb, not-true, not-false}
 use mathlib.Core.Path.{_≡_, sym, ap, _∙_}
 use mathlib.Core.Bool.{Bool, true, false, not}
 use Prim.Native.Nat.{ℕ, _≤_, _-_}
@@ -53,7 +53,7 @@ zeros-told c e =
 
 returns : tie.Need-returns
 unfolding all-hold
-returns c = rw (zeros-told (c .before) (not-true _ (c .if1 .taken)))
+returns c = rw (eq-eqb _ 8 (c .before .before .before .before .before .pre .2), zeros-told (c .before) (not-true _ (c .if1 .taken)))
 
 slice-aggregate-has-high-bit : tie.Need-slice-aggregate-has-high-bit
 slice-aggregate-has-high-bit c = sym (length-take-le _ _ (room (c .before .before .before .before)))
@@ -68,7 +68,7 @@ returns-2 c =
     let b = z .before .before .before in
     let a = b .before .before .args in
     let high : has-high-bit (a .net) (take (word-length (a .net)) (a .first .now)) ≡ true = rw (← (b .word-length .ensures)) (sym (c .before .has-high-bit .ensures) ∙ c .if2 .taken) in
-    rw (zeros-told (z .before) (not-false _ (z .if1 .left)), high)
+    rw (eq-eqb _ 8 (b .before .before .pre .2), zeros-told (z .before) (not-false _ (z .if1 .left)), high)
 
 second-count-requires : tie.Need-second-count-requires
 second-count-requires c κs = search needs
@@ -83,7 +83,7 @@ returns-3 c =
     let held = take (word-length (a .net)) (a .first .now) in
     let narrow : has-high-bit (a .net) held ≡ false = rw (← (b .word-length .ensures)) (sym (h .before .has-high-bit .ensures) ∙ h .if2 .left) in
     let number : eqb (c .second-count .result) 0 ≡ eqb (length (unclear (a .net) held)) 0 = ap (λ (n : ℕ). eqb n 0) (c .second-count .ensures) ∙ second-empty (a .net) held in
-    rw (zeros-told (z .before) (not-false _ (z .if1 .left)), narrow, number) (sym (and-true (not (eqb (length (unclear (a .net) held)) 0))))
+    rw (eq-eqb _ 8 (b .before .before .pre .2), zeros-told (z .before) (not-false _ (z .if1 .left)), narrow, number) (sym (and-true (not (eqb (length (unclear (a .net) held)) 0))))
 
 pub holds-first-answers-spec : {M : Type 1} → statement M
 holds-first-answers-spec =
