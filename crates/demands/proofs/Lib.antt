@@ -3,8 +3,8 @@ pub mod Diagnosing
 pub mod Checking
 pub mod Refuting
 pub mod Tables
-pub mod Laws
 pub mod Telling
 pub mod Sessions
+pub mod DemandThree
 pub mod SessionsAlike
 pub mod RefutingSessions

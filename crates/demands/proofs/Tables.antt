@@ -8,7 +8,6 @@ use Rattle.session.specs.Open.{open-session}
 use Rattle.demands.specs.SessionCalls.{History, finished-second, history, record-after, OnlyFit}
 use Rattle.demands.specs.Demand3.{Ended}
 use Rattle.demands.specs.Programs.{our-sessions}
-use Rattle.demands.proofs.Laws.{Laws}
 use Rattle.demands.proofs.Sessions.{sessions}
 use Rattle.diagnosis.specs.Open.{open-diagnosis}
 use Rattle.demands.specs.Determined.{Determined}
@@ -23,14 +22,14 @@ use Rattle.demands.proofs.SessionsAlike.{sessions-determined}
 abbrev ended-history : History
 ended-history = finished-second four (11 ∷ 5 ∷ 6 ∷ 8 ∷ []) (15 ∷ 7 ∷ 7 ∷ 12 ∷ []) (0 ∷ 1 ∷ 2 ∷ 4 ∷ []) (4 ∷ 7 ∷ 7 ∷ 4 ∷ [])
 
-four-ended : Laws → history our-sessions junk four-calls ≡ ended-history → record-after our-sessions junk four-calls ≡ finished four (3 ∷ 3 ∷ 0 ∷ 8 ∷ []) 8
+four-ended : history our-sessions junk four-calls ≡ ended-history → record-after our-sessions junk four-calls ≡ finished four (3 ∷ 3 ∷ 0 ∷ 8 ∷ []) 8
     → OnlyFit ended-history (3 ∷ 3 ∷ 0 ∷ 8 ∷ [])
-four-ended laws h r =
-    subst₂ (λ (x : History) (s : Session). Ended x s) h r (sessions laws junk four-calls .ended) .state
+four-ended h r =
+    subst₂ (λ (x : History) (s : Session). Ended x s) h r (sessions junk four-calls .ended) .state
 
-pub starred : Laws → Starred
+pub starred : Starred
 unfolding open-session
-starred laws = record {
+starred = record {
   walking = refl;
   no-extra-vector = refl;
   no-vector-of-net-3 = refl;
@@ -48,7 +47,7 @@ starred laws = record {
   session-answers = refl;
   session-record = refl;
   session-history = refl;
-  session-state = four-ended laws refl refl;
+  session-state = four-ended refl refl;
   sound-pair = refl;
   floating-pair = refl;
 }

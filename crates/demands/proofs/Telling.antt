@@ -20,13 +20,15 @@ use Rattle.network.proofs.Rows.{decides-row-5, decides-row-9, decides-high-bit,
 use Rattle.diagnosis.specs.ReadBack.{read-back, no-state-fits}
 use Rattle.steps.specs.FirstStep.{word-length, first-vectors}
 use Rattle.steps.specs.SecondStep.{unclear, second-vectors, session-vectors, fault-free-state}
+use Rattle.steps.proofs.StepOneWords.{length-bounds, words-apart, first-size}
+use Rattle.steps.proofs.BothSteps.{fits-parts, fits-both, second-size, second-none, both-read-back, both-fits, all-clear-fits, all-clear-only}
 use Rattle.session.specs.declared.Session.{Session}
 use Rattle.session.specs.Record.{awaiting-first, awaiting-second, finished, held-answers, awaits-first, awaits-second}
 use Rattle.session.specs.Calls.{stepped, begin-answer, first-answer, answered-by, second-answer, vectors-driven, all-answers}
+use Rattle.session.proofs.Records.{awaits-first-of, awaits-first-step, held-of, awaits-second-of, awaits-second-step}
 use Rattle.demands.specs.SessionCalls.{Call, begin, first, second, lent, Did, SessionProgram, History, none, waits-first, waits-second, finished-first, finished-second, after-first, accepted, by-answer, extended, record-after, history-from, history, LeftBy, FitsAnswers, OnlyFit, vectors-spent}
 use Rattle.demands.specs.Demand3.{NotAwaited, BeginRows, FirstRows, SecondRows, CallRows, Written, Reported, Ended}
 use Rattle.demands.specs.Programs.{our-answer, our-new, our-sessions}
-use Rattle.demands.proofs.Laws.{Laws, WaitsForSecond}
 
 -- ---- what the record tells of the session
 
@@ -98,288 +100,288 @@ pub second-refused : (session : Session) (answers : List ℕ) → awaits-second 
 unfolding second-answer by-tests
 second-refused session answers e = rw e
 
-module _ (laws : Laws) where
-  first-passed : (net : Network) (answers list : List ℕ) → ¬ (Row5 net)
-      → our-answer (awaiting-first net) (first answers list) ≡ by-tests (first-tests net answers list) (second-vectors net answers)
-  unfolding first-answer by-tests
-  first-passed net answers list nets = rw (laws .awaits-first-of net (off (decides-row-5 net) nets))
+first-passed : (net : Network) (answers list : List ℕ) → ¬ (Row5 net)
+    → our-answer (awaiting-first net) (first answers list) ≡ by-tests (first-tests net answers list) (second-vectors net answers)
+unfolding first-answer by-tests
+first-passed net answers list nets = rw (awaits-first-of net (off (decides-row-5 net) nets))
 
-  -- ---- second answers
+-- ---- second answers
 
-  abbrev second-tests : Network → (r1 answers : List ℕ) → List (ℕ × Bool)
-  second-tests net r1 answers =
-      (9, bad-response-count (length (second-vectors net r1)) (length answers))
-      ∷ (10, has-high-bit net answers)
-      ∷ (14, no-state-fits net (net .nets) (session-vectors net r1) (r1 ++ answers))
-      ∷ []
+abbrev second-tests : Network → (r1 answers : List ℕ) → List (ℕ × Bool)
+second-tests net r1 answers =
+    (9, bad-response-count (length (second-vectors net r1)) (length answers))
+    ∷ (10, has-high-bit net answers)
+    ∷ (14, no-state-fits net (net .nets) (session-vectors net r1) (r1 ++ answers))
+    ∷ []
 
-  module _ (net : Network) (r1 : List ℕ) (nets : ¬ (Row5 net)) (sized : length r1 ≡ word-length net) (narrow : ¬ (HighBit net r1))
-      (some : length (unclear net r1) ≢ 0) where
-    pub awaits : awaits-second (awaiting-second net r1) ≡ true
-    awaits =
+module _ (net : Network) (r1 : List ℕ) (nets : ¬ (Row5 net)) (sized : length r1 ≡ word-length net) (narrow : ¬ (HighBit net r1))
+    (some : length (unclear net r1) ≢ 0) where
+  pub awaits : awaits-second (awaiting-second net r1) ≡ true
+  awaits =
+      let b = nets-admitted net nets in
+      awaits-second-of net r1 (off (decides-row-5 net) nets) sized (length-bounds net (b .0) (b .1) .1) (off (decides-high-bit net r1) narrow) some
+
+  second-passed : (answers : List ℕ) → our-answer (awaiting-second net r1) (second answers) ≡ by-tests (second-tests net r1 answers) []
+  unfolding second-answer by-tests
+  second-passed answers = rw (awaits, held-of net r1 sized)
+
+  abbrev both : List ℕ → History
+  both answers = finished-second net (first-vectors net) r1 (second-vectors net r1) answers
+
+  module _ (answers : List ℕ) (full-size : length answers ≡ length (second-vectors net r1)) (no-high : ¬ (HighBit net answers)) where
+    abbrev read : List ℕ
+    read = read-back net (net .nets) (session-vectors net r1) (r1 ++ answers)
+
+    -- a state that fits is the one read back
+    fits-read : (state : List ℕ) → FitsAnswers (both answers) state
+        → (no-state-fits net (net .nets) (session-vectors net r1) (r1 ++ answers) ≡ false) × (read ≡ state)
+    fits-read state (of-class, one, two) =
         let b = nets-admitted net nets in
-        laws .awaits-second-of net r1 (off (decides-row-5 net) nets) sized (laws .length-most net (b .0) (b .1)) (off (decides-high-bit net r1) narrow) some
+        both-read-back net (words-apart net (b .0) (b .1)) r1 answers state sized
+        (fits-both net (first-vectors net) (second-vectors net r1) (net .nets) r1 answers state (record { of-class = of-class; gives = one }) (record { of-class = of-class; gives = two }))
 
-    second-passed : (answers : List ℕ) → our-answer (awaiting-second net r1) (second answers) ≡ by-tests (second-tests net r1 answers) []
-    unfolding second-answer by-tests
-    second-passed answers = rw (awaits, laws .held-of net r1 sized)
+    read-fits : no-state-fits net (net .nets) (session-vectors net r1) (r1 ++ answers) ≡ false → FitsAnswers (both answers) read
+    read-fits e =
+        let b = nets-admitted net nets in
+        let f = both-fits net r1 answers sized full-size (no-high-bit net r1 narrow) (no-high-bit net answers no-high) e in
+        let s = fits-parts net (first-vectors net) (second-vectors net r1) (net .nets) r1 answers read (sized ∙ sym (first-size net)) f in (f .of-class, s .0 .gives, s .1 .gives)
 
-    abbrev both : List ℕ → History
-    both answers = finished-second net (first-vectors net) r1 (second-vectors net r1) answers
+    decides-row-14 : Decides (no-state-fits net (net .nets) (session-vectors net r1) (r1 ++ answers)) (¬ ((state : List ℕ) × FitsAnswers (both answers) state))
+    decides-row-14 = (λ e w. contrary e (fits-read (w .0) (w .1) .0), λ e no!. no! (read, read-fits e))
 
-    module _ (answers : List ℕ) (full-size : length answers ≡ length (second-vectors net r1)) (no-high : ¬ (HighBit net answers)) where
-      abbrev read : List ℕ
-      read = read-back net (net .nets) (session-vectors net r1) (r1 ++ answers)
+  as-many : (answers : List ℕ) → ¬ (Row9 (length (second-vectors net r1)) (length answers)) → length answers ≡ length (second-vectors net r1)
+  as-many answers h = eqb-true _ _ (not-false _ (off (decides-row-9 (length (second-vectors net r1)) (length answers)) h))
 
-      -- a state that fits is the one read back
-      fits-read : (state : List ℕ) → FitsAnswers (both answers) state
-          → (no-state-fits net (net .nets) (session-vectors net r1) (r1 ++ answers) ≡ false) × (read ≡ state)
-      fits-read state (of-class, one, two) =
-          let b = nets-admitted net nets in
-          laws .both-read-back net r1 answers state (b .0) (b .1) sized full-size (laws .joins net r1 answers state of-class one two)
+  second-decided : (answers : List ℕ) → Decided (SecondRows (waits-second net (first-vectors net) r1 (second-vectors net r1)) answers) (second-tests net r1 answers)
+  second-decided answers = (
+    refl,
+    decides-row-9 (length (second-vectors net r1)) (length answers),
+    λ same. (refl, decides-high-bit net answers, λ low. (refl, decides-row-14 answers (as-many answers same) low, λ _. tt)),
+  )
 
-      read-fits : no-state-fits net (net .nets) (session-vectors net r1) (r1 ++ answers) ≡ false → FitsAnswers (both answers) read
-      read-fits e =
-          let b = nets-admitted net nets in
-          let f = laws .both-fits net r1 answers sized full-size (no-high-bit net r1 narrow) (no-high-bit net answers no-high) e in
-          let s = laws .splits net r1 answers read (b .0) (b .1) sized full-size f in (f .of-class, s .0, s .1)
+-- ---- the answer by the rows of the session
 
-      decides-row-14 : Decides (no-state-fits net (net .nets) (session-vectors net r1) (r1 ++ answers)) (¬ ((state : List ℕ) × FitsAnswers (both answers) state))
-      decides-row-14 = (λ e w. contrary e (fits-read (w .0) (w .1) .0), λ e no!. no! (read, read-fits e))
+in-first : (net : Network) (answers list : List ℕ) → ¬ (Row5 net)
+    → ByTable (FirstRows (waits-first net (first-vectors net)) answers list) (λ words. words ≡ second-vectors net answers) (our-answer (awaiting-first net) (first answers list))
+in-first net answers list nets =
+    rw (first-passed net answers list nets)
+    (tests-by-table (λ words. words ≡ second-vectors net answers) (FirstRows (waits-first net (first-vectors net)) answers list) (first-tests net answers list)
+    (second-vectors net answers) (first-decided net answers list) (λ _. refl))
 
-    as-many : (answers : List ℕ) → ¬ (Row9 (length (second-vectors net r1)) (length answers)) → length answers ≡ length (second-vectors net r1)
-    as-many answers h = eqb-true _ _ (not-false _ (off (decides-row-9 (length (second-vectors net r1)) (length answers)) h))
+in-second : (net : Network) (v1 r1 v2 answers : List ℕ) → WaitsSecond net v1 r1 v2 (awaiting-second net r1)
+    → ByTable (SecondRows (waits-second net v1 r1 v2) answers) (λ words. words ≡ []) (our-answer (awaiting-second net r1) (second answers))
+in-second net v1 r1 v2 answers w =
+    rw (w .wrote, w .wrote-second, second-passed net r1 (w .nets) (w .sized) (w .narrow) (w .some) answers)
+    (tests-by-table (λ (words : List ℕ). words ≡ []) (SecondRows (waits-second net (first-vectors net) r1 (second-vectors net r1)) answers) (second-tests net r1 answers) []
+    (second-decided net r1 (w .nets) (w .sized) (w .narrow) (w .some) answers) (λ _. refl))
 
-    second-decided : (answers : List ℕ) → Decided (SecondRows (waits-second net (first-vectors net) r1 (second-vectors net r1)) answers) (second-tests net r1 answers)
-    second-decided answers = (
-      refl,
-      decides-row-9 (length (second-vectors net r1)) (length answers),
-      λ same. (refl, decides-high-bit net answers, λ low. (refl, decides-row-14 answers (as-many answers same) low, λ _. tt)),
-    )
+-- ---- what a record at each stage does not wait for
 
-  -- ---- the answer by the rows of the session
+pub not-first : (session : Session) → session .step ≢ 1 → awaits-first session ≡ false
+not-first session h = ⊎-elim (λ e. absurd (h (awaits-first-step session e))) (λ e. e) (cases (awaits-first session))
 
-  in-first : (net : Network) (answers list : List ℕ) → ¬ (Row5 net)
-      → ByTable (FirstRows (waits-first net (first-vectors net)) answers list) (λ words. words ≡ second-vectors net answers) (our-answer (awaiting-first net) (first answers list))
-  in-first net answers list nets =
-      rw (first-passed net answers list nets)
-      (tests-by-table (λ words. words ≡ second-vectors net answers) (FirstRows (waits-first net (first-vectors net)) answers list) (first-tests net answers list)
-      (second-vectors net answers) (first-decided net answers list) (λ _. refl))
+not-second : (session : Session) → session .step ≢ 2 → awaits-second session ≡ false
+not-second session h = ⊎-elim (λ e. absurd (h (awaits-second-step session e))) (λ e. e) (cases (awaits-second session))
 
-  in-second : (net : Network) (v1 r1 v2 answers : List ℕ) → WaitsSecond net v1 r1 v2 (awaiting-second net r1)
-      → ByTable (SecondRows (waits-second net v1 r1 v2) answers) (λ words. words ≡ []) (our-answer (awaiting-second net r1) (second answers))
-  in-second net v1 r1 v2 answers w =
-      rw (w .wrote, w .wrote-second, second-passed net r1 (w .nets) (w .sized) (w .narrow) (w .some) answers)
-      (tests-by-table (λ (words : List ℕ). words ≡ []) (SecondRows (waits-second net (first-vectors net) r1 (second-vectors net r1)) answers) (second-tests net r1 answers) []
-      (second-decided net r1 (w .nets) (w .sized) (w .narrow) (w .some) answers) (λ _. refl))
+-- the step that a record of this session holds
+abbrev step-of : History → ℕ
+step-of none = 0
+step-of (waits-first net v1) = 1
+step-of (waits-second net v1 r1 v2) = 2
+step-of (finished-first net v1 r1 v2) = 3
+step-of (finished-second net v1 r1 v2 r2) = 3
 
-  -- ---- what a record at each stage does not wait for
+is-begun : (h : History) → step-of h ≢ 0 → h ≢ none
+is-begun h d e = d (ap step-of e)
 
-  pub not-first : (session : Session) → session .step ≢ 1 → awaits-first session ≡ false
-  not-first session h = ⊎-elim (λ e. absurd (h (laws .awaits-first-step session e))) (λ e. e) (cases (awaits-first session))
+step-told : (h : History) (session : Session) → h ≢ none → Tells h session → session .step ≡ step-of h
+step-told none session begun t = absurd (begun refl)
+step-told (waits-first net v1) session begun t = ap (λ (s : Session). s .step) (t .is)
+step-told (waits-second net v1 r1 v2) session begun t = ap (λ (s : Session). s .step) (t .is)
+step-told (finished-first net v1 r1 v2) session begun t = t .step-three
+step-told (finished-second net v1 r1 v2 r2) session begun t = t .step-three
 
-  not-second : (session : Session) → session .step ≢ 2 → awaits-second session ≡ false
-  not-second session h = ⊎-elim (λ e. absurd (h (laws .awaits-second-step session e))) (λ e. e) (cases (awaits-second session))
+away-first : (h : History) (session : Session) (answers list : List ℕ) → h ≢ none → Tells h session → step-of h ≢ 1 → our-answer session (first answers list) ≡ refused 4
+away-first h session answers list begun t d = first-refused session answers list (not-first session (λ e. d (sym (step-told h session begun t) ∙ e)))
 
-  -- the step that a record of this session holds
-  abbrev step-of : History → ℕ
-  step-of none = 0
-  step-of (waits-first net v1) = 1
-  step-of (waits-second net v1 r1 v2) = 2
-  step-of (finished-first net v1 r1 v2) = 3
-  step-of (finished-second net v1 r1 v2 r2) = 3
+away-second : (h : History) (session : Session) (answers : List ℕ) → h ≢ none → Tells h session → step-of h ≢ 2 → our-answer session (second answers) ≡ refused 4
+away-second h session answers begun t d = second-refused session answers (not-second session (λ e. d (sym (step-told h session begun t) ∙ e)))
 
-  is-begun : (h : History) → step-of h ≢ 0 → h ≢ none
-  is-begun h d e = d (ap step-of e)
+-- refused by row 4
+by-row-4 : (result : List ℕ → Type 0) (a : Answer (List ℕ)) → a ≡ refused 4 → ByTable NotAwaited result a
+by-row-4 result a e = inl (tt, e)
 
-  step-told : (h : History) (session : Session) → h ≢ none → Tells h session → session .step ≡ step-of h
-  step-told none session begun t = absurd (begun refl)
-  step-told (waits-first net v1) session begun t = ap (λ (s : Session). s .step) (t .is)
-  step-told (waits-second net v1 r1 v2) session begun t = ap (λ (s : Session). s .step) (t .is)
-  step-told (finished-first net v1 r1 v2) session begun t = t .step-three
-  step-told (finished-second net v1 r1 v2 r2) session begun t = t .step-three
+pub told-by-table : (h : History) (session : Session) (call : Call) → h ≢ none → Tells h session → ByTable (CallRows h call) (Written h call) (our-answer session call)
+told-by-table h session (begin net list) begun t = begin-by-table session net list
+told-by-table none session (first answers list) begun t = absurd (begun refl)
+told-by-table (waits-first net v1) session (first answers list) begun t = rw (t .wrote, t .is) (in-first net answers list (t .nets))
+told-by-table (waits-second net v1 r1 v2) session (first answers list) begun t =
+    by-row-4 (λ (words : List ℕ). words ≡ []) (our-answer session (first answers list)) (away-first (waits-second net v1 r1 v2) session answers list begun t (λ e. omega arith))
+told-by-table (finished-first net v1 r1 v2) session (first answers list) begun t =
+    by-row-4 (λ (words : List ℕ). words ≡ []) (our-answer session (first answers list)) (away-first (finished-first net v1 r1 v2) session answers list begun t (λ e. omega arith))
+told-by-table (finished-second net v1 r1 v2 r2) session (first answers list) begun t =
+    by-row-4 (λ (words : List ℕ). words ≡ []) (our-answer session (first answers list)) (away-first (finished-second net v1 r1 v2 r2) session answers list begun t (λ e. omega arith))
+told-by-table none session (second answers) begun t = absurd (begun refl)
+told-by-table (waits-first net v1) session (second answers) begun t =
+    by-row-4 (λ (words : List ℕ). words ≡ []) (our-answer session (second answers)) (away-second (waits-first net v1) session answers begun t (λ e. omega arith))
+told-by-table (waits-second net v1 r1 v2) session (second answers) begun t =
+    subst (λ (s : Session). ByTable (SecondRows (waits-second net v1 r1 v2) answers) (λ words. words ≡ []) (our-answer s (second answers))) (sym (t .is))
+    (in-second net v1 r1 v2 answers (subst (λ (s : Session). WaitsSecond net v1 r1 v2 s) (t .is) t))
+told-by-table (finished-first net v1 r1 v2) session (second answers) begun t =
+    by-row-4 (λ (words : List ℕ). words ≡ []) (our-answer session (second answers)) (away-second (finished-first net v1 r1 v2) session answers begun t (λ e. omega arith))
+told-by-table (finished-second net v1 r1 v2 r2) session (second answers) begun t =
+    by-row-4 (λ (words : List ℕ). words ≡ []) (our-answer session (second answers)) (away-second (finished-second net v1 r1 v2 r2) session answers begun t (λ e. omega arith))
 
-  away-first : (h : History) (session : Session) (answers list : List ℕ) → h ≢ none → Tells h session → step-of h ≢ 1 → our-answer session (first answers list) ≡ refused 4
-  away-first h session answers list begun t d = first-refused session answers list (not-first session (λ e. d (sym (step-told h session begun t) ∙ e)))
+-- ---- an accepted call
 
-  away-second : (h : History) (session : Session) (answers : List ℕ) → h ≢ none → Tells h session → step-of h ≢ 2 → our-answer session (second answers) ≡ refused 4
-  away-second h session answers begun t d = second-refused session answers (not-second session (λ e. d (sym (step-told h session begun t) ∙ e)))
+-- what a finished record reports
+reports : (h : History) (net : Network) (r1 state : List ℕ) (spent : ℕ) → length state ≡ net .nets → OnlyFit h state → spent ≡ length (vectors-spent h)
+    → (length (unclear net r1) ≡ 0 → spent ≡ word-length net) → (length (unclear net r1) ≢ 0 → spent ≡ word-length net + length (unclear net r1) + 1)
+    → Stopped h net r1 (finished net state spent)
+reports h net r1 state spent size only count clear unclear! = record {
+  step-three = refl;
+  reported = record {
+    network-held = refl;
+    state = rw (← size, take-append-seam state (replicate (48 - length state) 0)) only;
+    nothing-more = rw (← size) (drop-append-seam state (replicate (48 - length state) 0));
+    count = count;
+    none-unclear = clear;
+    some-unclear = unclear!;
+  };
+}
 
-  -- refused by row 4
-  by-row-4 : (result : List ℕ → Type 0) (a : Answer (List ℕ)) → a ≡ refused 4 → ByTable NotAwaited result a
-  by-row-4 result a e = inl (tt, e)
+first-in : (net : Network) (v1 answers list words : List ℕ) → ¬ (Row5 net) → v1 ≡ first-vectors net → our-answer (awaiting-first net) (first answers list) ≡ full words
+    → Tells (after-first net v1 answers words (unclear net answers)) (answered-by net answers (unclear net answers))
+first-in net v1 answers list words nets wrote e = go (unclear net answers) refl
+  where
+    past : by-tests (first-tests net answers list) (second-vectors net answers) ≡ full words
+    past = sym (first-passed net answers list nets) ∙ e
 
-  pub told-by-table : (h : History) (session : Session) (call : Call) → h ≢ none → Tells h session → ByTable (CallRows h call) (Written h call) (our-answer session call)
-  told-by-table h session (begin net list) begun t = begin-by-table session net list
-  told-by-table none session (first answers list) begun t = absurd (begun refl)
-  told-by-table (waits-first net v1) session (first answers list) begun t = rw (t .wrote, t .is) (in-first net answers list (t .nets))
-  told-by-table (waits-second net v1 r1 v2) session (first answers list) begun t =
-      by-row-4 (λ (words : List ℕ). words ≡ []) (our-answer session (first answers list)) (away-first (waits-second net v1 r1 v2) session answers list begun t (λ e. omega arith))
-  told-by-table (finished-first net v1 r1 v2) session (first answers list) begun t =
-      by-row-4 (λ (words : List ℕ). words ≡ []) (our-answer session (first answers list)) (away-first (finished-first net v1 r1 v2) session answers list begun t (λ e. omega arith))
-  told-by-table (finished-second net v1 r1 v2 r2) session (first answers list) begun t =
-      by-row-4 (λ (words : List ℕ). words ≡ []) (our-answer session (first answers list)) (away-first (finished-second net v1 r1 v2 r2) session answers list begun t (λ e. omega arith))
-  told-by-table none session (second answers) begun t = absurd (begun refl)
-  told-by-table (waits-first net v1) session (second answers) begun t =
-      by-row-4 (λ (words : List ℕ). words ≡ []) (our-answer session (second answers)) (away-second (waits-first net v1) session answers begun t (λ e. omega arith))
-  told-by-table (waits-second net v1 r1 v2) session (second answers) begun t =
-      subst (λ (s : Session). ByTable (SecondRows (waits-second net v1 r1 v2) answers) (λ words. words ≡ []) (our-answer s (second answers))) (sym (t .is))
-      (in-second net v1 r1 v2 answers (subst (λ (s : Session). WaitsSecond net v1 r1 v2 s) (t .is) t))
-  told-by-table (finished-first net v1 r1 v2) session (second answers) begun t =
-      by-row-4 (λ (words : List ℕ). words ≡ []) (our-answer session (second answers)) (away-second (finished-first net v1 r1 v2) session answers begun t (λ e. omega arith))
-  told-by-table (finished-second net v1 r1 v2 r2) session (second answers) begun t =
-      by-row-4 (λ (words : List ℕ). words ≡ []) (our-answer session (second answers)) (away-second (finished-second net v1 r1 v2 r2) session answers begun t (λ e. omega arith))
+    free : NoneHolds (FirstRows (waits-first net (first-vectors net)) answers list)
+    free = let-through (FirstRows (waits-first net (first-vectors net)) answers list) (first-tests net answers list) (second-vectors net answers) words (first-decided net answers list) past
 
-  -- ---- an accepted call
+    second-wrote : words ≡ second-vectors net answers
+    second-wrote = through (FirstRows (waits-first net (first-vectors net)) answers list) (first-tests net answers list) (second-vectors net answers) words (first-decided net answers list) past
 
-  -- what a finished record reports
-  reports : (h : History) (net : Network) (r1 state : List ℕ) (spent : ℕ) → length state ≡ net .nets → OnlyFit h state → spent ≡ length (vectors-spent h)
-      → (length (unclear net r1) ≡ 0 → spent ≡ word-length net) → (length (unclear net r1) ≢ 0 → spent ≡ word-length net + length (unclear net r1) + 1)
-      → Stopped h net r1 (finished net state spent)
-  reports h net r1 state spent size only count clear unclear! = record {
-    step-three = refl;
-    reported = record {
-      network-held = refl;
-      state = rw (← size, take-append-seam state (replicate (48 - length state) 0)) only;
-      nothing-more = rw (← size) (drop-append-seam state (replicate (48 - length state) 0));
-      count = count;
-      none-unclear = clear;
-      some-unclear = unclear!;
-    };
-  }
+    sized : length answers ≡ word-length net
+    sized = eqb-true _ _ (not-false _ (off (decides-row-9 (length (first-vectors net)) (length answers)) (free .0))) ∙ first-size net
 
-  first-in : (net : Network) (v1 answers list words : List ℕ) → ¬ (Row5 net) → v1 ≡ first-vectors net → our-answer (awaiting-first net) (first answers list) ≡ full words
-      → Tells (after-first net v1 answers words (unclear net answers)) (answered-by net answers (unclear net answers))
-  first-in net v1 answers list words nets wrote e = go (unclear net answers) refl
-    where
-      past : by-tests (first-tests net answers list) (second-vectors net answers) ≡ full words
-      past = sym (first-passed net answers list nets) ∙ e
+    nets-low : 2 ≤ net .nets
+    nets-low = nets-admitted net nets .0
 
-      free : NoneHolds (FirstRows (waits-first net (first-vectors net)) answers list)
-      free = let-through (FirstRows (waits-first net (first-vectors net)) answers list) (first-tests net answers list) (second-vectors net answers) words (first-decided net answers list) past
+    nets-high : net .nets ≤ 48
+    nets-high = nets-admitted net nets .1
 
-      second-wrote : words ≡ second-vectors net answers
-      second-wrote = through (FirstRows (waits-first net (first-vectors net)) answers list) (first-tests net answers list) (second-vectors net answers) words (first-decided net answers list) past
+    go : (us : List ℕ) → unclear net answers ≡ us → Tells (after-first net v1 answers words us) (answered-by net answers us)
+    go [] q =
+        let clear : length (unclear net answers) ≡ 0 = ap length q in
+        let nothing : second-vectors net answers ≡ [] = second-none net answers clear in
+        let spent : length (session-vectors net answers) ≡ word-length net = length-append (first-vectors net) (second-vectors net answers) ∙ rw (nothing, first-size net) (omega arith) in
+        let fits = all-clear-fits net (words-apart net nets-low nets-high) answers clear sized (no-high-bit net answers (free .1 .0)) in
+        reports (finished-first net v1 answers words) net answers (fault-free-state net) (length (session-vectors net answers)) (fits .of-class .size)
+        (record {
+          fits = (fits .of-class, ap (response net (fault-free-state net)) wrote ∙ fits .gives);
+          only = λ other f. all-clear-only net (words-apart net nets-low nets-high) answers clear other (record { of-class = f .0; gives = ap (response net other) (sym wrote) ∙ f .1 });
+        })
+        (rw (wrote, second-wrote)) (λ _. spent) (λ d. absurd (d clear))
+    go (i ∷ us) q = record {
+      nets = nets;
+      wrote = wrote;
+      sized = sized;
+      narrow = free .1 .0;
+      some = λ k. (let h = ap length q in omega arith);
+      wrote-second = second-wrote;
+      is = refl;
+    }
 
-      sized : length answers ≡ word-length net
-      sized = eqb-true _ _ (not-false _ (off (decides-row-9 (length (first-vectors net)) (length answers)) (free .0))) ∙ laws .first-size net
+second-in : (net : Network) (v1 r1 v2 answers words : List ℕ) → WaitsSecond net v1 r1 v2 (awaiting-second net r1)
+    → our-answer (awaiting-second net r1) (second answers) ≡ full words
+    → Stopped (finished-second net v1 r1 v2 answers) net r1 (our-new (awaiting-second net r1) (second answers))
+second-in net v1 r1 v2 answers words w e = rw (held-of net r1 (w .sized)) told
+  where
+    past : by-tests (second-tests net r1 answers) [] ≡ full words
+    past = sym (second-passed net r1 (w .nets) (w .sized) (w .narrow) (w .some) answers) ∙ e
 
-      nets-low : 2 ≤ net .nets
-      nets-low = nets-admitted net nets .0
+    free : NoneHolds (SecondRows (waits-second net (first-vectors net) r1 (second-vectors net r1)) answers)
+    free =
+        let-through (SecondRows (waits-second net (first-vectors net) r1 (second-vectors net r1)) answers) (second-tests net r1 answers) [] words
+        (second-decided net r1 (w .nets) (w .sized) (w .narrow) (w .some) answers) past
 
-      nets-high : net .nets ≤ 48
-      nets-high = nets-admitted net nets .1
+    same : length answers ≡ length (second-vectors net r1)
+    same = as-many net r1 (w .nets) (w .sized) (w .narrow) (w .some) answers (free .0)
 
-      go : (us : List ℕ) → unclear net answers ≡ us → Tells (after-first net v1 answers words us) (answered-by net answers us)
-      go [] q =
-          let clear : length (unclear net answers) ≡ 0 = ap length q in
-          let nothing : second-vectors net answers ≡ [] = laws .second-none net answers clear in
-          let spent : length (session-vectors net answers) ≡ word-length net = length-append (first-vectors net) (second-vectors net answers) ∙ rw (nothing, laws .first-size net) (omega arith) in
-          let fits = laws .all-clear-fits net answers nets-low nets-high clear sized (no-high-bit net answers (free .1 .0)) in
-          reports (finished-first net v1 answers words) net answers (fault-free-state net) (length (session-vectors net answers)) (fits .of-class .size)
-          (record {
-            fits = (fits .of-class, ap (response net (fault-free-state net)) wrote ∙ fits .gives);
-            only = λ other f. laws .all-clear-only net answers nets-low nets-high clear sized other (record { of-class = f .0; gives = ap (response net other) (sym wrote) ∙ f .1 });
-          })
-          (rw (wrote, second-wrote)) (λ _. spent) (λ d. absurd (d clear))
-      go (i ∷ us) q = record {
-        nets = nets;
-        wrote = wrote;
-        sized = sized;
-        narrow = free .1 .0;
-        some = λ k. (let h = ap length q in omega arith);
-        wrote-second = second-wrote;
-        is = refl;
-      }
+    state : List ℕ
+    state = read net r1 (w .nets) (w .sized) (w .narrow) (w .some) answers same (free .1 .0)
 
-  second-in : (net : Network) (v1 r1 v2 answers words : List ℕ) → WaitsSecond net v1 r1 v2 (awaiting-second net r1)
-      → our-answer (awaiting-second net r1) (second answers) ≡ full words
-      → Stopped (finished-second net v1 r1 v2 answers) net r1 (our-new (awaiting-second net r1) (second answers))
-  second-in net v1 r1 v2 answers words w e = rw (laws .held-of net r1 (w .sized)) told
-    where
-      past : by-tests (second-tests net r1 answers) [] ≡ full words
-      past = sym (second-passed net r1 (w .nets) (w .sized) (w .narrow) (w .some) answers) ∙ e
+    found : no-state-fits net (net .nets) (session-vectors net r1) (r1 ++ answers) ≡ false
+    found = off (decides-row-14 net r1 (w .nets) (w .sized) (w .narrow) (w .some) answers same (free .1 .0)) (free .1 .1 .0)
 
-      free : NoneHolds (SecondRows (waits-second net (first-vectors net) r1 (second-vectors net r1)) answers)
-      free =
-          let-through (SecondRows (waits-second net (first-vectors net) r1 (second-vectors net r1)) answers) (second-tests net r1 answers) [] words
-          (second-decided net r1 (w .nets) (w .sized) (w .narrow) (w .some) answers) past
+    one : OnlyFit (both net r1 (w .nets) (w .sized) (w .narrow) (w .some) answers) state
+    one = record {
+      fits = read-fits net r1 (w .nets) (w .sized) (w .narrow) (w .some) answers same (free .1 .0) found;
+      only = λ other f. sym (fits-read net r1 (w .nets) (w .sized) (w .narrow) (w .some) answers same (free .1 .0) other f .1);
+    }
 
-      same : length answers ≡ length (second-vectors net r1)
-      same = as-many net r1 (w .nets) (w .sized) (w .narrow) (w .some) answers (free .0)
+    spent : length (session-vectors net r1) ≡ word-length net + length (unclear net r1) + 1
+    spent = length-append (first-vectors net) (second-vectors net r1) ∙ (let a = first-size net in let b = second-size net r1 (w .some) in omega arith)
 
-      state : List ℕ
-      state = read net r1 (w .nets) (w .sized) (w .narrow) (w .some) answers same (free .1 .0)
+    told : Stopped (finished-second net v1 r1 v2 answers) net r1 (finished net state (length (session-vectors net r1)))
+    told =
+        reports (finished-second net v1 r1 v2 answers) net r1 state (length (session-vectors net r1)) (one .fits .0 .size)
+        (subst (λ (h : History). OnlyFit h state) (ap₂ (λ (x y : List ℕ). finished-second net x r1 y answers) (sym (w .wrote)) (sym (w .wrote-second))) one)
+        (rw (w .wrote, w .wrote-second)) (λ c. absurd (w .some c)) (λ _. spent)
 
-      found : no-state-fits net (net .nets) (session-vectors net r1) (r1 ++ answers) ≡ false
-      found = off (decides-row-14 net r1 (w .nets) (w .sized) (w .narrow) (w .some) answers same (free .1 .0)) (free .1 .1 .0)
+begin-in : (session : Session) (net : Network) (list words : List ℕ) → our-answer session (begin net list) ≡ full words → WaitsFirst net words (awaiting-first net)
+unfolding begin-answer
+begin-in session net list words e = record {
+  nets = let-through (BeginRows net list) _ (first-vectors net) words (begin-decided net list) e .0;
+  wrote = through (BeginRows net list) _ (first-vectors net) words (begin-decided net list) e;
+  is = refl;
+}
 
-      one : OnlyFit (both net r1 (w .nets) (w .sized) (w .narrow) (w .some) answers) state
-      one = record {
-        fits = read-fits net r1 (w .nets) (w .sized) (w .narrow) (w .some) answers same (free .1 .0) found;
-        only = λ other f. sym (fits-read net r1 (w .nets) (w .sized) (w .narrow) (w .some) answers same (free .1 .0) other f .1);
-      }
+not-both : {number : ℕ} {words : List ℕ} {a : Answer (List ℕ)} → a ≡ refused number → a ≡ full words → ⊥
+not-both {number} {words} {a} p q = let e : refused number ≡ full words = sym p ∙ q in let z : _≡_ {A = ℕ} 0 1 = cc in omega arith
 
-      spent : length (session-vectors net r1) ≡ word-length net + length (unclear net r1) + 1
-      spent = length-append (first-vectors net) (second-vectors net r1) ∙ (let a = laws .first-size net in let b = laws .second-size net r1 (w .some) in omega arith)
+accepted-tells : (h : History) (session : Session) (call : Call) (words : List ℕ) → our-answer session call ≡ full words → Tells h session
+    → Tells (accepted h call words) (our-new session call)
+accepted-tells h session (begin net list) words e t = begin-in session net list words e
+accepted-tells none session (first answers list) words e t = tt
+accepted-tells (waits-first net v1) session (first answers list) words e t =
+    subst
+    (λ (s : Session). our-answer s (first answers list) ≡ full words → Tells (accepted (waits-first net v1) (first answers list) words) (our-new s (first answers list)))
+    (sym (t .is)) (first-in net v1 answers list words (t .nets) (t .wrote)) e
+accepted-tells (waits-second net v1 r1 v2) session (first answers list) words e t =
+    absurd (not-both (away-first (waits-second net v1 r1 v2) session answers list (is-begun (waits-second net v1 r1 v2) (λ z. omega arith)) t (λ q. omega arith)) e)
+accepted-tells (finished-first net v1 r1 v2) session (first answers list) words e t =
+    absurd (not-both (away-first (finished-first net v1 r1 v2) session answers list (is-begun (finished-first net v1 r1 v2) (λ z. omega arith)) t (λ q. omega arith)) e)
+accepted-tells (finished-second net v1 r1 v2 r2) session (first answers list) words e t =
+    absurd (not-both (away-first (finished-second net v1 r1 v2 r2) session answers list (is-begun (finished-second net v1 r1 v2 r2) (λ z. omega arith)) t (λ q. omega arith)) e)
+accepted-tells none session (second answers) words e t = tt
+accepted-tells (waits-first net v1) session (second answers) words e t =
+    absurd (not-both (away-second (waits-first net v1) session answers (is-begun (waits-first net v1) (λ z. omega arith)) t (λ q. omega arith)) e)
+accepted-tells (waits-second net v1 r1 v2) session (second answers) words e t =
+    subst
+    (λ (s : Session). our-answer s (second answers) ≡ full words → Stopped (finished-second net v1 r1 v2 answers) net r1 (our-new s (second answers)))
+    (sym (t .is)) (second-in net v1 r1 v2 answers words (subst (λ (s : Session). WaitsSecond net v1 r1 v2 s) (t .is) t)) e
+accepted-tells (finished-first net v1 r1 v2) session (second answers) words e t =
+    absurd (not-both (away-second (finished-first net v1 r1 v2) session answers (is-begun (finished-first net v1 r1 v2) (λ z. omega arith)) t (λ q. omega arith)) e)
+accepted-tells (finished-second net v1 r1 v2 r2) session (second answers) words e t =
+    absurd (not-both (away-second (finished-second net v1 r1 v2 r2) session answers (is-begun (finished-second net v1 r1 v2 r2) (λ z. omega arith)) t (λ q. omega arith)) e)
 
-      told : Stopped (finished-second net v1 r1 v2 answers) net r1 (finished net state (length (session-vectors net r1)))
-      told =
-          reports (finished-second net v1 r1 v2 answers) net r1 state (length (session-vectors net r1)) (one .fits .0 .size)
-          (subst (λ (h : History). OnlyFit h state) (ap₂ (λ (x y : List ℕ). finished-second net x r1 y answers) (sym (w .wrote)) (sym (w .wrote-second))) one)
-          (rw (w .wrote, w .wrote-second)) (λ c. absurd (w .some c)) (λ _. spent)
+-- ---- every call keeps it
 
-  begin-in : (session : Session) (net : Network) (list words : List ℕ) → our-answer session (begin net list) ≡ full words → WaitsFirst net words (awaiting-first net)
-  unfolding begin-answer
-  begin-in session net list words e = record {
-    nets = let-through (BeginRows net list) _ (first-vectors net) words (begin-decided net list) e .0;
-    wrote = through (BeginRows net list) _ (first-vectors net) words (begin-decided net list) e;
-    is = refl;
-  }
+pub call-tells : (h : History) (session : Session) (call : Call) → Tells h session → Tells (extended h call (our-sessions session call)) (our-sessions session call .session)
+unfolding stepped
+call-tells h session call t = go (our-answer session call) refl
+  where
+    go : (a : Answer (List ℕ)) → our-answer session call ≡ a → Tells (by-answer h call a (lent-after a (lent call))) (stepped a (our-new session call) session .session)
+    go (refused number) e = t
+    go (full words) e = rw (front-written words (lent call)) (accepted-tells h session call words e t)
 
-  not-both : {number : ℕ} {words : List ℕ} {a : Answer (List ℕ)} → a ≡ refused number → a ≡ full words → ⊥
-  not-both {number} {words} {a} p q = let e : refused number ≡ full words = sym p ∙ q in let z : _≡_ {A = ℕ} 0 1 = cc in omega arith
+calls-tell : (h : History) (session : Session) (calls : List Call) → Tells h session → Tells (history-from our-sessions h session calls) (record-after our-sessions session calls)
+calls-tell h session [] t = t
+calls-tell h session (call ∷ calls) t =
+    calls-tell (extended h call (our-sessions session call)) (our-sessions session call .session) calls (call-tells h session call t)
 
-  accepted-tells : (h : History) (session : Session) (call : Call) (words : List ℕ) → our-answer session call ≡ full words → Tells h session
-      → Tells (accepted h call words) (our-new session call)
-  accepted-tells h session (begin net list) words e t = begin-in session net list words e
-  accepted-tells none session (first answers list) words e t = tt
-  accepted-tells (waits-first net v1) session (first answers list) words e t =
-      subst
-      (λ (s : Session). our-answer s (first answers list) ≡ full words → Tells (accepted (waits-first net v1) (first answers list) words) (our-new s (first answers list)))
-      (sym (t .is)) (first-in net v1 answers list words (t .nets) (t .wrote)) e
-  accepted-tells (waits-second net v1 r1 v2) session (first answers list) words e t =
-      absurd (not-both (away-first (waits-second net v1 r1 v2) session answers list (is-begun (waits-second net v1 r1 v2) (λ z. omega arith)) t (λ q. omega arith)) e)
-  accepted-tells (finished-first net v1 r1 v2) session (first answers list) words e t =
-      absurd (not-both (away-first (finished-first net v1 r1 v2) session answers list (is-begun (finished-first net v1 r1 v2) (λ z. omega arith)) t (λ q. omega arith)) e)
-  accepted-tells (finished-second net v1 r1 v2 r2) session (first answers list) words e t =
-      absurd (not-both (away-first (finished-second net v1 r1 v2 r2) session answers list (is-begun (finished-second net v1 r1 v2 r2) (λ z. omega arith)) t (λ q. omega arith)) e)
-  accepted-tells none session (second answers) words e t = tt
-  accepted-tells (waits-first net v1) session (second answers) words e t =
-      absurd (not-both (away-second (waits-first net v1) session answers (is-begun (waits-first net v1) (λ z. omega arith)) t (λ q. omega arith)) e)
-  accepted-tells (waits-second net v1 r1 v2) session (second answers) words e t =
-      subst
-      (λ (s : Session). our-answer s (second answers) ≡ full words → Stopped (finished-second net v1 r1 v2 answers) net r1 (our-new s (second answers)))
-      (sym (t .is)) (second-in net v1 r1 v2 answers words (subst (λ (s : Session). WaitsSecond net v1 r1 v2 s) (t .is) t)) e
-  accepted-tells (finished-first net v1 r1 v2) session (second answers) words e t =
-      absurd (not-both (away-second (finished-first net v1 r1 v2) session answers (is-begun (finished-first net v1 r1 v2) (λ z. omega arith)) t (λ q. omega arith)) e)
-  accepted-tells (finished-second net v1 r1 v2 r2) session (second answers) words e t =
-      absurd (not-both (away-second (finished-second net v1 r1 v2 r2) session answers (is-begun (finished-second net v1 r1 v2 r2) (λ z. omega arith)) t (λ q. omega arith)) e)
-
-  -- ---- every call keeps it
-
-  pub call-tells : (h : History) (session : Session) (call : Call) → Tells h session → Tells (extended h call (our-sessions session call)) (our-sessions session call .session)
-  unfolding stepped
-  call-tells h session call t = go (our-answer session call) refl
-    where
-      go : (a : Answer (List ℕ)) → our-answer session call ≡ a → Tells (by-answer h call a (lent-after a (lent call))) (stepped a (our-new session call) session .session)
-      go (refused number) e = t
-      go (full words) e = rw (front-written words (lent call)) (accepted-tells h session call words e t)
-
-  calls-tell : (h : History) (session : Session) (calls : List Call) → Tells h session → Tells (history-from our-sessions h session calls) (record-after our-sessions session calls)
-  calls-tell h session [] t = t
-  calls-tell h session (call ∷ calls) t =
-      calls-tell (extended h call (our-sessions session call)) (our-sessions session call .session) calls (call-tells h session call t)
-
-  pub record-tells : (start : Session) (calls : List Call) → Tells (history our-sessions start calls) (record-after our-sessions start calls)
-  record-tells start calls = calls-tell none start calls tt
+pub record-tells : (start : Session) (calls : List Call) → Tells (history our-sessions start calls) (record-after our-sessions start calls)
+record-tells start calls = calls-tell none start calls tt
