@@ -1,4 +1,5 @@
-// Whether a state gives a response. Helpers: the state is one of the network's, and rows 5 to 10 do not hold.
+// What each receiver answered, and whether a state gives a response. Helpers between crates: the nets are those that row 5 admits,
+// and there are at most 64 responses; a state is one of the network's, and the vectors are as many as the responses.
 ghost use mathlib.Core.Path.{_≡_};
 ghost use Prim.Native.Nat.{ℕ, _<_, _≤_, _^_};
 ghost use lib.ListN.{length};

@@ -11,7 +11,7 @@ ghost use Rattle.diagnosis.specs.Diagnosis.{«fit-answer», «diagnosis-
 
 mod classes;
 pub mod findings;
-mod fit;
+pub mod fit;
 pub mod walking;
 
 use checker::Verdict;

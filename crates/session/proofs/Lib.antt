@@ -1,2 +1,3 @@
 pub mod Padding
 pub mod Stepping
+pub mod Records

@@ -66,3 +66,12 @@ awaits-second session =
     ∷ is-zeros 48 (session .reaches)
     ∷ eqb (session .spent) 0
     ∷ [])
+
+-- of these tests, those that ask about the array of the first answers only
+abbrev pub first-answers-held : Network → List ℕ → Bool
+first-answers-held net first =
+    all-hold
+    (is-zeros (8 - word-length net) (drop (word-length net) first)
+    ∷ not (has-high-bit net (take (word-length net) first))
+    ∷ not (eqb (length (unclear net (take (word-length net) first))) 0)
+    ∷ [])

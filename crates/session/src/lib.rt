@@ -5,6 +5,8 @@ ghost use Rattle.words.specs.Answers.{«lent-after»};
 ghost use Rattle.session.specs.Calls.{«begin-answer», begun};
 
 mod new_record;
+pub mod drive;
+mod record;
 
 use network::Network;
 

@@ -1,0 +1,192 @@
+-- Laws of the session's record: what the tests say of the records that accepted calls leave, and of any other record.
+use mathlib.Core.Path.{_≡_, refl, sym, ap, _∙_}
+use mathlib.Core.Bool.{Bool, true, false, not, _&&_}
+use mathlib.Core.Logic.{_≢_}
+use mathlib.Core.List.{List, [], _∷_, _++_}
+use Prim.Native.Nat.{ℕ, zero, suc, _+_, _-_, _≤_, _<_}
+use native.Mathlib.Nat.{le-refl}
+use native.Mathlib.Omega.{arith}
+use lib.Dec.{eqb}
+use lib.ListN.{length, getD, take, length-drop, drop, replicate, length-append, length-replicate, getD-replicate, take-append-drop}
+use lib.Seq.{take-all, ext-getD, take-at, drop-at, length-take-le}
+use borrow.Author.Tests.{eqb-true, eqb-false, eq-eqb, ne-eqb, not-true, not-false}
+use Rattle.words.specs.Bits.{at}
+use Rattle.words.specs.Searching.{any}
+use Rattle.words.proofs.Tests.{and-left, and-right, and-both, and-false}
+use Rattle.words.proofs.Searching.{any-at, any-none, any-false}
+use Rattle.network.specs.declared.Network.{Network}
+use Rattle.network.specs.Rows.{bad-net-count, has-high-bit}
+use Rattle.steps.specs.FirstStep.{word-length}
+use Rattle.steps.specs.SecondStep.{unclear}
+use Rattle.session.specs.declared.Session.{Session}
+use Rattle.session.specs.Record.{first-answers-held, pad, awaiting-first, awaiting-second, is-zeros, all-hold, held-answers, awaits-first, awaits-second}
+
+-- ---- words that are all 0
+
+pub zeros-hold : (size : ℕ) (words : List ℕ) → length words ≡ size → ((i : ℕ) → i < length words → at words i ≡ 0) → is-zeros size words ≡ true
+unfolding is-zeros
+zeros-hold size words e h =
+    let none : any (length words) (λ i. not (eqb (at words i) 0)) ≡ false = any-none _ (length words) (λ i l. ap not (eq-eqb _ _ (h i l))) in
+    and-both (eq-eqb _ _ e) (ap not none)
+
+pub zeros-fail : (size : ℕ) (words : List ℕ) (i : ℕ) → i < length words → at words i ≢ 0 → is-zeros size words ≡ false
+unfolding is-zeros
+zeros-fail size words i l n =
+    let some : any (length words) (λ z. not (eqb (at words z) 0)) ≡ true = any-at _ (length words) i l (ap not (ne-eqb _ _ n)) in
+    rw some (and-false (eqb (length words) size))
+
+pub zeros-size : (size : ℕ) (words : List ℕ) → is-zeros size words ≡ true → length words ≡ size
+unfolding is-zeros
+zeros-size size words e = eqb-true _ _ (and-left (eqb (length words) size) _ e)
+
+zeros-at : (size : ℕ) (words : List ℕ) → is-zeros size words ≡ true → (i : ℕ) → i < length words → at words i ≡ 0
+unfolding is-zeros
+zeros-at size words e i l =
+    eqb-true _ _ (not-false _ (any-false (λ z. not (eqb (at words z) 0)) (length words) i l (not-true _ (and-right (eqb (length words) size) _ e))))
+
+-- they are a list of zeros, and a list of zeros is such
+pub zeros-are : (size : ℕ) (words : List ℕ) → is-zeros size words ≡ true → words ≡ replicate size 0
+zeros-are size words e =
+    ext-getD 0 words (replicate size 0) (zeros-size size words e ∙ sym (length-replicate {A = ℕ} size 0))
+    (λ i l. zeros-at size words e i l ∙ sym (getD-replicate {A = ℕ} size i 0 0 (rw (zeros-size size words e) at l)))
+
+pub zeros-of : (size : ℕ) → is-zeros size (replicate size 0) ≡ true
+zeros-of size =
+    zeros-hold size (replicate size 0) (length-replicate {A = ℕ} size 0)
+    (λ i l. getD-replicate {A = ℕ} size i 0 0 (rw (length-replicate {A = ℕ} size 0) at l))
+
+-- told by a test of the whole list
+pub zeros-by : (size : ℕ) (words : List ℕ) {b d : Bool} → length words ≡ size → b ≡ is-zeros (length words) words → b ≡ d → is-zeros size words ≡ d
+zeros-by size words e h f = ap (λ (n : ℕ). is-zeros n words) (sym e) ∙ sym h ∙ f
+
+-- told by a test of the words from p on
+pub zeros-after : (words : List ℕ) (p q : ℕ) {b d : Bool} → length words ≡ 8 → p ≡ q
+    → b ≡ is-zeros (length (take (length words - p) (drop p words))) (take (length words - p) (drop p words)) → b ≡ d → is-zeros (8 - q) (drop q words) ≡ d
+zeros-after words p q eight same h f =
+    let size : length (drop q words) ≡ 8 - q = length-drop q words ∙ ap (λ (n : ℕ). n - q) eight in
+    let whole : take (length words - p) (drop p words) ≡ drop q words = rw same (take-all (length words - q) (drop q words) (rw (length-drop q words) (le-refl (length words - q)))) in
+    zeros-by (8 - q) (drop q words) size (rw whole at h) f
+
+-- the length of a list that is the front of another
+pub length-front : (count : ℕ) (words : List ℕ) {front : List ℕ} → count ≤ length words → take count words ≡ front → length front ≡ count
+length-front count words l e = ap length (sym e) ∙ length-take-le count words l
+
+-- ---- tests one by one
+
+pub and-true : (b : Bool) → b && true ≡ b
+and-true true = refl
+and-true false = refl
+
+-- where all tests hold, the test at an index does
+hold-at : (i : ℕ) (tests : List Bool) → all-hold tests ≡ true → getD tests i true ≡ true
+unfolding all-hold
+hold-at i [] e = refl
+hold-at zero (test ∷ tests) e = and-left test _ e
+hold-at (suc i) (test ∷ tests) e = hold-at i tests (and-right test _ e)
+
+-- ---- a record that waits for first answers
+
+pub awaits-first-of : (net : Network) → bad-net-count net ≡ false → awaits-first (awaiting-first net) ≡ true
+unfolding awaits-first all-hold
+awaits-first-of net e = rw (e, zeros-of 8, zeros-of 48)
+
+module _ (s : Session) (e : awaits-first s ≡ true) where
+  pub awaits-first-step : s .step ≡ 1
+  unfolding awaits-first
+  awaits-first-step = eqb-true (s .step) 1 (hold-at 0 _ e)
+
+  pub awaits-first-is : (s ≡ awaiting-first (s .network)) × (bad-net-count (s .network) ≡ false)
+  unfolding awaits-first
+  awaits-first-is = (
+    λ j. record {
+      step = awaits-first-step j;
+      network = s .network;
+      first = zeros-are 8 (s .first) (hold-at 2 _ e) j;
+      reaches = zeros-are 48 (s .reaches) (hold-at 3 _ e) j;
+      spent = eqb-true (s .spent) 0 (hold-at 4 _ e) j;
+    },
+    not-true _ (hold-at 1 _ e),
+  )
+
+-- ---- a record that waits for second answers
+
+hold-three : (a b c : Bool) (tests : List Bool) → all-hold (a ∷ b ∷ c ∷ tests) ≡ all-hold (a ∷ b ∷ c ∷ []) && all-hold tests
+unfolding all-hold
+hold-three true true true tests = refl
+hold-three true true false tests = refl
+hold-three true false c tests = refl
+hold-three false b c tests = refl
+
+-- the tests of an array of 8 entries, in the order in which the code asks them
+pub awaits-second-by : (s : Session) → length (s .first) ≡ 8
+    → awaits-second s
+    ≡ eqb (s .step) 2 && (not (bad-net-count (s .network)) && (first-answers-held (s .network) (s .first) && (is-zeros 48 (s .reaches) && eqb (s .spent) 0)))
+unfolding awaits-second all-hold
+awaits-second-by s e =
+    let net = s .network in
+    let zeros = is-zeros (8 - word-length net) (drop (word-length net) (s .first)) in
+    let narrow = not (has-high-bit net (held-answers s)) in
+    let some = not (eqb (length (unclear net (held-answers s))) 0) in
+    rw (eq-eqb _ _ e)
+    (ap (λ (b : Bool). eqb (s .step) 2 && (not (bad-net-count net) && b))
+    (hold-three zeros narrow some (is-zeros 48 (s .reaches) ∷ eqb (s .spent) 0 ∷ [])
+    ∙ ap (λ (b : Bool). first-answers-held net (s .first) && (is-zeros 48 (s .reaches) && b)) (and-true (eqb (s .spent) 0))))
+
+pub held-of : (net : Network) (answers : List ℕ) → length answers ≡ word-length net → held-answers (awaiting-second net answers) ≡ answers
+held-of net answers e = take-at answers (replicate (8 - length answers) 0) (word-length net) e
+
+pub awaits-second-of : (net : Network) (answers : List ℕ) → bad-net-count net ≡ false → length answers ≡ word-length net → word-length net ≤ 8
+    → has-high-bit net answers ≡ false → length (unclear net answers) ≢ 0 → awaits-second (awaiting-second net answers) ≡ true
+unfolding awaits-second all-hold
+awaits-second-of net answers count e l high some =
+    let size : length (pad 8 answers) ≡ 8 =
+    length-append answers (replicate (8 - length answers) 0) ∙ omega (arith, length-replicate {A = ℕ} (8 - length answers) 0)
+    in
+    let rest : drop (word-length net) (pad 8 answers) ≡ replicate (8 - word-length net) 0 =
+    drop-at answers (replicate (8 - length answers) 0) (word-length net) e ∙ ap (λ (n : ℕ). replicate (8 - n) 0) e
+    in
+    rw (count, eq-eqb _ _ size, rest, zeros-of (8 - word-length net), held-of net answers e, high, ne-eqb _ _ some, zeros-of 48)
+
+pub record WaitsForSecond (s : Session) : Type 0 where
+  pub is : s ≡ awaiting-second (s .network) (held-answers s)
+  pub nets-admitted : bad-net-count (s .network) ≡ false
+  pub one-a-vector : length (held-answers s) ≡ word-length (s .network)
+  pub no-high-bit : has-high-bit (s .network) (held-answers s) ≡ false
+  pub some-unclear : length (unclear (s .network) (held-answers s)) ≢ 0
+
+module _ (s : Session) (e : awaits-second s ≡ true) where
+  pub awaits-second-step : s .step ≡ 2
+  unfolding awaits-second
+  awaits-second-step = eqb-true (s .step) 2 (hold-at 0 _ e)
+
+  pub awaits-second-nets : bad-net-count (s .network) ≡ false
+  unfolding awaits-second
+  awaits-second-nets = not-true _ (hold-at 1 _ e)
+
+  pub awaits-second-is : word-length (s .network) ≤ 8 → WaitsForSecond s
+  unfolding awaits-second
+  awaits-second-is l = record {
+    is = λ j. record {
+      step = awaits-second-step j;
+      network = s .network;
+      first = padded j;
+      reaches = zeros-are 48 (s .reaches) (hold-at 6 _ e) j;
+      spent = eqb-true (s .spent) 0 (hold-at 7 _ e) j;
+    };
+    nets-admitted = awaits-second-nets;
+    one-a-vector = size;
+    no-high-bit = not-true _ (hold-at 4 _ e);
+    some-unclear = eqb-false _ 0 (not-true _ (hold-at 5 _ e));
+  }
+    where
+      eight : length (s .first) ≡ 8
+      eight = eqb-true _ 8 (hold-at 2 _ e)
+
+      size : length (held-answers s) ≡ word-length (s .network)
+      size = length-take-le (word-length (s .network)) (s .first) (omega (arith, eight, l))
+
+      rest : drop (word-length (s .network)) (s .first) ≡ replicate (8 - length (held-answers s)) 0
+      rest = zeros-are (8 - word-length (s .network)) _ (hold-at 3 _ e) ∙ ap (λ (n : ℕ). replicate (8 - n) 0) (sym size)
+
+      padded : s .first ≡ pad 8 (held-answers s)
+      padded = sym (take-append-drop (word-length (s .network)) (s .first)) ∙ ap (λ (r : List ℕ). held-answers s ++ r) rest

@@ -1,0 +1,96 @@
+use borrow.Author.Needs.{needs}
+use borrow.Author.Tests.{eq-eqb, ne-eqb, not-true, not-false}
+use mathlib.Core.Path.{_≡_, sym, _∙_}
+use mathlib.Core.Bool.{false, true}
+use lib.Dec.{eqb}
+use lib.ListN.{length}
+use Rattle.network.specs.Rows.{bad-net-count}
+use Rattle.network.proofs.Rows.{decides-row-5, nets-admitted}
+use Rattle.session.specs.Record.{is-zeros, first-answers-held}
+use Rattle.session.proofs.Records.{zeros-by, awaits-second-by}
+use Rattle.session.proofs.record.awaits_second.Statement.{statement}
+use Rattle.session.proofs.record.awaits_second.Tie as tie
+
+-- what is known where a test has held
+holds-step : (c : tie.Else1) → eqb (c .before .args .t1 .step) 2 ≡ true
+holds-step c = eq-eqb _ _ (c .if1 .left)
+
+holds-nets : (c : tie.Else2) → bad-net-count (c .before .before .before .before .args .t1 .network) ≡ false
+holds-nets c = sym (c .before .bad-net-count .ensures) ∙ c .if2 .left
+
+holds-first : (c : tie.Else3) → let a = c .before .before .before .before .before .before .before .before .before .before .args .t1 in first-answers-held (a .network) (a .first) ≡ true
+holds-first c = sym (c .before .holds-first-answers .ensures) ∙ not-false _ (c .if3 .left)
+
+returns : tie.Need-returns
+returns c =
+    let size : length (c .before .args .t1 .first) ≡ 8 = search needs in
+    rw (awaits-second-by (c .before .args .t1) size, ne-eqb _ _ (c .if1 .taken))
+
+bad-net-count-requires : tie.Need-bad-net-count-requires
+bad-net-count-requires c κs = search needs
+
+returns-2 : tie.Need-returns-2
+returns-2 c =
+    let a = c .before .before .before .before .args .t1 in
+    let size : length (a .first) ≡ 8 = search needs in
+    rw (awaits-second-by a size, holds-step (c .before .before .before), sym (c .before .bad-net-count .ensures) ∙ c .if2 .taken)
+
+holds-first-answers-requires : tie.Need-holds-first-answers-requires
+holds-first-answers-requires c κs =
+    let b = c .before .before .before .before in
+    let a = b .before .before .before .before .args .t1 in
+    let nets = nets-admitted (a .network) (decides-row-5 (a .network) .1 (holds-nets b)) in
+    (nets .0, nets .1, search needs)
+
+returns-3 : tie.Need-returns-3
+returns-3 c =
+    let b = c .before .before .before .before .before .before in
+    let a = b .before .before .before .before .args .t1 in
+    let size : length (a .first) ≡ 8 = search needs in
+    rw (awaits-second-by a size, holds-step (b .before .before .before), holds-nets b, sym (c .before .holds-first-answers .ensures) ∙ not-true _ (c .if3 .taken))
+
+is-zeros-requires : tie.Need-is-zeros-requires
+is-zeros-requires c κs = search needs
+
+returns-4 : tie.Need-returns-4
+returns-4 c =
+    let z = c .before .before .before .before .before in
+    let b = z .before .before .before .before .before .before in
+    let a = b .before .before .before .before .args .t1 in
+    let size : length (a .first) ≡ 8 = search needs in
+    let reaches-size : length (a .reaches) ≡ 48 = search needs in
+    rw (
+      awaits-second-by a size,
+      holds-step (b .before .before .before),
+      holds-nets b,
+      holds-first z,
+      zeros-by 48 (a .reaches) reaches-size (c .before .is-zeros .ensures) (not-true _ (c .if4 .taken)),
+    )
+
+returns-5 : tie.Need-returns-5
+returns-5 c =
+    let z = c .before .before .before .before .before in
+    let b = z .before .before .before .before .before .before in
+    let a = b .before .before .before .before .args .t1 in
+    let size : length (a .first) ≡ 8 = search needs in
+    let reaches-size : length (a .reaches) ≡ 48 = search needs in
+    rw (
+      awaits-second-by a size,
+      holds-step (b .before .before .before),
+      holds-nets b,
+      holds-first z,
+      zeros-by 48 (a .reaches) reaches-size (c .before .is-zeros .ensures) (not-false _ (c .if4 .left)),
+    )
+
+pub awaits-second-spec : {M : Type 1} → statement M
+awaits-second-spec =
+    tie.close
+    (tie.spec
+    returns
+    bad-net-count-requires
+    returns-2
+    holds-first-answers-requires
+    returns-3
+    is-zeros-requires
+    returns-4
+    returns-5)

@@ -1,0 +1,116 @@
+-- The vectors of step two, as a loop over the nets makes them.
+use mathlib.Core.Path.{_≡_, refl, sym, ap, ap₂, _∙_}
+use mathlib.Core.Bool.{Bool, true, false, not}
+use mathlib.Core.Logic.{_≢_}
+use mathlib.Core.List.{List, [], _∷_, _++_, map}
+use Prim.Native.Nat.{ℕ, suc, _+_, _≤_, _<_}
+use native.Mathlib.Numerals.{add-one}
+use native.Mathlib.Omega.{arith}
+use lib.Dec.{eqb}
+use lib.ListN.{length, take, set, replicate, length-set, length-replicate}
+use lib.Seq.{take-suc-set, length-take-le, getD-take, ext-getD}
+use borrow.Author.Tests.{ne-eqb}
+use Rattle.words.specs.Bits.{at}
+use Rattle.words.specs.Searching.{passing}
+use Rattle.words.specs.Turning.{column, transpose}
+use Rattle.words.proofs.Passing.{passing-yes, passing-no, count-passed}
+use Rattle.words.proofs.Making.{map-snoc}
+use Rattle.words.proofs.Columns.{transpose-size, transpose-at}
+use Rattle.network.specs.declared.Network.{Network}
+use Rattle.network.specs.Reading.{walking-vector, extra-vector}
+use Rattle.steps.specs.FirstStep.{sequential-words}
+use Rattle.steps.specs.SecondStep.{only-at, is-clear, unclear, settling-vectors, second-vectors}
+
+-- ---- no vectors where no net is given
+
+settling-none : (net : Network) (nets : List ℕ) → length nets ≡ 0 → [] ≡ settling-vectors net nets
+settling-none net [] e = refl
+settling-none net (i ∷ nets) e = absurd (omega arith)
+
+settling-some : (net : Network) (nets : List ℕ) → length nets ≢ 0 → extra-vector net ∷ map (walking-vector net) nets ≡ settling-vectors net nets
+settling-some net [] n = absurd (n refl)
+settling-some net (i ∷ nets) n = refl
+
+settling-empty : (net : Network) (nets : List ℕ) → eqb (length (settling-vectors net nets)) 0 ≡ eqb (length nets) 0
+settling-empty net [] = refl
+settling-empty net (i ∷ nets) = ne-eqb (length (settling-vectors net (i ∷ nets))) 0 (λ e. omega arith) ∙ sym (ne-eqb (suc (length nets)) 0 (λ e. omega arith))
+
+pub second-empty : (net : Network) (answers : List ℕ) → eqb (length (second-vectors net answers)) 0 ≡ eqb (length (unclear net answers)) 0
+unfolding second-vectors
+second-empty net answers = settling-empty net (unclear net answers)
+
+-- ---- what the receivers returned
+
+pub columns-are : (n : ℕ) (columns answers : List ℕ) → n ≤ length columns → ((i : ℕ) → i < n → at columns i ≡ column answers i)
+    → take n columns ≡ transpose n answers
+columns-are n columns answers l h =
+    let size : length (take n columns) ≡ n = length-take-le n columns l in
+    ext-getD 0 (take n columns) (transpose n answers) (size ∙ sym (transpose-size n answers))
+    (λ i m. let k : i < n = rw size at m in getD-take n columns i 0 k ∙ h i k ∙ sym (transpose-at n answers i k))
+
+-- ---- net by net
+
+-- the nets below i whose word its own receiver alone did not return
+abbrev pub unclear-below : (words returned : List ℕ) → ℕ → List ℕ
+unclear-below words returned i = passing (λ z. not (only-at (at words z) returned z)) i
+
+-- what the loop has written before net i
+pub record Settled (net : Network) (words returned vectors : List ℕ) (count i : ℕ) : Type 0 where
+  pub size : length vectors ≡ 49
+  pub few : count ≤ i + 1
+  pub number : count ≡ suc (length (unclear-below words returned i))
+  pub front : take count vectors ≡ extra-vector net ∷ map (walking-vector net) (unclear-below words returned i)
+
+module _ (net : Network) (words returned : List ℕ) where
+  pub settled-start : (x : ℕ) → x ≡ extra-vector net → Settled net words returned (set (replicate 49 0) 0 x) 1 0
+  unfolding passing
+  settled-start x e = record {
+    size = length-set (replicate 49 0) 0 x ∙ length-replicate {A = ℕ} 49 0;
+    few = omega arith;
+    number = refl;
+    front = ap (λ (y : ℕ). y ∷ []) e;
+  }
+
+  -- a net that is unclear, a net that is clear, and the end
+  module _ (vectors : List ℕ) (count i : ℕ) (s : Settled net words returned vectors count i) where
+    pub settled-more : (x : ℕ) → i < 48 → only-at (at words i) returned i ≡ false → x ≡ walking-vector net i
+        → Settled net words returned (set vectors count x) (count + 1) (i + 1)
+    settled-more x l e w = rw (add-one i, add-one count) record {
+      size = length-set vectors count x ∙ s .size;
+      few = omega (arith, s .few);
+      number = ap suc (s .number ∙ sym (count-passed p i unsure));
+      front =
+          take-suc-set vectors count x (omega (arith, s .few, s .size))
+          ∙ ap₂ (λ (ys : List ℕ) (y : ℕ). ys ++ y ∷ []) (s .front) w
+          ∙ ap (λ (ys : List ℕ). extra-vector net ∷ ys) (sym (map-snoc (walking-vector net) (passing p i) i))
+          ∙ ap (λ (nets : List ℕ). extra-vector net ∷ map (walking-vector net) nets) (sym (passing-yes p i unsure));
+    }
+      where
+        p : ℕ → Bool
+        p z = not (only-at (at words z) returned z)
+
+        unsure : p i ≡ true
+        unsure = ap not e
+
+    pub settled-same : only-at (at words i) returned i ≡ true → Settled net words returned vectors count (i + 1)
+    settled-same e =
+        let same : unclear-below words returned (i + 1) ≡ unclear-below words returned i = rw (add-one i) (passing-no (λ z. not (only-at (at words z) returned z)) i (ap not e)) in
+        record {
+          size = s .size;
+          few = omega (arith, s .few);
+          number = rw same (s .number);
+          front = rw same (s .front);
+        }
+
+    module _ (answers : List ℕ) (e : words ≡ sequential-words net) (f : returned ≡ transpose (net .nets) answers) (g : i ≡ net .nets) where
+      all-nets : unclear-below words returned i ≡ unclear net answers
+      unfolding unclear is-clear
+      all-nets = rw (e, f, g)
+
+      pub settled-none : count ≡ 1 → [] ≡ second-vectors net answers
+      unfolding second-vectors
+      settled-none h = rw (← all-nets) (settling-none net (unclear-below words returned i) (omega (arith, s .number)))
+
+      pub settled-some : count ≢ 1 → take count vectors ≡ second-vectors net answers
+      unfolding second-vectors
+      settled-some h = s .front ∙ rw (← all-nets) (settling-some net (unclear-below words returned i) (λ z. h (s .number ∙ ap suc z)))

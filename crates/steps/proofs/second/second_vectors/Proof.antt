@@ -1,0 +1,62 @@
+use borrow.Author.Needs.{needs}
+use mathlib.Core.Path.{_≡_, sym}
+use Prim.Native.Nat.{_≤_}
+use native.Mathlib.Omega.{arith}
+use lib.ListN.{length, take}
+use lib.Seq.{length-take-le}
+use Rattle.steps.proofs.Settling.{columns-are}
+use Rattle.steps.proofs.second.second_vectors.Statement.{statement}
+use Rattle.steps.proofs.second.second_vectors.Tie as tie
+
+sequential-words-requires : tie.Need-sequential-words-requires
+sequential-words-requires c κs = search needs
+
+answers-of-requires : tie.Need-answers-of-requires
+answers-of-requires c κs = search needs
+
+array-share-prefix-words : tie.Need-array-share-prefix-words
+array-share-prefix-words c = search needs
+
+-- a word for each net, and a returned word
+module _ (c : tie.After-answers-of) where
+  words-size : length (take (c .before .before .before .args .net .nets) (c .before .sequential-words .result)) ≡ c .before .before .before .args .net .nets
+  words-size = length-take-le _ _ (omega (arith, c .before .before .before .pre .1, c .before .sequential-words .ensures .0))
+
+  returned-room : c .before .before .before .args .net .nets ≤ length (c .answers-of .result)
+  returned-room = omega (arith, c .before .before .before .pre .1, c .answers-of .ensures .0)
+
+  returned-size : length (take (c .before .before .before .args .net .nets) (c .answers-of .result)) ≡ c .before .before .before .args .net .nets
+  returned-size = length-take-le _ _ returned-room
+
+slice-aggregate-settle : tie.Need-slice-aggregate-settle
+slice-aggregate-settle c = sym (words-size (c .before))
+
+array-share-prefix-returned : tie.Need-array-share-prefix-returned
+array-share-prefix-returned c = search needs
+
+slice-aggregate-settle-2 : tie.Need-slice-aggregate-settle-2
+slice-aggregate-settle-2 c = sym (returned-size (c .before .before))
+
+settle-requires : tie.Need-settle-requires
+settle-requires c κs =
+    let b = c .before .before in
+    (b .before .before .before .pre .1, b .before .sequential-words .ensures .1, words-size b, returned-size b)
+
+returns : tie.Need-returns
+returns c =
+    let b = c .before .before .before in
+    let a = b .before .before .before .args in
+    c .settle .ensures (a .answers .now) (columns-are (a .net .nets) (b .answers-of .result) (a .answers .now) (returned-room b) (b .answers-of .ensures .1))
+
+pub second-vectors-spec : {M : Type 1} → statement M
+second-vectors-spec =
+    tie.close
+    (tie.spec
+    sequential-words-requires
+    answers-of-requires
+    array-share-prefix-words
+    slice-aggregate-settle
+    array-share-prefix-returned
+    slice-aggregate-settle-2
+    settle-requires
+    returns)
