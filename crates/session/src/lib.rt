@@ -4,8 +4,8 @@ ghost use lib.ListN.{length};
 ghost use Rattle.words.specs.Answers.{«lent-after»};
 ghost use Rattle.session.specs.Calls.{«begin-answer», begun};
 
-mod new_record;
 pub mod drive;
+mod new_record;
 mod record;
 
 use network::Network;

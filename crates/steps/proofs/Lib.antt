@@ -2,4 +2,4 @@ pub mod WordsApart
 pub mod StepOneWords
 pub mod WordsGathered
 pub mod BothSteps
-pub mod Settling
+pub mod StepTwoVectors
