@@ -29,7 +29,7 @@ use Rattle.network.proofs.Reading.{walking-below, reads-floating, reads-driven,
 use Rattle.diagnosis.specs.ReadBack.{read-back, no-state-fits}
 use Rattle.diagnosis.specs.Walking.{Walked}
 use Rattle.diagnosis.proofs.Gathering.{walked-is}
-use Rattle.diagnosis.proofs.ReadingBack.{fits-answers, answers-fit, read-back-fits, smallest-read-back}
+use Rattle.diagnosis.proofs.ReadingBack.{fits-answers, answers-fit, read-back-fits, smallest-read-back, candidate-fails}
 use Rattle.steps.specs.FirstStep.{word-length, sequential-words, first-vectors}
 use Rattle.steps.specs.SecondStep.{only-at, is-clear, Clear, unclear, settling-vectors, second-vectors, session-vectors, fault-free-state}
 use Rattle.steps.proofs.WordsApart.{WordsApart}
@@ -358,11 +358,15 @@ module _ (net : Network) (apart : WordsApart net) (first second state : List ℕ
 
 module _ (net : Network) (first second : List ℕ) (size : length first ≡ word-length net) (also : length second ≡ length (second-vectors net first))
     (narrow : (t : ℕ) → t < length first → at first t < 2 ^ (net .nets)) (also-narrow : (t : ℕ) → t < length second → at second t < 2 ^ (net .nets)) where
+  both-size : length (first ++ second) ≡ length (session-vectors net first)
+  both-size = omega (arith, length-append first second, length-append (first-vectors net) (second-vectors net first), first-size net)
+
+  both-narrow : (t : ℕ) → t < length (first ++ second) → at (first ++ second) t < 2 ^ (net .nets)
+  both-narrow = below-parts (2 ^ (net .nets)) first second narrow also-narrow
+
   pub both-fits : no-state-fits net (net .nets) (session-vectors net first) (first ++ second) ≡ false
       → Fits net (net .nets) (session-vectors net first) (first ++ second) (read-back net (net .nets) (session-vectors net first) (first ++ second))
-  both-fits e =
-      read-back-fits net (net .nets) (session-vectors net first) (first ++ second)
-      (omega (arith, length-append first second, length-append (first-vectors net) (second-vectors net first), first-size net)) (below-parts (2 ^ (net .nets)) first second narrow also-narrow) e
+  both-fits e = read-back-fits net (net .nets) (session-vectors net first) (first ++ second) both-size both-narrow e
 
   pub decides-both : WordsApart net
       → Decides (no-state-fits net (net .nets) (session-vectors net first) (first ++ second))
@@ -371,6 +375,21 @@ module _ (net : Network) (first second : List ℕ) (size : length first ≡ word
     λ e w. contrary e (both-read-back net apart first second (w .0) size (w .1) .0),
     λ e n. n (read-back net (net .nets) (session-vectors net first) (first ++ second), both-fits e),
   )
+
+  -- a test of the only reaches that can fit decides it, and finds what is read back
+  pub candidate-decides : WordsApart net → (candidate : List ℕ) (fits : Bool)
+      → ((state : List ℕ) → Fits net (net .nets) (session-vectors net first) (first ++ second) state → candidate ≡ state)
+      → Decides fits (Fits net (net .nets) (session-vectors net first) (first ++ second) candidate)
+      → (fits ≡ not (no-state-fits net (net .nets) (session-vectors net first) (first ++ second)))
+      × (fits ≡ true → candidate ≡ read-back net (net .nets) (session-vectors net first) (first ++ second))
+  candidate-decides apart candidate fits only decides = (⊎-elim (λ e. e ∙ ap not (sym (found e .0))) (λ e. e ∙ ap not (sym (fails e))) (cases fits), λ e. sym (found e .1))
+    where
+      found : fits ≡ true → (no-state-fits net (net .nets) (session-vectors net first) (first ++ second) ≡ false)
+          × (read-back net (net .nets) (session-vectors net first) (first ++ second) ≡ candidate)
+      found e = both-read-back net apart first second candidate size (decides .0 e)
+
+      fails : fits ≡ false → no-state-fits net (net .nets) (session-vectors net first) (first ++ second) ≡ true
+      fails e = candidate-fails net (net .nets) (session-vectors net first) (first ++ second) both-size both-narrow candidate only (decides .1 e)
 
 -- ---- no net unclear: the fault-free state, and no other
 

@@ -10,7 +10,7 @@ use crate::SecondVectors;
 use network::Network;
 
 // Whether entry i is this word, and no other entry is.
-fn only_at(word: u64, words: &[u64], i: usize) -> bool
+pub fn only_at(word: u64, words: &[u64], i: usize) -> bool
     requires { ⌜ i < length (now words) ⌝ }
     ensures { λ r. ⌜ r ≡ only-at word (now (words .entry)) i ⌝ }
 {

@@ -11,7 +11,7 @@ use Rattle.network.specs.Rows.{has-high-bit}
 use Rattle.steps.specs.FirstStep.{word-length}
 use Rattle.steps.specs.SecondStep.{unclear}
 use Rattle.steps.proofs.StepOneWords.{length-bounds}
-use Rattle.steps.proofs.Settling.{second-empty}
+use Rattle.steps.proofs.StepTwoVectors.{second-empty}
 use Rattle.session.specs.Record.{is-zeros, all-hold}
 use Rattle.session.proofs.Records.{zeros-after, and-true}
 use Rattle.session.proofs.record.holds_first_answers.Statement.{statement}

@@ -4,7 +4,7 @@ use Prim.Native.Nat.{_≤_}
 use native.Mathlib.Omega.{arith}
 use lib.ListN.{length, take}
 use lib.Seq.{length-take-le}
-use Rattle.steps.proofs.Settling.{columns-are}
+use Rattle.steps.proofs.StepTwoVectors.{columns-are}
 use Rattle.steps.proofs.second.second_vectors.Statement.{statement}
 use Rattle.steps.proofs.second.second_vectors.Tie as tie
 

@@ -5,7 +5,7 @@ use mathlib.Core.Logic.{⊎-elim}
 use Prim.Native.Nat.{_≤_, _<_, _-_}
 use native.Mathlib.Omega.{arith}
 use lib.ListN.{length}
-use Rattle.steps.proofs.Settling.{Settled, settled-start, settled-more, settled-same, settled-none, settled-some}
+use Rattle.steps.proofs.StepTwoVectors.{Settled, settled-start, settled-more, settled-same, settled-none, settled-some}
 use Rattle.steps.proofs.second.settle.Statement.{statement}
 use Rattle.steps.proofs.second.settle.Tie as tie
 
