@@ -17,7 +17,7 @@ use Rattle.words.specs.Searching.{passing, any}
 use Rattle.words.specs.Turning.{column, transpose}
 use Rattle.words.proofs.Bits.{words-equal, subset-at-most, has-own, has-only, has-not-zero, some-bit}
 use Rattle.words.proofs.Classes.{ones-at-most}
-use Rattle.words.proofs.Columns.{length-tabulate, tabulate-at, transpose-size, transpose-at, transpose-below, transpose-bits}
+use Rattle.words.proofs.Columns.{length-tabulate, tabulate-at, transpose-size, transpose-at}
 use Rattle.words.proofs.Making.{map-at}
 use Rattle.words.proofs.Passing.{count-most, count-grows-past, entry-of, entry-is}
 use Rattle.words.proofs.Searching.{any-at, any-none}

@@ -18,7 +18,7 @@ use Rattle.words.specs.Searching.{least, or-zero, any, passing}
 use Rattle.words.proofs.Tests.{and-left, and-right, less-or-not}
 use Rattle.words.proofs.Searching.{Least, first, nowhere, least-below, any-some, any-false}
 use Rattle.words.proofs.Passing.{Entry, entry-is, entry-of, count-grows}
-use Rattle.words.proofs.Columns.{transpose-size, transpose-bits, transpose-below}
+use Rattle.words.proofs.Columns.{transpose-size, transpose-bits}
 use Rattle.network.specs.declared.Network.{Network}
 use Rattle.steps.specs.FirstStep.{binomial, word-length, balanced-words, sequential-words, first-vectors, WordLength, SmallestWords}
 use Rattle.steps.specs.Open.{open-steps}

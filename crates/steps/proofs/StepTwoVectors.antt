@@ -20,12 +20,9 @@ use Rattle.network.specs.declared.Network.{Network}
 use Rattle.network.specs.Reading.{walking-vector, extra-vector}
 use Rattle.steps.specs.FirstStep.{sequential-words}
 use Rattle.steps.specs.SecondStep.{only-at, is-clear, unclear, settling-vectors, second-vectors}
+use Rattle.steps.proofs.BothSteps.{second-none}
 
--- ---- no vectors where no net is given
-
-settling-none : (net : Network) (nets : List ℕ) → length nets ≡ 0 → [] ≡ settling-vectors net nets
-settling-none net [] e = refl
-settling-none net (i ∷ nets) e = absurd (omega arith)
+-- ---- no vectors where no net is given, and else the extra vector first
 
 settling-some : (net : Network) (nets : List ℕ) → length nets ≢ 0 → extra-vector net ∷ map (walking-vector net) nets ≡ settling-vectors net nets
 settling-some net [] n = absurd (n refl)
@@ -108,8 +105,7 @@ module _ (net : Network) (words returned : List ℕ) where
       all-nets = rw (e, f, g)
 
       pub settled-none : count ≡ 1 → [] ≡ second-vectors net answers
-      unfolding second-vectors
-      settled-none h = rw (← all-nets) (settling-none net (unclear-below words returned i) (omega (arith, s .number)))
+      settled-none h = sym (second-none net answers (omega (arith, s .number, ap length all-nets)))
 
       pub settled-some : count ≢ 1 → take count vectors ≡ second-vectors net answers
       unfolding second-vectors

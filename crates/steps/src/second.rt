@@ -1,4 +1,5 @@
-// The vectors of step two. A helper between crates: the nets are those that row 5 admits, and there are at most 64 answers.
+// The vectors of step two. Helpers between crates: the nets are those that row 5 admits, there are at most 64 answers, and an index is
+// inside its list.
 ghost use mathlib.Core.Path.{_≡_};
 ghost use mathlib.Core.List.{List};
 ghost use Prim.Native.Nat.{ℕ, _<_, _≤_};

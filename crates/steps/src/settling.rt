@@ -1,4 +1,5 @@
-// How the answers of both steps give the state. Helpers between crates: the nets are those that row 5 admits.
+// How the answers of both steps give the state. Helpers between crates: the nets are those that row 5 admits, the vectors of step two are
+// those that the first answers ask for, and there are as many answers as vectors.
 ghost use mathlib.Core.Path.{_≡_};
 ghost use mathlib.Core.Bool.{true, not};
 ghost use mathlib.Core.List.{List, _++_};
