@@ -2,7 +2,7 @@
 ghost use mathlib.Core.Path.{_≡_};
 ghost use lib.ListN.{length};
 ghost use Rattle.words.specs.Answers.{«lent-after»};
-ghost use Rattle.session.specs.Calls.{«begin-answer», begun};
+ghost use Rattle.session.specs.Calls.{«begin-answer», begun, «first-answer», «first-answered»};
 
 pub mod drive;
 mod new_record;
@@ -25,26 +25,58 @@ pub struct Stepped {
     pub session: Session,
 }
 
+// A refusal: the record is as it was.
+fn refused(number: u64, session: Session) -> Stepped
+    ensures { λ r. ⌜ (r .code ≡ number) × (r .session ≡ session) ⌝ }
+{
+    Stepped {
+        code: number,
+        session: session,
+    }
+}
+
 // The call *begin*: the vectors of step one into the front of `list`. Rows 5 and 12.
 pub fn begin_step(session: Session, net: Network, list: &mut [u64]) -> Stepped
     ensures { λ r. ⌜ (r .session ≡ begun session net (length (now (list .entry))) .session) × (r .code ≡ begun session net (length (now (list .entry))) .code) × (now (list .exit) ≡ lent-after (begin-answer net (length (now (list .entry)))) (now (list .entry))) ⌝ }
 {
     if network::refusals::bad_net_count(net) {
-        return Stepped {
-            code: 5,
-            session: session,
-        };
+        return refused(5, session);
     }
     let p = steps::first::word_length(net);
     if network::refusals::no_room(p as usize, list.len()) {
-        return Stepped {
-            code: 12,
-            session: session,
-        };
+        return refused(12, session);
     }
     steps::first::first_vectors(net, list);
     Stepped {
         code: 0,
         session: new_record::awaiting_first(net),
+    }
+}
+
+// The call *first answers*: the vectors of step two into the front of `list`, if a net is unclear. Rows 4, 9, 10 and 12.
+pub fn first_step(session: Session, answers: &[u64], list: &mut [u64]) -> Stepped
+    ensures { λ r. ⌜ (r .session ≡ first-answered session (now (answers .entry)) (length (now (list .entry))) .session) × (r .code ≡ first-answered session (now (answers .entry)) (length (now (list .entry))) .code) × (now (list .exit) ≡ lent-after (first-answer session (now (answers .entry)) (length (now (list .entry)))) (now (list .entry))) ⌝ }
+{
+    if !record::awaits_first(session) {
+        return refused(4, session);
+    }
+    let net = session.network;
+    let p = steps::first::word_length(net) as usize;
+    if network::refusals::bad_response_count(p, answers.len()) {
+        return refused(9, session);
+    }
+    if network::refusals::has_high_bit(net, answers) {
+        return refused(10, session);
+    }
+    let second = steps::second::second_vectors(net, answers);
+    let vectors = second.words;
+    let count = second.count;
+    if network::refusals::no_room(count, list.len()) {
+        return refused(12, session);
+    }
+    words::lists::copy_words(&vectors[..count], list);
+    Stepped {
+        code: 0,
+        session: new_record::answered(net, answers, count),
     }
 }

@@ -1,6 +1,9 @@
 // The records that accepted calls leave. Helpers: the words fit into the record's arrays.
 ghost use mathlib.Core.Path.{_≡_};
 ghost use Prim.Native.Nat.{_≤_};
+ghost use Rattle.steps.specs.FirstStep.{«word-length»};
+ghost use Rattle.steps.specs.SecondStep.{unclear, «second-vectors»};
+ghost use Rattle.session.specs.Calls.{«answered-by»};
 ghost use lib.ListN.{length};
 ghost use Rattle.session.specs.Record.{«awaiting-first», «awaiting-second», finished};
 use crate::Session;
@@ -49,4 +52,17 @@ pub fn finished(net: Network, state: &[u64], spent: u64) -> Session
         reaches: reaches,
         spent: spent,
     }
+}
+
+// The record after first answers, by the number of vectors that they ask for: finished if it is 0.
+pub fn answered(net: Network, answers: &[u64], count: usize) -> Session
+    requires { ⌜ (2 ≤ net .nets) × (net .nets ≤ 48) × (length (now answers) ≡ word-length net) × (count ≡ length (second-vectors net (now answers))) ⌝ }
+    ensures { λ r. ⌜ r ≡ answered-by net (now (answers .entry)) (unclear net (now (answers .entry))) ⌝ }
+{
+    if count == 0 {
+        let n = net.nets as usize;
+        let state = steps::settling::fault_free(net);
+        return finished(net, &state[..n], steps::first::word_length(net));
+    }
+    awaiting_second(net, answers)
 }

@@ -35,11 +35,15 @@ module _ (net : Network) (room : ℕ) where
   unfolding begin-answer by-tests
   accepted e f = rw (e, first-size net, f)
 
+refused-requires : tie.Need-refused-requires
+refused-requires c κs = search needs
+
 returns : tie.Need-returns
 returns c =
-    let a = c .before .before .before .args in
-    owed-refused (begin-answer (a .net) (length (a .list .now))) (awaiting-first (a .net)) (a .session) 5 (a .list .now)
-    (row-5 (a .net) (length (a .list .now)) (sym (c .before .bad-net-count .ensures) ∙ c .if1 .taken))
+    let d = c .before in
+    let a = d .before .before .before .args in
+    owed-refused (begin-answer (a .net) (length (a .list .now))) (awaiting-first (a .net)) (a .session) 5 (c .refused .result) (a .list .now) (c .refused .ensures)
+    (row-5 (a .net) (length (a .list .now)) (sym (d .before .bad-net-count .ensures) ∙ d .if1 .taken))
 
 -- ---- row 5 does not hold
 
@@ -65,12 +69,16 @@ room-test c =
     let a = start (c .before .before) .args in
     ap (λ (p : ℕ). no-room p (length (a .list .now))) (sym (c .before .word-length .ensures)) ∙ sym (c .no-room .ensures)
 
+refused-requires-2 : tie.Need-refused-requires-2
+refused-requires-2 c κs = search needs
+
 returns-2 : tie.Need-returns-2
 returns-2 c =
-    let e = c .before .before .before in
+    let d = c .before in
+    let e = d .before .before .before in
     let a = start e .args in
-    owed-refused (begin-answer (a .net) (length (a .list .now))) (awaiting-first (a .net)) (a .session) 12 (a .list .now)
-    (row-12 (a .net) (length (a .list .now)) (nets-good e) (room-test (c .before) ∙ c .if2 .taken))
+    owed-refused (begin-answer (a .net) (length (a .list .now))) (awaiting-first (a .net)) (a .session) 12 (c .refused2 .result) (a .list .now) (c .refused2 .ensures)
+    (row-12 (a .net) (length (a .list .now)) (nets-good e) (room-test (d .before) ∙ d .if2 .taken))
 
 first-vectors-requires : tie.Need-first-vectors-requires
 first-vectors-requires c κs =
@@ -99,9 +107,11 @@ begin-step-spec =
     tie.close
     (tie.spec
     bad-net-count-requires
+    refused-requires
     returns
     word-length-requires
     no-room-requires
+    refused-requires-2
     returns-2
     first-vectors-requires
     awaiting-first-requires
