@@ -2,7 +2,7 @@
 ghost use mathlib.Core.Path.{_≡_};
 ghost use lib.ListN.{length};
 ghost use Rattle.words.specs.Answers.{«lent-after»};
-ghost use Rattle.session.specs.Calls.{«begin-answer», begun, «first-answer», «first-answered»};
+ghost use Rattle.session.specs.Calls.{«begin-answer», begun, «first-answer», «first-answered», «second-answered»};
 
 pub mod drive;
 mod new_record;
@@ -78,5 +78,36 @@ pub fn first_step(session: Session, answers: &[u64], list: &mut [u64]) -> Steppe
     Stepped {
         code: 0,
         session: new_record::answered(net, answers, count),
+    }
+}
+
+// The call *second answers*: the only state that fits both steps. Rows 4, 9, 10 and 14.
+pub fn second_step(session: Session, answers: &[u64]) -> Stepped
+    ensures { λ r. ⌜ (r .session ≡ second-answered session (now (answers .entry)) .session) × (r .code ≡ second-answered session (now (answers .entry)) .code) ⌝ }
+{
+    if !record::awaits_second(session) {
+        return refused(4, session);
+    }
+    let net = session.network;
+    let p = steps::first::word_length(net) as usize;
+    let first = session.first;
+    let second = steps::second::second_vectors(net, &first[..p]);
+    let vectors = second.words;
+    let count = second.count;
+    if network::refusals::bad_response_count(count, answers.len()) {
+        return refused(9, session);
+    }
+    if network::refusals::has_high_bit(net, answers) {
+        return refused(10, session);
+    }
+    let settled = steps::settling::settled(net, &first[..p], &vectors[..count], answers);
+    if !settled.fits {
+        return refused(14, session);
+    }
+    let state = settled.state;
+    let n = net.nets as usize;
+    Stepped {
+        code: 0,
+        session: new_record::finished(net, &state[..n], (p + count) as u64),
     }
 }
