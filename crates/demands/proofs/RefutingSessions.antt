@@ -12,7 +12,6 @@ use Rattle.network.specs.declared.Network.{Network}
 use Rattle.network.specs.States.{State}
 use Rattle.network.proofs.States.{test→state}
 use Rattle.steps.specs.FirstStep.{first-vectors}
-use Rattle.session.specs.declared.Session.{Session}
 use Rattle.session.specs.Record.{pad}
 use Rattle.session.specs.Open.{open-session}
 use Rattle.demands.specs.SessionCalls.{Call, begin, first, second, SessionProgram, History, finished-first, finished-second, history, record-after}

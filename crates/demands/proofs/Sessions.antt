@@ -1,23 +1,23 @@
 -- Demand 3's second half, of our session calls; row 4 and the part to drive beside it.
-use Prim.Native.Nat.{ℕ, _+_, _≤_, _<_}
+use Prim.Native.Nat.{ℕ}
 use native.Mathlib.Nat.{le-refl}
 use native.Mathlib.Omega.{arith}
 use mathlib.Core.Path.{_≡_, refl, sym, ap, ap₂, _∙_, subst}
-use mathlib.Core.Logic.{_⊎_, _≢_, _↔_, inl, inr, ⊎-elim}
-use mathlib.Core.Bool.{Bool, true, false, not, cond}
-use mathlib.Core.List.{List, [], _∷_, _++_}
+use mathlib.Core.Logic.{_≢_, inl, inr, ⊎-elim}
+use mathlib.Core.Bool.{Bool, true, false, cond}
+use mathlib.Core.List.{List, [], _∷_}
 use lib.Dec.{leb}
-use lib.ListN.{length, length-map, take}
+use lib.ListN.{length, take}
 use borrow.Author.Tests.{eq-eqb, le-ltb, leb-true, leb-false}
 use Rattle.words.specs.Answers.{Answer, refused, full, ByTable, NoneHolds, by-tests, lent-after}
-use Rattle.words.proofs.Tests.{cases, contrary}
+use Rattle.words.proofs.Tests.{cases}
 use Rattle.words.proofs.Answers.{front-written, table-full, table-not-refused}
 use Rattle.network.specs.declared.Network.{Network}
 use Rattle.network.specs.Reading.{response}
 use Rattle.network.specs.States.{State}
-use Rattle.network.specs.Rows.{Row5, HighBit, bad-net-count, has-high-bit}
+use Rattle.network.specs.Rows.{HighBit, bad-net-count, has-high-bit}
 use Rattle.network.proofs.Reading.{response-is}
-use Rattle.network.proofs.Rows.{decides-row-5, decides-high-bit, nets-admitted}
+use Rattle.network.proofs.Rows.{decides-row-5}
 use Rattle.steps.specs.FirstStep.{word-length, first-vectors}
 use Rattle.steps.specs.SecondStep.{unclear, second-vectors}
 use Rattle.steps.proofs.StepOneWords.{first-size}
@@ -26,9 +26,9 @@ use Rattle.session.specs.Record.{awaiting-first, awaiting-second, held-answers,
 use Rattle.session.specs.Calls.{stepped, begin-answer, first-answer, answered-by}
 use Rattle.session.specs.Drive.{front, to-drive}
 use Rattle.session.proofs.Records.{awaits-first-of, awaits-first-is, held-of, WaitsForSecond, awaits-second-is}
-use Rattle.demands.specs.SessionCalls.{Call, begin, first, second, lent, Did, History, none, waits-first, waits-second, finished-first, finished-second, after-first, by-answer, extended, record-after, history, LeftBy, Awaits, FitsAnswers}
-use Rattle.demands.specs.Demand3.{BeginRows, SecondRows, IsBegin, CallByTable, Ended, SessionClaim, Sessions}
-use Rattle.demands.specs.SessionRecords.{WaitsFor, RowFour, Front, DrivesNext, Drives}
+use Rattle.demands.specs.SessionCalls.{Call, begin, first, second, lent, History, none, waits-first, waits-second, finished-first, finished-second, after-first, by-answer, extended, record-after, history, LeftBy, Awaits}
+use Rattle.demands.specs.Demand3.{BeginRows, SecondRows, IsBegin, CallByTable, Ended, Sessions}
+use Rattle.demands.specs.SessionRecords.{RowFour, Front, Drives}
 use Rattle.demands.specs.Programs.{our-answer, our-new, our-sessions}
 use Rattle.demands.proofs.Telling.{WaitsFirst, WaitsSecond, Stopped, Tells, off, awaits, not-first, first-refused, second-refused, begin-by-table, told-by-table, call-tells, record-tells}
 

@@ -1,9 +1,9 @@
 -- Two programs that keep demand 3's second half answer, write and report the same.
 use Prim.Native.Nat.{ℕ}
-use mathlib.Core.Path.{_≡_, refl, sym, ap, ap₂, _∙_, subst, subst₂}
+use mathlib.Core.Path.{_≡_, refl, sym, ap, ap₂, _∙_, subst₂}
 use mathlib.Core.List.{List, [], _∷_, _++_}
-use lib.ListN.{take, drop, take-append-drop}
-use Rattle.words.specs.Answers.{Answer, NoneHolds, ByTable, lent-after}
+use lib.ListN.{take, take-append-drop}
+use Rattle.words.specs.Answers.{Answer, lent-after}
 use Rattle.words.proofs.Answers.{table-determined}
 use Rattle.network.specs.declared.Network.{Network}
 use Rattle.steps.specs.FirstStep.{first-vectors}

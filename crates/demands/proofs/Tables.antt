@@ -1,7 +1,6 @@
 -- The starred cases and the bounds, by computation; and that nothing is left open.
-use Prim.Native.Nat.{ℕ}
 use mathlib.Core.Path.{_≡_, refl, subst₂}
-use mathlib.Core.List.{List, [], _∷_}
+use mathlib.Core.List.{[], _∷_}
 use Rattle.session.specs.declared.Session.{Session}
 use Rattle.session.specs.Record.{finished}
 use Rattle.session.specs.Open.{open-session}
@@ -9,7 +8,6 @@ use Rattle.demands.specs.SessionCalls.{History, finished-second, history
 use Rattle.demands.specs.Demand3.{Ended}
 use Rattle.demands.specs.Programs.{our-sessions}
 use Rattle.demands.proofs.Sessions.{sessions}
-use Rattle.diagnosis.specs.Open.{open-diagnosis}
 use Rattle.demands.specs.Determined.{Determined}
 use Rattle.demands.specs.Starred.{four, junk, four-calls, Starred}
 use Rattle.demands.specs.Boundary.{Boundary}
@@ -53,7 +51,7 @@ starred = record {
 }
 
 pub boundary : Boundary
-unfolding open-diagnosis
+unfolding open-session
 boundary = record {
   nets-1 = refl;
   nets-2 = refl;
@@ -80,6 +78,28 @@ boundary = record {
   room-3 = refl;
   room-4 = refl;
   set-not-passed = refl;
+  begin-1 = refl;
+  begin-2 = refl;
+  begin-2-short = refl;
+  begin-48 = refl;
+  begin-48-short = refl;
+  begin-49 = refl;
+  one-answer-short = refl;
+  one-answer-more = refl;
+  answer-at = refl;
+  second-room-2 = refl;
+  second-room-3 = refl;
+  all-clear = refl;
+  second-answer-short = refl;
+  second-answer-at = refl;
+  unlike-reaches = refl;
+  unexplained = refl;
+  unexplained-after = refl;
+  junk-spent = refl;
+  junk-first = refl;
+  junk-reach = refl;
+  junk-none = refl;
+  nothing-unclear = refl;
 }
 
 pub determined : Determined

@@ -1,21 +1,19 @@
 -- The record that our calls leave tells the session, and they answer by its rows.
-use Prim.Native.Nat.{ℕ, _+_, _-_, _^_, _≤_, _<_}
+use Prim.Native.Nat.{ℕ, _+_, _-_, _≤_}
 use native.Mathlib.Omega.{arith}
 use mathlib.Core.Path.{_≡_, refl, sym, ap, ap₂, _∙_, subst}
-use mathlib.Core.Logic.{_⊎_, _≢_, inl, inr, ⊎-elim}
-use mathlib.Core.Bool.{Bool, true, false, not}
+use mathlib.Core.Logic.{_≢_, inl, ⊎-elim}
+use mathlib.Core.Bool.{Bool, true, false}
 use mathlib.Core.List.{List, [], _∷_, _++_}
-use lib.ListN.{length, length-append, take, drop, replicate}
+use lib.ListN.{length, length-append, replicate}
 use lib.Seq.{drop-append-seam, take-append-seam}
 use borrow.Author.Tests.{eqb-true, not-false}
 use Rattle.words.specs.Answers.{Answer, refused, full, ByTable, NoneHolds, by-tests, Decides, Decided, lent-after}
-use Rattle.words.specs.Bits.{at}
-use Rattle.words.proofs.Tests.{cases, contrary, decides-not}
+use Rattle.words.proofs.Tests.{cases, contrary}
 use Rattle.words.proofs.Answers.{tests-by-table, table-full, let-through, front-written}
 use Rattle.network.specs.declared.Network.{Network}
 use Rattle.network.specs.Reading.{response}
-use Rattle.network.specs.States.{State, Fits}
-use Rattle.network.specs.Rows.{Row5, Row9, HighBit, Row12, bad-net-count, bad-response-count, has-high-bit, no-room}
+use Rattle.network.specs.Rows.{Row5, Row9, HighBit, bad-net-count, bad-response-count, has-high-bit, no-room}
 use Rattle.network.proofs.Rows.{decides-row-5, decides-row-9, decides-high-bit, decides-row-12, nets-admitted, no-high-bit}
 use Rattle.diagnosis.specs.ReadBack.{read-back, no-state-fits}
 use Rattle.steps.specs.FirstStep.{word-length, first-vectors}
@@ -23,11 +21,11 @@ use Rattle.steps.specs.SecondStep.{unclear, second-vectors, session-vectors, fa
 use Rattle.steps.proofs.StepOneWords.{length-bounds, words-apart, first-size}
 use Rattle.steps.proofs.BothSteps.{fits-parts, fits-both, second-size, second-none, both-read-back, both-fits, all-clear-fits, all-clear-only}
 use Rattle.session.specs.declared.Session.{Session}
-use Rattle.session.specs.Record.{awaiting-first, awaiting-second, finished, held-answers, awaits-first, awaits-second}
-use Rattle.session.specs.Calls.{stepped, begin-answer, first-answer, answered-by, second-answer, vectors-driven, all-answers}
+use Rattle.session.specs.Record.{awaiting-first, awaiting-second, finished, awaits-first, awaits-second}
+use Rattle.session.specs.Calls.{stepped, begin-answer, first-answer, answered-by, second-answer}
 use Rattle.session.proofs.Records.{awaits-first-of, awaits-first-step, held-of, awaits-second-of, awaits-second-step}
-use Rattle.demands.specs.SessionCalls.{Call, begin, first, second, lent, Did, SessionProgram, History, none, waits-first, waits-second, finished-first, finished-second, after-first, accepted, by-answer, extended, record-after, history-from, history, LeftBy, FitsAnswers, OnlyFit, vectors-spent}
-use Rattle.demands.specs.Demand3.{NotAwaited, BeginRows, FirstRows, SecondRows, CallRows, Written, Reported, Ended}
+use Rattle.demands.specs.SessionCalls.{Call, begin, first, second, lent, History, none, waits-first, waits-second, finished-first, finished-second, after-first, accepted, by-answer, extended, record-after, history-from, history, FitsAnswers, OnlyFit, vectors-spent}
+use Rattle.demands.specs.Demand3.{NotAwaited, BeginRows, FirstRows, SecondRows, CallRows, Written, Reported}
 use Rattle.demands.specs.Programs.{our-answer, our-new, our-sessions}
 
 -- ---- what the record tells of the session

@@ -3,11 +3,13 @@ use Prim.Native.Nat.{ℕ, _-_, _^_}
 use mathlib.Core.Path.{_≡_}
 use mathlib.Core.List.{List, [], _∷_}
 use lib.ListN.{replicate}
-use Rattle.words.specs.Answers.{Answer, refused, full}
+use Rattle.words.specs.Answers.{Answer, refused, full, count-of}
 use Rattle.network.specs.Respond.{response-answer}
 use Rattle.checker.specs.declared.Verdict.the-variants.{Pass, Pair}
 use Rattle.diagnosis.specs.Diagnosis.{diagnosis-answer}
-use Rattle.demands.specs.Starred.{check, respond, diagnose}
+use Rattle.session.specs.Record.{awaiting-first, awaiting-second}
+use Rattle.session.specs.Calls.{begin-answer, first-answer, second-answer}
+use Rattle.demands.specs.Starred.{check, respond, diagnose, two}
 
 -- *response from a state* with this much room
 abbrev pub respond-into : ℕ → Answer (List ℕ)
@@ -50,3 +52,30 @@ pub record Boundary : Type 0 where
   pub room-3 : diagnose-into (4 ∷ 7 ∷ 7 ∷ 4 ∷ 12 ∷ []) 3 ≡ refused 12
   pub room-4 : diagnose-into (4 ∷ 7 ∷ 7 ∷ 4 ∷ 12 ∷ []) 4 ≡ full (3 ∷ 3 ∷ 0 ∷ 8 ∷ [])
   pub set-not-passed : diagnose 4 (1 ∷ 2 ∷ 4 ∷ 8 ∷ []) (7 ∷ 7 ∷ 4 ∷ 12 ∷ []) ≡ refused 13
+  -- *begin*: row 5, n; row 12, the room
+  pub begin-1 : begin-answer (record { nets = 1 }) 8 ≡ refused 5
+  pub begin-2 : begin-answer two 2 ≡ full (1 ∷ 2 ∷ [])
+  pub begin-2-short : begin-answer two 1 ≡ refused 12
+  pub begin-48 : count-of (begin-answer (record { nets = 48 }) 8) ≡ full 8
+  pub begin-48-short : begin-answer (record { nets = 48 }) 7 ≡ refused 12
+  pub begin-49 : begin-answer (record { nets = 49 }) 8 ≡ refused 5
+  -- *first answers*: row 9, as many as vectors; row 10, a bit at n; row 12, the room, which only unclear nets need
+  pub one-answer-short : first-answer (awaiting-first two) (3 ∷ []) 3 ≡ refused 9
+  pub one-answer-more : first-answer (awaiting-first two) (3 ∷ 3 ∷ 3 ∷ []) 3 ≡ refused 9
+  pub answer-at : first-answer (awaiting-first two) (3 ∷ 4 ∷ []) 3 ≡ refused 10
+  pub second-room-2 : first-answer (awaiting-first two) (3 ∷ 3 ∷ []) 2 ≡ refused 12
+  pub second-room-3 : first-answer (awaiting-first two) (3 ∷ 3 ∷ []) 3 ≡ full (0 ∷ 1 ∷ 2 ∷ [])
+  pub all-clear : first-answer (awaiting-first two) (1 ∷ 2 ∷ []) 0 ≡ full []
+  -- *second answers*: row 9; row 10; row 14, also where no state explains the first answers
+  pub second-answer-short : second-answer (awaiting-second two (3 ∷ 3 ∷ [])) (3 ∷ 3 ∷ []) ≡ refused 9
+  pub second-answer-at : second-answer (awaiting-second two (3 ∷ 3 ∷ [])) (3 ∷ 3 ∷ 4 ∷ []) ≡ refused 10
+  pub unlike-reaches : second-answer (awaiting-second two (3 ∷ 3 ∷ [])) (0 ∷ 3 ∷ 1 ∷ []) ≡ refused 14
+  pub unexplained : first-answer (awaiting-first two) (0 ∷ 0 ∷ []) 3 ≡ full (0 ∷ 1 ∷ 2 ∷ [])
+  pub unexplained-after : second-answer (awaiting-second two (0 ∷ 0 ∷ [])) (0 ∷ 1 ∷ 2 ∷ []) ≡ refused 14
+  -- row 4: junk in an unused entry of the record
+  pub junk-spent : first-answer (record { step = 1; network = two; first = replicate 8 0; reaches = replicate 48 0; spent = 1 }) (1 ∷ 2 ∷ []) 3 ≡ refused 4
+  pub junk-first : first-answer (record { step = 1; network = two; first = 1 ∷ replicate 7 0; reaches = replicate 48 0; spent = 0 }) (1 ∷ 2 ∷ []) 3 ≡ refused 4
+  pub junk-reach : second-answer (record { step = 2; network = two; first = 3 ∷ 3 ∷ replicate 6 0; reaches = 1 ∷ replicate 47 0; spent = 0 }) (3 ∷ 3 ∷ 3 ∷ []) ≡ refused 4
+  pub junk-none : second-answer (record { step = 2; network = two; first = 3 ∷ 3 ∷ replicate 6 0; reaches = replicate 48 0; spent = 0 }) (3 ∷ 3 ∷ 3 ∷ []) ≡ full []
+  -- a record that holds answers which leave no net unclear is left by no calls
+  pub nothing-unclear : second-answer (record { step = 2; network = two; first = 1 ∷ 2 ∷ replicate 6 0; reaches = replicate 48 0; spent = 0 }) [] ≡ refused 4

@@ -15,7 +15,7 @@ use Rattle.checker.specs.Rule.{shown-state}
 use Rattle.steps.specs.FirstStep.{word-length, sequential-words, first-vectors, WordLength, SmallestWords}
 use Rattle.steps.specs.SecondStep.{unclear, second-vectors}
 use Rattle.session.specs.declared.Session.{Session}
-use Rattle.demands.specs.SessionCalls.{Call, begin, first, second, lent, Did, SessionProgram, History, none, waits-first, waits-second, finished-first, finished-second, record-after, history, LeftBy, Awaits, FitsAnswers, OnlyFit, vectors-spent}
+use Rattle.demands.specs.SessionCalls.{Call, begin, first, second, lent, SessionProgram, History, none, waits-first, waits-second, finished-first, finished-second, record-after, history, LeftBy, Awaits, FitsAnswers, OnlyFit, vectors-spent}
 
 -- ---- first half: for each class and test set that document 01 admits, the checker passes the set for that class exactly
 -- when, whatever the response, at most one wiring state of the class fits it. Otherwise it shows two different states of the

@@ -1,6 +1,6 @@
 -- Wrong programs that the demands shut out.
 use Prim.Native.Nat.{ℕ}
-use mathlib.Core.Bool.{true, false, cond}
+use mathlib.Core.Bool.{cond}
 use mathlib.Core.List.{List, [], _∷_, _++_, map}
 use lib.Dec.{eqb}
 use lib.ListN.{length, take, drop}
@@ -14,7 +14,7 @@ use Rattle.network.specs.declared.Network.{Network}
 use Rattle.session.specs.declared.Session.{Session}
 use Rattle.session.specs.Record.{finished, held-answers}
 use Rattle.session.specs.Calls.{stepped, vectors-driven}
-use Rattle.demands.specs.SessionCalls.{Call, begin, first, second, lent, SessionProgram}
+use Rattle.demands.specs.SessionCalls.{begin, first, second, lent, SessionProgram}
 use Rattle.demands.specs.Demand3.{CheckProgram, Checks, Sessions}
 use Rattle.demands.specs.Programs.{our-answer, our-sessions}
 

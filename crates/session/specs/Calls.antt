@@ -1,6 +1,6 @@
 -- The three calls on a session: the answer, with the words written to the lent list, and the record after the call.
-use Prim.Native.Nat.{ℕ, _+_}
-use mathlib.Core.Bool.{Bool, true, false, not}
+use Prim.Native.Nat.{ℕ}
+use mathlib.Core.Bool.{not}
 use mathlib.Core.List.{List, [], _∷_, _++_}
 use lib.ListN.{length}
 use Rattle.words.specs.Answers.{Answer, refused, full, by-tests}

@@ -3,11 +3,11 @@ use mathlib.Core.Path.{_≡_, refl, sym, ap, ap₂, _∙_, subst}
 use mathlib.Core.Bool.{Bool, true, false, not, _&&_}
 use mathlib.Core.Logic.{⊎-elim, _≢_}
 use mathlib.Core.List.{List, [], _∷_, _++_, map-append}
-use Prim.Native.Nat.{ℕ, zero, suc, _+_, _-_, _^_, _≤_, _<_, zero-le}
-use native.Mathlib.Nat.{not-suc-le-zero, le-of-suc-le-suc}
+use Prim.Native.Nat.{ℕ, suc, _+_, _-_, _^_, _≤_, _<_, zero-le}
+use native.Mathlib.Nat.{not-suc-le-zero}
 use native.Mathlib.Omega.{arith}
 use lib.Dec.{eqb}
-use lib.Pow.{pow-pos, pow-lt}
+use lib.Pow.{pow-lt}
 use lib.ListN.{length, take, drop, length-append, length-map, List·getD-append}
 use lib.Seq.{ext-getD, getD-append-add, take-at, drop-at}
 use borrow.Author.Tests.{eq-eqb, ne-eqb, eqb-true, eqb-false, not-true}
@@ -25,7 +25,7 @@ use Rattle.words.proofs.Tests.{cases, contrary, and-left, and-right, and-both, 
 use Rattle.network.specs.declared.Network.{Network}
 use Rattle.network.specs.Reading.{walking-vector, extra-vector, reads, ReadAlike, sequential-response, response-word, response}
 use Rattle.network.specs.States.{DriverSet, State, Fits}
-use Rattle.network.proofs.Reading.{walking-below, reads-floating, reads-driven, reads-only, reads-walking, reads-extra, has-sequential, sequential-below, alike-sequential, response-is}
+use Rattle.network.proofs.Reading.{reads-floating, reads-driven, reads-only, reads-walking, reads-extra, has-sequential, sequential-below, alike-sequential, response-is}
 use Rattle.diagnosis.specs.ReadBack.{read-back, no-state-fits}
 use Rattle.diagnosis.specs.Walking.{Walked}
 use Rattle.diagnosis.proofs.Gathering.{walked-is}
@@ -193,18 +193,6 @@ module _ (net : Network) where
   settling-none [] none = refl
   settling-none (i ∷ nets) none = absurd (not-suc-le-zero {n = 0} (omega (arith, none)))
 
-  extra-below : extra-vector net < 2 ^ (net .nets)
-  unfolding extra-vector
-  extra-below = pow-pos (net .nets)
-
-  settling-below : (nets : List ℕ) → ((u : ℕ) → u < length nets → at nets u < net .nets)
-      → (t : ℕ) → t < length (settling-vectors net nets) → at (settling-vectors net nets) t < 2 ^ (net .nets)
-  settling-below [] h t l = absurd (not-suc-le-zero l)
-  settling-below (i ∷ nets) h zero l = extra-below
-  settling-below (i ∷ nets) h (suc u) l =
-      let m : u < length (i ∷ nets) = rw (length-map (i ∷ nets) (walking-vector net)) at (le-of-suc-le-suc l) in
-      rw (settling-walking (i ∷ nets) u m) (walking-below net (at (i ∷ nets) u) (h u m))
-
   settling-most : (nets : List ℕ) → length (settling-vectors net nets) ≤ length nets + 1
   settling-most [] = zero-le
   settling-most (i ∷ nets) = let e = settling-size (i ∷ nets) (λ q. absurd (not-suc-le-zero {n = 0} (omega (arith, q)))) in omega (arith, e)
@@ -254,10 +242,6 @@ module _ (net : Network) (answers : List ℕ) where
   unclear-below : (u : ℕ) → u < length (unclear net answers) → at (unclear net answers) u < net .nets
   unfolding unclear is-unclear
   unclear-below u l = entry-is is-unclear (net .nets) u l .below
-
-  pub second-below : (t : ℕ) → t < length (second-vectors net answers) → at (second-vectors net answers) t < 2 ^ (net .nets)
-  unfolding second-vectors
-  second-below t l = settling-below net (unclear net answers) unclear-below t l
 
   pub unclear-most : length (unclear net answers) ≤ net .nets
   unfolding unclear is-unclear
@@ -367,14 +351,6 @@ module _ (net : Network) (first second : List ℕ) (size : length first ≡ word
   pub both-fits : no-state-fits net (net .nets) (session-vectors net first) (first ++ second) ≡ false
       → Fits net (net .nets) (session-vectors net first) (first ++ second) (read-back net (net .nets) (session-vectors net first) (first ++ second))
   both-fits e = read-back-fits net (net .nets) (session-vectors net first) (first ++ second) both-size both-narrow e
-
-  pub decides-both : WordsApart net
-      → Decides (no-state-fits net (net .nets) (session-vectors net first) (first ++ second))
-      (¬ ((state : List ℕ) × Fits net (net .nets) (session-vectors net first) (first ++ second) state))
-  decides-both apart = (
-    λ e w. contrary e (both-read-back net apart first second (w .0) size (w .1) .0),
-    λ e n. n (read-back net (net .nets) (session-vectors net first) (first ++ second), both-fits e),
-  )
 
   -- a test of the only reaches that can fit decides it, and finds what is read back
   pub candidate-decides : WordsApart net → (candidate : List ℕ) (fits : Bool)

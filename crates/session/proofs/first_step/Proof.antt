@@ -2,13 +2,13 @@ use borrow.Author.Needs.{needs}
 use Prim.Native.Nat.{ℕ, _≤_}
 use native.Mathlib.Omega.{arith}
 use mathlib.Core.Path.{_≡_, sym, ap, _∙_}
-use mathlib.Core.Bool.{Bool, true, false}
+use mathlib.Core.Bool.{true, false}
 use mathlib.Core.List.{List}
 use lib.ListN.{length, take}
 use lib.Seq.{length-take-le}
 use borrow.Author.Tests.{eqb-true, ltb-false, not-true, not-false}
 use Rattle.words.specs.Answers.{refused, full, by-tests, lent-after}
-use Rattle.network.specs.Rows.{bad-net-count, bad-response-count, has-high-bit, no-room}
+use Rattle.network.specs.Rows.{bad-response-count, has-high-bit, no-room}
 use Rattle.network.proofs.Rows.{decides-row-5, nets-admitted}
 use Rattle.steps.specs.FirstStep.{word-length}
 use Rattle.steps.specs.SecondStep.{unclear, second-vectors}

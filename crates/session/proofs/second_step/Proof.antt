@@ -17,7 +17,7 @@ use Rattle.steps.proofs.StepOneWords.{length-bounds, first-size}
 use Rattle.session.specs.declared.Session.{Session}
 use Rattle.session.specs.declared.Stepped.{Stepped}
 use Rattle.session.specs.Record.{finished, held-answers, awaits-second}
-use Rattle.session.specs.Calls.{stepped, second-answer, second-answered, vectors-driven, all-answers}
+use Rattle.session.specs.Calls.{second-answer, second-answered, vectors-driven, all-answers}
 use Rattle.session.proofs.Records.{WaitsForSecond, awaits-second-is}
 use Rattle.session.proofs.Stepping.{owed-refused, owed-full}
 use Rattle.session.proofs.second_step.Statement.{statement}

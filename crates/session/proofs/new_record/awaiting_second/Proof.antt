@@ -2,7 +2,7 @@ use borrow.Author.Needs.{needs}
 use Prim.Native.Nat.{ℕ}
 use mathlib.Core.List.{List}
 use lib.ListN.{replicate}
-use mathlib.Core.Path.{_≡_, ap, _∙_}
+use mathlib.Core.Path.{ap, _∙_}
 use Rattle.session.proofs.Padding.{padded}
 use Rattle.session.proofs.new_record.awaiting_second.Statement.{statement}
 use Rattle.session.proofs.new_record.awaiting_second.Tie as tie
