@@ -9,16 +9,16 @@ use network::Network;
 use network::Responded;
 
 // What each entry of a lent list holds before the call.
-const MARKER: u64 = 99;
+pub const MARKER: u64 = 99;
 
 // A result, with the list that was lent: the words written, and the entries that the call left.
-fn wrote(count: u64, list: &[u64]) {
+pub fn wrote(count: u64, list: &[u64]) {
     show::part(list, 0, count as usize);
     show::rest(list, count as usize, MARKER);
 }
 
 // A refusal, with the list that was lent.
-fn refused(number: u64, list: &[u64]) {
+pub fn refused(number: u64, list: &[u64]) {
     show::entry(b" refused", number);
     show::rest(list, 0, MARKER);
 }
@@ -71,7 +71,7 @@ fn try_call(back: bool, nets: u64, class: u64, vectors: &[u64], words: &[u64], r
 }
 
 // A length of at most 64.
-fn room_of(n: u64) -> usize
+pub fn room_of(n: u64) -> usize
     ensures { λ r. ⌜ r ≤ 64 ⌝ }
 {
     if 64 < n {
