@@ -52,16 +52,16 @@ abbrev pub unclear-below : (words returned : List ℕ) → ℕ → List ℕ
 unclear-below words returned i = passing (λ z. not (only-at (at words z) returned z)) i
 
 -- what the loop has written before net i
-pub record Settled (net : Network) (words returned vectors : List ℕ) (count i : ℕ) : Type 0 where
+pub record Listed (net : Network) (words returned vectors : List ℕ) (count i : ℕ) : Type 0 where
   pub size : length vectors ≡ 49
   pub few : count ≤ i + 1
   pub number : count ≡ suc (length (unclear-below words returned i))
   pub front : take count vectors ≡ extra-vector net ∷ map (walking-vector net) (unclear-below words returned i)
 
 module _ (net : Network) (words returned : List ℕ) where
-  pub settled-start : (x : ℕ) → x ≡ extra-vector net → Settled net words returned (set (replicate 49 0) 0 x) 1 0
+  pub listed-start : (x : ℕ) → x ≡ extra-vector net → Listed net words returned (set (replicate 49 0) 0 x) 1 0
   unfolding passing
-  settled-start x e = record {
+  listed-start x e = record {
     size = length-set (replicate 49 0) 0 x ∙ length-replicate {A = ℕ} 49 0;
     few = omega arith;
     number = refl;
@@ -69,10 +69,10 @@ module _ (net : Network) (words returned : List ℕ) where
   }
 
   -- a net that is unclear, a net that is clear, and the end
-  module _ (vectors : List ℕ) (count i : ℕ) (s : Settled net words returned vectors count i) where
-    pub settled-more : (x : ℕ) → i < 48 → only-at (at words i) returned i ≡ false → x ≡ walking-vector net i
-        → Settled net words returned (set vectors count x) (count + 1) (i + 1)
-    settled-more x l e w = rw (add-one i, add-one count) record {
+  module _ (vectors : List ℕ) (count i : ℕ) (s : Listed net words returned vectors count i) where
+    pub listed-more : (x : ℕ) → i < 48 → only-at (at words i) returned i ≡ false → x ≡ walking-vector net i
+        → Listed net words returned (set vectors count x) (count + 1) (i + 1)
+    listed-more x l e w = rw (add-one i, add-one count) record {
       size = length-set vectors count x ∙ s .size;
       few = omega (arith, s .few);
       number = ap suc (s .number ∙ sym (count-passed p i unsure));
@@ -89,8 +89,8 @@ module _ (net : Network) (words returned : List ℕ) where
         unsure : p i ≡ true
         unsure = ap not e
 
-    pub settled-same : only-at (at words i) returned i ≡ true → Settled net words returned vectors count (i + 1)
-    settled-same e =
+    pub listed-same : only-at (at words i) returned i ≡ true → Listed net words returned vectors count (i + 1)
+    listed-same e =
         let same : unclear-below words returned (i + 1) ≡ unclear-below words returned i = rw (add-one i) (passing-no (λ z. not (only-at (at words z) returned z)) i (ap not e)) in
         record {
           size = s .size;
@@ -104,9 +104,9 @@ module _ (net : Network) (words returned : List ℕ) where
       unfolding unclear is-clear
       all-nets = rw (e, f, g)
 
-      pub settled-none : count ≡ 1 → [] ≡ second-vectors net answers
-      settled-none h = sym (second-none net answers (omega (arith, s .number, ap length all-nets)))
+      pub listed-none : count ≡ 1 → [] ≡ second-vectors net answers
+      listed-none h = sym (second-none net answers (omega (arith, s .number, ap length all-nets)))
 
-      pub settled-some : count ≢ 1 → take count vectors ≡ second-vectors net answers
+      pub listed-some : count ≢ 1 → take count vectors ≡ second-vectors net answers
       unfolding second-vectors
-      settled-some h = s .front ∙ rw (← all-nets) (settling-some net (unclear-below words returned i) (λ z. h (s .number ∙ ap suc z)))
+      listed-some h = s .front ∙ rw (← all-nets) (settling-some net (unclear-below words returned i) (λ z. h (s .number ∙ ap suc z)))

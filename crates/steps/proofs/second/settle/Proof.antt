@@ -5,12 +5,12 @@ use mathlib.Core.Logic.{⊎-elim}
 use Prim.Native.Nat.{_≤_, _<_, _-_}
 use native.Mathlib.Omega.{arith}
 use lib.ListN.{length}
-use Rattle.steps.proofs.StepTwoVectors.{Settled, settled-start, settled-more, settled-same, settled-none, settled-some}
+use Rattle.steps.proofs.StepTwoVectors.{Listed, listed-start, listed-more, listed-same, listed-none, listed-some}
 use Rattle.steps.proofs.second.settle.Statement.{statement}
 use Rattle.steps.proofs.second.settle.Tie as tie
 
 abbrev Inv-loop : tie.InvT-loop
-Inv-loop net words returned vectors₀ count₀ i₀ vectors count i = (i ≤ length words) × Settled net words returned vectors count i
+Inv-loop net words returned vectors₀ count₀ i₀ vectors count i = (i ≤ length words) × Listed net words returned vectors count i
 
 abbrev μ-loop : tie.MeasureT-loop
 μ-loop net words returned vectors₀ count₀ i₀ vectors count i = length words - i
@@ -24,7 +24,7 @@ array-write-vectors c = search needs
 loop-holds : tie.Need-loop-holds Inv-loop μ-loop
 loop-holds c =
     let a = c .before .before .before .args in
-    (search needs, settled-start (a .net) (a .words .now) (a .returned .now) (c .extra-vector .result .0) (c .extra-vector .ensures))
+    (search needs, listed-start (a .net) (a .words .now) (a .returned .now) (c .extra-vector .result .0) (c .extra-vector .ensures))
 
 mul-only-at : tie.Need-mul-only-at Inv-loop μ-loop
 mul-only-at c = search needs
@@ -70,10 +70,10 @@ loop-again c =
       search needs,
       ⊎-elim
           (λ w. rw (w .2, w .3)
-          (settled-more (a .net) (a .words .now) (a .returned .now) (l .vectors) (l .count) (l .i) (l .inv .1) (w .1 .result .0) inside
+          (listed-more (a .net) (a .words .now) (a .returned .now) (l .vectors) (l .count) (l .i) (l .inv .1) (w .1 .result .0) inside
           (sym (q .ensures) ∙ not-true _ (w .0 .taken)) (w .1 .ensures)))
           (λ w. rw (w .1, w .2)
-          (settled-same (a .net) (a .words .now) (a .returned .now) (l .vectors) (l .count) (l .i) (l .inv .1) (sym (q .ensures) ∙ not-false _ (w .0 .left))))
+          (listed-same (a .net) (a .words .now) (a .returned .now) (l .vectors) (l .count) (l .i) (l .inv .1) (sym (q .ensures) ∙ not-false _ (w .0 .left))))
           (c .if1 .came),
     )
 
@@ -85,7 +85,7 @@ returns c =
     λ answers e. (
       g .loop .inv .1 .size,
       search needs,
-      settled-none (a .net) (a .words .now) (a .returned .now) (g .loop .vectors) (g .loop .count) (g .loop .i) (g .loop .inv .1) answers (p .1) e
+      listed-none (a .net) (a .words .now) (a .returned .now) (g .loop .vectors) (g .loop .count) (g .loop .i) (g .loop .inv .1) answers (p .1) e
           (omega (arith, g .loop .inv .0, p .2, c .before .loop-test .left)) (c .if2 .taken),
     )
 
@@ -97,7 +97,7 @@ returns-2 c =
     λ answers e. (
       g .loop .inv .1 .size,
       omega (arith, g .loop .inv .0, g .loop .inv .1 .few, p .0, p .2),
-      settled-some (a .net) (a .words .now) (a .returned .now) (g .loop .vectors) (g .loop .count) (g .loop .i) (g .loop .inv .1) answers (p .1) e
+      listed-some (a .net) (a .words .now) (a .returned .now) (g .loop .vectors) (g .loop .count) (g .loop .i) (g .loop .inv .1) answers (p .1) e
           (omega (arith, g .loop .inv .0, p .2, c .before .loop-test .left)) (c .if2 .left),
     )
 
