@@ -1,6 +1,6 @@
 // The bench examples of document 01 for the checker, the response from a state, the diagnosis, the findings and the session, the refusals listed
 // there, and inputs at the limits. A line a call: what it was given, and what it answered. `lent` gives the length of the list lent, and after `kept` stand
-// its entries that the call left as they were. After a line `session`, the lines are calls on one record, which is junk at first; after an accepted
+// its entries that the call left as they were; of a table of findings their number. After a line `session`, the lines are calls on one record, which is junk at first; after an accepted
 // one stand what the record then says, and the vectors to drive next.
 mod checking;
 mod checks;
@@ -31,6 +31,8 @@ fn main() {
     diagnoses::no_state();
     diagnoses::refusals();
     finding::findings();
+    finding::tables();
+    finding::refused();
     sessions::examples();
     sessions::own_word_returned_twice();
     sessions::sound_boards();

@@ -102,7 +102,7 @@ fn answered(after: Session, list: &[u64]) {
 
 // Makes the call *begin* and shows its answer and the lent list.
 fn begin_into(before: Session, nets: u64, list: &mut [u64]) -> Session {
-    let done = session::begin_step(before, Network { nets: nets }, list);
+    let done = session::by_value::begin(before, Network { nets: nets }, list);
     if done.code != 0 {
         refused(done.code, list);
     } else {
@@ -113,7 +113,7 @@ fn begin_into(before: Session, nets: u64, list: &mut [u64]) -> Session {
 
 // Makes the call *first answers* and shows its answer and the lent list.
 fn first_into(before: Session, answers: &[u64], list: &mut [u64]) -> Session {
-    let done = session::first_step(before, answers, list);
+    let done = session::by_value::first_answers(before, answers, list);
     if done.code != 0 {
         refused(done.code, list);
     } else {
@@ -150,7 +150,7 @@ fn try_second(before: Session, answers: &[u64]) -> Session {
     show::text(b"second answers:");
     show::words(answers, b" words");
     show::text(b" ->");
-    let done = session::second_step(before, answers);
+    let done = session::by_value::second_answers(before, answers);
     let after = done.session;
     if done.code != 0 {
         show::entry(b" refused", done.code);

@@ -1,5 +1,6 @@
 pub mod Responding
 pub mod Diagnosing
+pub mod Findings
 pub mod Checking
 pub mod Refuting
 pub mod Tables
@@ -8,3 +9,4 @@ pub mod Sessions
 pub mod DemandThree
 pub mod SessionsAlike
 pub mod RefutingSessions
+pub mod RefutingFindings

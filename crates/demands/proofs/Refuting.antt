@@ -21,6 +21,7 @@ use Rattle.demands.specs.Programs.{our-response, our-diagnosis}
 use Rattle.demands.proofs.Responding.{responds, response-determined}
 use Rattle.demands.proofs.Diagnosing.{diagnoses, diagnosis-determined-program}
 use Rattle.demands.proofs.Checking.{checks, pair-not-one}
+use Rattle.demands.proofs.RefutingFindings.{table-as-lent, record-not-written, table-cleared}
 use Rattle.demands.proofs.RefutingSessions.{guessed, counted-itself, refuses-begins, uncounted, no-vectors}
 
 -- two nets, class 2
@@ -137,6 +138,9 @@ refuted = record {
   state-not-written = state-not-written;
   conflicts-accepted = conflicts-accepted;
   refuses-responses = refuses-responses;
+  table-as-lent = table-as-lent;
+  record-not-written = record-not-written;
+  table-cleared = table-cleared;
   guessed = guessed;
   counted-itself = counted-itself;
   refuses-begins = refuses-begins;

@@ -13,6 +13,7 @@ use Rattle.demands.specs.Starred.{four, junk, four-calls, Starred}
 use Rattle.demands.specs.Boundary.{Boundary}
 use Rattle.demands.proofs.Responding.{response-determined}
 use Rattle.demands.proofs.Diagnosing.{diagnosis-determined-program}
+use Rattle.demands.proofs.Findings.{findings-determined-program}
 use Rattle.demands.proofs.Checking.{check-determined-program}
 use Rattle.demands.proofs.SessionsAlike.{sessions-determined}
 
@@ -78,6 +79,14 @@ boundary = record {
   room-3 = refl;
   room-4 = refl;
   set-not-passed = refl;
+  find-1 = refl;
+  find-2 = refl;
+  find-48 = refl;
+  find-49 = refl;
+  find-meeting = refl;
+  find-state-short = refl;
+  find-state-long = refl;
+  find-room-1 = refl;
   begin-1 = refl;
   begin-2 = refl;
   begin-2-short = refl;
@@ -103,4 +112,4 @@ boundary = record {
 }
 
 pub determined : Determined
-determined = record { response = response-determined; check = check-determined-program; diagnosis = diagnosis-determined-program; session = sessions-determined }
+determined = record { response = response-determined; check = check-determined-program; diagnosis = diagnosis-determined-program; findings = findings-determined-program; session = sessions-determined }

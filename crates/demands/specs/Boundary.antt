@@ -7,6 +7,8 @@ use Rattle.words.specs.Answers.{Answer, refused, full, count-of}
 use Rattle.network.specs.Respond.{response-answer}
 use Rattle.checker.specs.declared.Verdict.the-variants.{Pass, Pair}
 use Rattle.diagnosis.specs.Diagnosis.{diagnosis-answer}
+use Rattle.diagnosis.specs.declared.Finding.{Finding}
+use Rattle.diagnosis.specs.FindingsTable.{findings-answer}
 use Rattle.session.specs.Record.{awaiting-first, awaiting-second}
 use Rattle.session.specs.Calls.{begin-answer, first-answer, second-answer}
 use Rattle.demands.specs.Starred.{check, respond, diagnose, two}
@@ -18,6 +20,10 @@ respond-into room = response-answer (record { nets = 4 }) 4 (0 ∷ 1 ∷ 2 ∷ 4
 -- *diagnosis* over walking ones with this much room
 abbrev pub diagnose-into : List ℕ → ℕ → Answer (List ℕ)
 diagnose-into responses room = diagnosis-answer (record { nets = 4 }) 4 (0 ∷ 1 ∷ 2 ∷ 4 ∷ 8 ∷ []) responses room
+
+-- *findings* of n nets with this much room
+abbrev pub find-into : ℕ → (state : List ℕ) → ℕ → Answer (List Finding)
+find-into n state room = findings-answer (record { nets = n }) state room
 
 pub record Boundary : Type 0 where
   -- row 5: n
@@ -52,6 +58,15 @@ pub record Boundary : Type 0 where
   pub room-3 : diagnose-into (4 ∷ 7 ∷ 7 ∷ 4 ∷ 12 ∷ []) 3 ≡ refused 12
   pub room-4 : diagnose-into (4 ∷ 7 ∷ 7 ∷ 4 ∷ 12 ∷ []) 4 ≡ full (3 ∷ 3 ∷ 0 ∷ 8 ∷ [])
   pub set-not-passed : diagnose 4 (1 ∷ 2 ∷ 4 ∷ 8 ∷ []) (7 ∷ 7 ∷ 4 ∷ 12 ∷ []) ≡ refused 13
+  -- *findings*: row 5, n; row 11, the state; row 12, the room
+  pub find-1 : find-into 1 (1 ∷ []) 1 ≡ refused 5
+  pub find-2 : find-into 2 (2 ∷ 2 ∷ []) 2 ≡ full (record { kind = 3; reach = 2; partners = 2 } ∷ record { kind = 2; reach = 2; partners = 1 } ∷ [])
+  pub find-48 : count-of (find-into 48 (replicate 48 0) 48) ≡ full 48
+  pub find-49 : find-into 49 (replicate 49 0) 49 ≡ refused 5
+  pub find-meeting : find-into 2 (3 ∷ 1 ∷ []) 2 ≡ refused 11
+  pub find-state-short : find-into 2 (1 ∷ []) 2 ≡ refused 11
+  pub find-state-long : find-into 2 (1 ∷ 2 ∷ 0 ∷ []) 3 ≡ refused 11
+  pub find-room-1 : find-into 2 (2 ∷ 2 ∷ []) 1 ≡ refused 12
   -- *begin*: row 5, n; row 12, the room
   pub begin-1 : begin-answer (record { nets = 1 }) 8 ≡ refused 5
   pub begin-2 : begin-answer two 2 ≡ full (1 ∷ 2 ∷ [])

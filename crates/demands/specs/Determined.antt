@@ -7,7 +7,9 @@ use Rattle.network.specs.declared.Network.{Network}
 use Rattle.network.specs.Rows.{SetRows}
 use Rattle.checker.specs.Rule.{Rule}
 use Rattle.demands.specs.Demand2.{ResponseProgram, Responds, DiagnosisProgram, Diagnoses}
+use Rattle.diagnosis.specs.declared.Finding.{Finding}
 use Rattle.session.specs.declared.Session.{Session}
+use Rattle.demands.specs.FindingsCall.{FindingsProgram, Finds}
 use Rattle.demands.specs.SessionCalls.{Call, begin, SessionProgram, History, none, waits-first, waits-second, finished-first, finished-second, LeftBy}
 use Rattle.demands.specs.Demand3.{CheckProgram, Sessions}
 
@@ -40,4 +42,5 @@ pub record Determined : Type 0 where
   pub check : (p q : CheckProgram) → ChecksByRule p → ChecksByRule q → (net : Network) (k : ℕ) (vectors : List ℕ) → p net k vectors ≡ q net k vectors
   pub diagnosis : (p q : DiagnosisProgram) → Diagnoses p → Diagnoses q → (net : Network) (k : ℕ) (vectors responses lent : List ℕ)
       → p net k vectors responses lent ≡ q net k vectors responses lent
+  pub findings : (p q : FindingsProgram) → Finds p → Finds q → (net : Network) (state : List ℕ) (lent : List Finding) → p net state lent ≡ q net state lent
   pub session : (p q : SessionProgram) → Sessions p → Sessions q → SessionsDetermined p q

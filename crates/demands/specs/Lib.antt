@@ -1,4 +1,5 @@
 pub mod Demand2
+pub mod FindingsCall
 pub mod SessionCalls
 pub mod Demand3
 pub mod SessionRecords

@@ -7,11 +7,13 @@ use Rattle.network.specs.Respond.{response-answer}
 use Rattle.checker.specs.Check.{check-answer}
 use Rattle.diagnosis.specs.ReadBack.{read-back}
 use Rattle.diagnosis.specs.Diagnosis.{diagnosis-answer}
+use Rattle.diagnosis.specs.FindingsTable.{findings-answer}
 use Rattle.steps.specs.SecondStep.{unclear}
 use Rattle.session.specs.declared.Session.{Session}
 use Rattle.session.specs.Record.{awaiting-first, finished}
 use Rattle.session.specs.Calls.{stepped, begin-answer, first-answer, answered-by, second-answer, vectors-driven, all-answers}
 use Rattle.demands.specs.Demand2.{ResponseProgram, DiagnosisProgram}
+use Rattle.demands.specs.FindingsCall.{FindingsProgram}
 use Rattle.demands.specs.SessionCalls.{Call, begin, first, second, lent, SessionProgram}
 use Rattle.demands.specs.Demand3.{CheckProgram}
 
@@ -26,6 +28,11 @@ our-check net k vectors = check-answer net k vectors
 abbrev pub our-diagnosis : DiagnosisProgram
 our-diagnosis net k vectors responses lent =
     let answer = diagnosis-answer net k vectors responses (length lent) in
+    record { returned = count-of answer; list = lent-after answer lent }
+
+abbrev pub our-findings : FindingsProgram
+our-findings net state lent =
+    let answer = findings-answer net state (length lent) in
     record { returned = count-of answer; list = lent-after answer lent }
 
 -- ---- the session's calls

@@ -1,5 +1,5 @@
 -- Wrong programs that the demands shut out.
-use Prim.Native.Nat.{ℕ}
+use Prim.Native.Nat.{ℕ, _-_}
 use mathlib.Core.Bool.{cond}
 use mathlib.Core.List.{List, [], _∷_, _++_, map}
 use lib.Dec.{eqb}
@@ -8,8 +8,10 @@ use Rattle.words.specs.Answers.{Answer, refused, full, lent-after, count-of}
 use Rattle.network.specs.Respond.{response-answer}
 use Rattle.diagnosis.specs.ReadBack.{read-back}
 use Rattle.diagnosis.specs.Diagnosis.{diagnosis-answer}
+use Rattle.diagnosis.specs.FindingsTable.{findings-answer}
 use Rattle.checker.specs.declared.Verdict.the-variants.{Pass, Pair}
 use Rattle.demands.specs.Demand2.{ResponseProgram, Responds, DiagnosisProgram, Diagnoses}
+use Rattle.demands.specs.FindingsCall.{FindingsProgram, Finds}
 use Rattle.network.specs.declared.Network.{Network}
 use Rattle.session.specs.declared.Session.{Session}
 use Rattle.session.specs.Record.{finished, held-answers}
@@ -42,14 +44,14 @@ drops-tail net k vectors state lent =
     record { returned = count-of answer; list = take (length vectors) (lent-after answer lent) }
 
 -- a refused call clears the list
-abbrev pub clears-list : Answer (List ℕ) → List ℕ → List ℕ
-clears-list (refused number) lent = map (λ _. 0) lent
-clears-list (full words) lent = words ++ drop (length words) lent
+abbrev pub clears-list : {A : Type 0} → A → Answer (List A) → List A → List A
+clears-list blank (refused number) lent = map (λ _. blank) lent
+clears-list blank (full entries) lent = entries ++ drop (length entries) lent
 
 abbrev pub writes-when-refused : ResponseProgram
 writes-when-refused net k vectors state lent =
     let answer = response-answer net k vectors state (length lent) in
-    record { returned = count-of answer; list = clears-list answer lent }
+    record { returned = count-of answer; list = clears-list 0 answer lent }
 
 abbrev pub refuses-every-state : ℕ → ResponseProgram
 refuses-every-state number net k vectors state lent = record { returned = refused number; list = lent }
@@ -72,6 +74,28 @@ accepts-conflicts net k vectors responses lent =
 
 abbrev pub refuses-every-response : ℕ → DiagnosisProgram
 refuses-every-response number net k vectors responses lent = record { returned = refused number; list = lent }
+
+-- ---- findings: a right answer, and the table wrong
+
+-- the table is left as lent
+abbrev pub finds-nothing : FindingsProgram
+finds-nothing net state lent = record { returned = count-of (findings-answer net state (length lent)); list = lent }
+
+-- the last record is not written
+abbrev pub but-the-last : {A : Type 0} → Answer (List A) → List A → List A
+but-the-last (refused number) lent = lent
+but-the-last (full entries) lent = let count = length entries - 1 in take count entries ++ drop count lent
+
+abbrev pub one-record-short : FindingsProgram
+one-record-short net state lent =
+    let answer = findings-answer net state (length lent) in
+    record { returned = count-of answer; list = but-the-last answer lent }
+
+-- a refused call clears the table
+abbrev pub clears-when-refused : FindingsProgram
+clears-when-refused net state lent =
+    let answer = findings-answer net state (length lent) in
+    record { returned = count-of answer; list = clears-list (record { kind = 0; reach = 0; partners = 0 }) answer lent }
 
 -- ---- sessions
 
@@ -139,6 +163,9 @@ pub record Refuted : Type 0 where
   pub state-not-written : ¬ (Diagnoses reads-nothing-back)
   pub conflicts-accepted : ¬ (Diagnoses accepts-conflicts)
   pub refuses-responses : (number : ℕ) → ¬ (Diagnoses (refuses-every-response number))
+  pub table-as-lent : ¬ (Finds finds-nothing)
+  pub record-not-written : ¬ (Finds one-record-short)
+  pub table-cleared : ¬ (Finds clears-when-refused)
   pub guessed : (guess : Network → List ℕ → List ℕ) → ¬ (Sessions (guesses guess))
   pub counted-itself : (count : ℕ) → ¬ (Sessions (counts-itself count))
   pub refuses-begins : (number : ℕ) → ¬ (Sessions (refuses-every-begin number))

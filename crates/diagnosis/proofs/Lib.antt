@@ -3,3 +3,4 @@ pub mod Answering
 pub mod Gathering
 pub mod Noting
 pub mod Partners
+pub mod Tabling

@@ -1,9 +1,13 @@
-// What is found on one net of a wiring state. A helper between crates: the state is one of the network's.
+// What is found on the nets of a wiring state. `finding_of` is a helper between crates: the state is one of the network's.
 ghost use mathlib.Core.Path.{_≡_};
 ghost use Prim.Native.Nat.{_<_, _≤_};
+ghost use lib.ListN.{length};
+ghost use Rattle.words.specs.Answers.{«count-of», «lent-after»};
 ghost use Rattle.network.specs.States.{State};
 ghost use Rattle.diagnosis.specs.Findings.{partners, finding};
+ghost use Rattle.diagnosis.specs.FindingsTable.{«findings-answer», «table-meaning», «blank-table»};
 use crate::Finding;
+use crate::Tabled;
 use network::Network;
 
 // The other nets whose receivers one driver reaches together with this one's.
@@ -56,5 +60,61 @@ pub fn finding_of(net: Network, state: &[u64], i: u64) -> Finding
         kind: 3,
         reach: reach,
         partners: partners,
+    }
+}
+
+// The finding of net i, a place of the table.
+fn finding_at(net: Network, state: &[u64], i: usize) -> Finding
+    requires { ⌜ (net .nets ≤ 48) × (i < net .nets) × State net (net .nets) (now state) ⌝ }
+    ensures { λ r. ⌜ r ≡ finding net (now (state .entry)) i ⌝ }
+{
+    finding_of(net, state, i as u64)
+}
+
+// The first of rows 5, 11 and 12 that holds, or 0.
+fn table_refusal(net: Network, state: &[u64], room: usize) -> u64
+    ensures { λ r. ⌜ table-meaning net r ≡ count-of (findings-answer net (now (state .entry)) room) ⌝ }
+{
+    if network::refusals::bad_net_count(net) {
+        return 5;
+    }
+    if network::refusals::not_a_state(net, net.nets, state) {
+        return 11;
+    }
+    if network::refusals::no_room(net.nets as usize, room) {
+        return 12;
+    }
+    0
+}
+
+// The call *findings*: a record a net into the front of `table`. Rows 5, 11 with k = n, and 12; 0 is accepted.
+pub fn findings(net: Network, state: &[u64], table: &mut [Finding]) -> u64
+    ensures { λ r. ⌜ (table-meaning net r ≡ count-of (findings-answer net (now (state .entry)) (length (now (table .entry))))) × (now (table .exit) ≡ lent-after (findings-answer net (now (state .entry)) (length (now (table .entry)))) (now (table .entry))) ⌝ }
+{
+    let code = table_refusal(net, state, table.len());
+    if code != 0 {
+        return code;
+    }
+    let mut i = 0;
+    while i < state.len() {
+        table[i] = finding_at(net, state, i);
+        i += 1;
+    }
+    0
+}
+
+// The call *findings* by value, with a blank table lent.
+pub fn by_value(net: Network, state: &[u64]) -> Tabled
+    ensures { λ r. ⌜ (table-meaning net (r .code) ≡ count-of (findings-answer net (now (state .entry)) 48)) × (r .table ≡ lent-after (findings-answer net (now (state .entry)) 48) blank-table) ⌝ }
+{
+    let mut table = [Finding {
+        kind: 0,
+        reach: 0,
+        partners: 0,
+    }; 48];
+    let code = findings(net, state, &mut table);
+    Tabled {
+        code: code,
+        table: table,
     }
 }

@@ -25,6 +25,12 @@ pub struct Finding {
     pub partners: u64,
 }
 
+// What the call *findings* answers: 0 if it is accepted, or the refusal's number; and the table after it.
+pub struct Tabled {
+    pub code: u64,
+    pub table: [Finding; 48],
+}
+
 // What the call *diagnosis* answers: how many words it wrote, or the refusal.
 pub enum Diagnosed {
     Wrote(u64),

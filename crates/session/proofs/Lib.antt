@@ -1,3 +1,4 @@
 pub mod Padding
 pub mod Stepping
 pub mod Records
+pub mod Lending

@@ -4,6 +4,7 @@ ghost use lib.ListN.{length};
 ghost use Rattle.words.specs.Answers.{«lent-after»};
 ghost use Rattle.session.specs.Calls.{«begin-answer», begun, «first-answer», «first-answered», «second-answered»};
 
+pub mod by_value;
 pub mod drive;
 mod new_record;
 mod record;
@@ -110,4 +111,31 @@ pub fn second_step(session: Session, answers: &[u64]) -> Stepped
         code: 0,
         session: new_record::finished(net, &state[..n], (p + count) as u64),
     }
+}
+
+// The call *begin* on a lent record.
+pub fn begin(session: &mut Session, net: Network, list: &mut [u64]) -> u64
+    ensures { λ r. ⌜ (now (session .exit) ≡ begun (now (session .entry)) net (length (now (list .entry))) .session) × (r ≡ begun (now (session .entry)) net (length (now (list .entry))) .code) × (now (list .exit) ≡ lent-after (begin-answer net (length (now (list .entry)))) (now (list .entry))) ⌝ }
+{
+    let done = begin_step(*session, net, list);
+    *session = done.session;
+    done.code
+}
+
+// The call *first answers* on a lent record.
+pub fn first_answers(session: &mut Session, answers: &[u64], list: &mut [u64]) -> u64
+    ensures { λ r. ⌜ (now (session .exit) ≡ first-answered (now (session .entry)) (now (answers .entry)) (length (now (list .entry))) .session) × (r ≡ first-answered (now (session .entry)) (now (answers .entry)) (length (now (list .entry))) .code) × (now (list .exit) ≡ lent-after (first-answer (now (session .entry)) (now (answers .entry)) (length (now (list .entry)))) (now (list .entry))) ⌝ }
+{
+    let done = first_step(*session, answers, list);
+    *session = done.session;
+    done.code
+}
+
+// The call *second answers* on a lent record.
+pub fn second_answers(session: &mut Session, answers: &[u64]) -> u64
+    ensures { λ r. ⌜ (now (session .exit) ≡ second-answered (now (session .entry)) (now (answers .entry)) .session) × (r ≡ second-answered (now (session .entry)) (now (answers .entry)) .code) ⌝ }
+{
+    let done = second_step(*session, answers);
+    *session = done.session;
+    done.code
 }

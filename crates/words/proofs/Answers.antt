@@ -123,6 +123,17 @@ module _ {A : Type 0} where
   unfolding count-of
   owed-full a count xs lent list e n l = (rw e (ap full n), rw e l)
 
+  -- and what the number returned tells of the answer
+  pub counted-refused : (a : Answer (List A)) (number : ℕ) → count-of a ≡ refused number → a ≡ refused number
+  unfolding count-of
+  counted-refused (refused other) number e = let same : other ≡ number = cc in ap refused same
+  counted-refused (full xs) number e = absurd (let z : _≡_ {A = ℕ} 0 1 = cc in omega arith)
+
+  pub counted-full : (a : Answer (List A)) (count : ℕ) → count-of a ≡ full count → (xs : List A) × (a ≡ full xs)
+  unfolding count-of
+  counted-full (refused number) count e = absurd (let z : _≡_ {A = ℕ} 0 1 = cc in omega arith)
+  counted-full (full xs) count e = (xs, refl)
+
   -- two calls that fill a list by one table did the same, if the table allows one answer only
   pub fills-determined : (rows : List (ℕ × Type 0)) (result : List A → Type 0) (lent : List A) (p q : Filled A)
       → ((a b : Answer (List A)) → ByTable rows result a → ByTable rows result b → a ≡ b)

@@ -109,9 +109,9 @@ word-whole f xs t h = rw (take-all t xs h)
 -- ---- a loop that fills a list from the front
 
 -- one more store
-pub fill-more : (done d : List ℕ) (t x : ℕ) → length done ≡ t → t < length d → set (done ++ drop t d) t x ≡ (done ++ x ∷ []) ++ drop (t + 1) d
-fill-more done d t x e h =
-    ap (λ (l : List ℕ). set (done ++ l) t x) (drop-cons d t 0 h) ∙ set-at done (at d t) (drop (suc t) d) x t e
+pub fill-more : {A : Type 0} (done d : List A) (t : ℕ) (x : A) → length done ≡ t → t < length d → set (done ++ drop t d) t x ≡ (done ++ x ∷ []) ++ drop (t + 1) d
+fill-more {A} done d t x e h =
+    ap (λ (l : List A). set (done ++ l) t x) (drop-cons d t x h) ∙ set-at done (getD d t x) (drop (suc t) d) x t e
     ∙ sym (append-snoc done x (drop (suc t) d)) ∙ ap (λ (n : ℕ). done ++ (x ∷ []) ++ drop n d) (sym (add-one t))
 
 -- each entry of a list into the front of a list d: a turn, and the end
@@ -126,13 +126,13 @@ list-filled xs d t h l =
     ap₂ (λ (m : List ℕ) (n : ℕ). m ++ drop n d) (take-all t xs l) e
 
 -- f of each entry into the front of a list d: a turn, and the end
-pub map-fill : (f : ℕ → ℕ) (xs d : List ℕ) (t : ℕ) → t < length xs → t < length d
+pub map-fill : {B : Type 0} (f : ℕ → B) (xs : List ℕ) (d : List B) (t : ℕ) → t < length xs → t < length d
     → set (map f (take t xs) ++ drop t d) t (f (at xs t)) ≡ map f (take (t + 1) xs) ++ drop (t + 1) d
-map-fill f xs d t h l =
+map-fill {B} f xs d t h l =
     fill-more (map f (take t xs)) d t (f (at xs t)) (length-map-take f xs t (omega arith)) l
-    ∙ ap (λ (m : List ℕ). m ++ drop (t + 1) d) (sym (map-more f xs t h))
+    ∙ ap (λ (m : List B). m ++ drop (t + 1) d) (sym (map-more f xs t h))
 
-pub map-filled : (f : ℕ → ℕ) (xs d : List ℕ) (t : ℕ) → t ≤ length xs → length xs ≤ t → map f (take t xs) ++ drop t d ≡ map f xs ++ drop (length (map f xs)) d
+pub map-filled : {B : Type 0} (f : ℕ → B) (xs : List ℕ) (d : List B) (t : ℕ) → t ≤ length xs → length xs ≤ t → map f (take t xs) ++ drop t d ≡ map f xs ++ drop (length (map f xs)) d
 map-filled f xs d t h l =
     let e : t ≡ length (map f xs) = rw (length-map xs f) (omega arith) in
     ap₂ (λ (m : List ℕ) (n : ℕ). map f m ++ drop n d) (take-all t xs l) e

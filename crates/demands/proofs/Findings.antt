@@ -1,0 +1,26 @@
+-- Our answer to *findings* keeps its promise, and no other program does.
+use mathlib.Core.Path.{_≡_, refl}
+use mathlib.Core.List.{List}
+use Prim.Native.Nat.{ℕ}
+use lib.ListN.{length}
+use Rattle.words.proofs.Answers.{fills-determined}
+use Rattle.network.specs.declared.Network.{Network}
+use Rattle.diagnosis.specs.declared.Finding.{Finding}
+use Rattle.diagnosis.specs.FindingsTable.{FindingsRows, Findings, findings-answer}
+use Rattle.diagnosis.proofs.Tabling.{findings-by-table, findings-determined}
+use Rattle.demands.specs.FindingsCall.{FindingsProgram, Finds}
+use Rattle.demands.specs.Programs.{our-findings}
+
+pub finds : Finds our-findings
+finds net state lent = record {
+  answer = findings-answer net state (length lent);
+  allowed = findings-by-table net state (length lent);
+  returned = refl;
+  list = refl;
+}
+
+pub findings-determined-program : (p q : FindingsProgram) → Finds p → Finds q → (net : Network) (state : List ℕ) (lent : List Finding)
+    → p net state lent ≡ q net state lent
+findings-determined-program p q f g net state lent =
+    fills-determined (FindingsRows net state (length lent)) (Findings net state) lent (p net state lent) (q net state lent)
+    (findings-determined net state (length lent)) (f net state lent) (g net state lent)
