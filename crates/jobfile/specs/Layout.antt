@@ -1,0 +1,111 @@
+-- The job file: a mark, a table of entries, and the bodies that the entries name.
+use Prim.Native.Nat.{ℕ, suc, _+_, _*_, _-_, _/_, _%_, _<_, _≤_}
+use mathlib.Core.Path.{_≡_}
+use mathlib.Core.Logic.{_⊎_, _≢_}
+use mathlib.Core.Bool.{Bool, true, false, not, cond, _&&_, _||_}
+use mathlib.Core.List.{List, [], _∷_}
+use lib.Dec.{eqb, leb, ltb}
+use lib.ListN.{length, take}
+use Rattle.words.specs.Bits.{at}
+use Rattle.words.specs.Searching.{any}
+use Rattle.words.specs.Turning.{tabulate}
+use Rattle.network.specs.declared.Network.{Network}
+use Rattle.jobfile.specs.Bytes.{number-at}
+
+-- `BSJ1`
+abbrev pub mark : List ℕ
+mark = 66 ∷ 83 ∷ 74 ∷ 49 ∷ []
+
+-- the most bytes of a file
+abbrev pub most-bytes : ℕ
+most-bytes = 2048
+
+-- the number of entries, and of entry i its kind, the offset of its body and the body's length
+abbrev pub entry-count : List ℕ → ℕ
+entry-count file = at file 4
+
+-- where the bodies begin, with this many entries
+abbrev pub bodies-at : ℕ → ℕ
+bodies-at entries = 5 + 9 * entries
+
+unfoldable pub entry-kind : List ℕ → ℕ → ℕ
+entry-kind file i = at file (5 + 9 * i)
+
+unfoldable pub body-offset : List ℕ → ℕ → ℕ
+body-offset file i = number-at file (6 + 9 * i) 4
+
+unfoldable pub body-length : List ℕ → ℕ → ℕ
+body-length file i = number-at file (10 + 9 * i) 4
+
+-- ---- rows 1, 2 and 3
+
+-- file mark: first 4 bytes missing or different
+abbrev pub Row1 : List ℕ → Type 0
+Row1 file = take 4 file ≢ mark
+
+-- A file of this layout: 2 or 3 entries, their table complete, the kinds 1, 2, 3 in order, and the bodies after it without gaps, in its
+-- order, to the end of the file.
+pub record Layout (file : List ℕ) : Type 0 where
+  pub size : length file ≤ most-bytes
+  pub entries : (entry-count file ≡ 2) ⊎ (entry-count file ≡ 3)
+  pub table : bodies-at (entry-count file) ≤ length file
+  pub kinds : (i : ℕ) → i < entry-count file → entry-kind file i ≡ suc i
+  pub first-body : body-offset file 0 ≡ bodies-at (entry-count file)
+  pub no-gaps : (i : ℕ) → suc i < entry-count file → body-offset file (suc i) ≡ body-offset file i + body-length file i
+  pub to-the-end : (i : ℕ) → suc i ≡ entry-count file → body-offset file i + body-length file i ≡ length file
+
+-- file contents: over 2,048 bytes, or count, table, kinds, offsets, lengths or end break the layout
+abbrev pub Row2 : List ℕ → Type 0
+Row2 file = ¬ (Layout file)
+
+-- file bodies: nets body not 2 bytes, or another not a multiple of 8
+abbrev pub Row3 : List ℕ → Type 0
+Row3 file = (body-length file 0 ≢ 2) ⊎ ((i : ℕ) × (0 < i) × (i < entry-count file) × (body-length file i % 8 ≢ 0))
+
+-- ---- the same as tests
+
+unfoldable pub same-bytes : List ℕ → List ℕ → Bool
+same-bytes [] [] = true
+same-bytes [] (y ∷ ys) = false
+same-bytes (x ∷ xs) [] = false
+same-bytes (x ∷ xs) (y ∷ ys) = let rest = same-bytes xs ys in eqb x y && rest
+
+abbrev pub bad-mark : List ℕ → Bool
+bad-mark file = not (same-bytes (take 4 file) mark)
+
+-- entry i breaks the layout: its kind, or where its body begins, or where the last body ends
+unfoldable pub bad-entry : List ℕ → ℕ → Bool
+bad-entry file i =
+    let before = cond (eqb i 0) (bodies-at (entry-count file)) (body-offset file (i - 1) + body-length file (i - 1)) in
+    let last = eqb (suc i) (entry-count file) && not (eqb (body-offset file i + body-length file i) (length file)) in
+    not (eqb (entry-kind file i) (suc i)) || (not (eqb (body-offset file i) before) || last)
+
+unfoldable pub bad-layout : List ℕ → Bool
+bad-layout file =
+    let entry = any (entry-count file) (bad-entry file) in
+    let table = ltb (length file) (bodies-at (entry-count file)) in
+    let count = not (eqb (entry-count file) 2 || eqb (entry-count file) 3) in
+    ltb most-bytes (length file) || (count || (table || entry))
+
+unfoldable pub bad-bodies : List ℕ → Bool
+bad-bodies file =
+    let words = any (entry-count file) (λ i. ltb 0 i && not (eqb (body-length file i % 8) 0)) in
+    not (eqb (body-length file 0) 2) || words
+
+-- ---- the content
+
+unfoldable pub file-network : List ℕ → Network
+file-network file = record { nets = at file (body-offset file 0) }
+
+unfoldable pub file-class : List ℕ → ℕ
+file-class file = at file (suc (body-offset file 0))
+
+-- the words of body i, 8 bytes each
+unfoldable pub body-words : List ℕ → ℕ → List ℕ
+body-words file i = tabulate (body-length file i / 8) (λ t. number-at file (body-offset file i + 8 * t) 8)
+
+abbrev pub has-responses : List ℕ → Bool
+has-responses file = eqb (entry-count file) 3
+
+unfoldable pub file-responses : List ℕ → List ℕ
+file-responses file = let words = body-words file 2 in cond (has-responses file) words []
