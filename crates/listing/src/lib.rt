@@ -1,0 +1,2 @@
+// The report on a job file, as text.
+pub mod decimal;
