@@ -1,6 +1,6 @@
 -- The call *write a job file*: how long its file is, and that it answers as its rows and its result say, with nothing left open.
 use mathlib.Core.Path.{_≡_, refl, sym, _∙_}
-use mathlib.Core.Bool.{Bool, true, false, not, _&&_, true≢false, false≢true}
+use mathlib.Core.Bool.{false, _&&_, true≢false, false≢true}
 use mathlib.Core.Logic.{_≢_}
 use mathlib.Core.List.{List, [], _∷_, _++_}
 use Prim.Native.Nat.{ℕ, _+_, _*_, _≤_, _<_}
@@ -10,13 +10,13 @@ use lib.Dec.{eqb, ltb}
 use lib.ListN.{length, length-append}
 use borrow.Author.Tests.{lt-ltb, eqb-true, not-false}
 use Rattle.words.specs.Answers.{Answer, ByTable, Decides, Decided}
-use Rattle.words.proofs.Tests.{and-left, and-right}
 use Rattle.words.proofs.Answers.{decided-append, tests-by-table, table-determined}
 use Rattle.network.specs.declared.Network.{Network}
 use Rattle.network.specs.Rows.{SetRows, set-tests, bad-response-count}
 use Rattle.network.proofs.Rows.{decides-set, decides-row-9, decides-high-bit, decides-row-12}
 use Rattle.jobfile.specs.Bytes.{bytes-of, word-bytes}
 use Rattle.jobfile.specs.Layout.{mark, bodies-at}
+use Rattle.jobfile.proofs.FileRows.{decides-and}
 use Rattle.jobfile.specs.Writer.{entry-bytes, response-entry, entries-for, head-of, file-of, OwnRows, WriterRows, given, own-tests, writer-tests, write-answer}
 use Rattle.jobfile.proofs.ByteLaws.{bytes-count, word-bytes-count}
 
@@ -80,13 +80,6 @@ module _ (vectors responses : List ℕ) where
       omega arith
 
 -- ---- the rows
-
-decides-and : {a b : Bool} {A B : Type 0} → Decides a A → Decides b B → Decides (a && b) (A × B)
-decides-and {a} {b} f g = (λ e. (f .0 (and-left a b e), g .0 (and-right a b e)), λ e w. both a b e (f .1) (g .1) w)
-  where
-    both : {A B : Type 0} (a b : Bool) → a && b ≡ false → (a ≡ false → ¬ A) → (b ≡ false → ¬ B) → ¬ (A × B)
-    both true b e n m (p, q) = m e q
-    both false b e n m (p, q) = n refl p
 
 -- whether there are responses, by their number
 pub given-is : (responses : List ℕ) → ltb 0 (length responses) ≡ given responses

@@ -2,7 +2,7 @@
 use Prim.Native.Nat.{ℕ}
 use mathlib.Core.Path.{_≡_}
 use mathlib.Core.Logic.{_⊎_}
-use mathlib.Core.Bool.{Bool, true, false, _&&_, _||_}
+use mathlib.Core.Bool.{Bool, true, _&&_, _||_}
 use mathlib.Core.List.{List, [], _∷_, _++_}
 use lib.ListN.{length}
 use Rattle.words.specs.Answers.{Answer, refused, full, by-tests}
@@ -68,6 +68,6 @@ counted (refused number) = refused number
 counted (full job) = full (record { network = job .network; class = job .class; vectors = length (job .vectors); responses = length (job .responses) })
 
 -- document 01's number and values for each case of the answer
-abbrev pub meaning : ReadJob → Answer Job
-meaning (Content job) = full job
-meaning (Refused number) = refused number
+abbrev pub read-meaning : ReadJob → Answer Job
+read-meaning (Content job) = full job
+read-meaning (Refused number) = refused number
