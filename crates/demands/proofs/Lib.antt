@@ -5,6 +5,7 @@ pub mod Checking
 pub mod Refuting
 pub mod Tables
 pub mod Telling
+pub mod JobFilesExact
 pub mod Sessions
 pub mod DemandThree
 pub mod SessionsAlike

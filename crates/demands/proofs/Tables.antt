@@ -16,6 +16,7 @@ use Rattle.demands.proofs.Diagnosing.{diagnosis-determined-program}
 use Rattle.demands.proofs.Findings.{findings-determined-program}
 use Rattle.demands.proofs.Checking.{check-determined-program}
 use Rattle.demands.proofs.SessionsAlike.{sessions-determined}
+use Rattle.demands.proofs.JobFilesExact.{writer-determined, reader-determined}
 
 -- demand 3's theorem at the end of the starred session
 abbrev ended-history : History
@@ -112,4 +113,12 @@ boundary = record {
 }
 
 pub determined : Determined
-determined = record { response = response-determined; check = check-determined-program; diagnosis = diagnosis-determined-program; findings = findings-determined-program; session = sessions-determined }
+determined = record {
+  response = response-determined;
+  check = check-determined-program;
+  diagnosis = diagnosis-determined-program;
+  findings = findings-determined-program;
+  session = sessions-determined;
+  writer = writer-determined;
+  reader = reader-determined;
+}

@@ -10,6 +10,7 @@ use Rattle.demands.specs.Demand2.{ResponseProgram, Responds, DiagnosisPr
 use Rattle.diagnosis.specs.declared.Finding.{Finding}
 use Rattle.session.specs.declared.Session.{Session}
 use Rattle.demands.specs.FindingsCall.{FindingsProgram, Finds}
+use Rattle.demands.specs.JobFiles.{WriterProgram, Writes, ReaderProgram, Reads}
 use Rattle.demands.specs.SessionCalls.{Call, begin, SessionProgram, History, none, waits-first, waits-second, finished-first, finished-second, LeftBy}
 use Rattle.demands.specs.Demand3.{CheckProgram, Sessions}
 
@@ -44,3 +45,6 @@ pub record Determined : Type 0 where
       → p net k vectors responses lent ≡ q net k vectors responses lent
   pub findings : (p q : FindingsProgram) → Finds p → Finds q → (net : Network) (state : List ℕ) (lent : List Finding) → p net state lent ≡ q net state lent
   pub session : (p q : SessionProgram) → Sessions p → Sessions q → SessionsDetermined p q
+  pub writer : (p q : WriterProgram) → Writes p → Writes q → (net : Network) (k : ℕ) (vectors responses lent : List ℕ)
+      → p net k vectors responses lent ≡ q net k vectors responses lent
+  pub reader : (p q : ReaderProgram) → Reads p → Reads q → (file vectors responses : List ℕ) → p file vectors responses ≡ q file vectors responses

@@ -3,6 +3,7 @@ pub mod FindingsCall
 pub mod SessionCalls
 pub mod Demand3
 pub mod SessionRecords
+pub mod JobFiles
 pub mod Programs
 pub mod Determined
 pub mod Refuted

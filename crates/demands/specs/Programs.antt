@@ -9,11 +9,14 @@ use Rattle.diagnosis.specs.ReadBack.{read-back}
 use Rattle.diagnosis.specs.Diagnosis.{diagnosis-answer}
 use Rattle.diagnosis.specs.FindingsTable.{findings-answer}
 use Rattle.steps.specs.SecondStep.{unclear}
+use Rattle.jobfile.specs.Writer.{write-answer}
+use Rattle.jobfile.specs.Reader.{read-answer, vectors-read, responses-read, counted}
 use Rattle.session.specs.declared.Session.{Session}
 use Rattle.session.specs.Record.{awaiting-first, finished}
 use Rattle.session.specs.Calls.{stepped, begin-answer, first-answer, answered-by, second-answer, vectors-driven, all-answers}
 use Rattle.demands.specs.Demand2.{ResponseProgram, DiagnosisProgram}
 use Rattle.demands.specs.FindingsCall.{FindingsProgram}
+use Rattle.demands.specs.JobFiles.{WriterProgram, ReaderProgram}
 use Rattle.demands.specs.SessionCalls.{Call, begin, first, second, lent, SessionProgram}
 use Rattle.demands.specs.Demand3.{CheckProgram}
 
@@ -34,6 +37,16 @@ abbrev pub our-findings : FindingsProgram
 our-findings net state lent =
     let answer = findings-answer net state (length lent) in
     record { returned = count-of answer; list = lent-after answer lent }
+
+abbrev pub our-writer : WriterProgram
+our-writer net k vectors responses lent =
+    let answer = write-answer net k vectors responses (length lent) in
+    record { returned = count-of answer; list = lent-after answer lent }
+
+abbrev pub our-reader : ReaderProgram
+our-reader file vectors responses =
+    let answer = read-answer file (length vectors) (length responses) in
+    record { returned = counted answer; vectors = lent-after (vectors-read answer) vectors; responses = lent-after (responses-read answer) responses }
 
 -- ---- the session's calls
 

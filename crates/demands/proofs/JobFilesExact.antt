@@ -1,0 +1,109 @@
+-- Our reader and our writer keep the promises on job files, and no other programs do.
+use Prim.Native.Nat.{ℕ, _≤_}
+use native.Mathlib.Omega.{arith}
+use mathlib.Core.Path.{_≡_, refl, sym, ap, ap₂, _∙_}
+use mathlib.Core.List.{List}
+use lib.ListN.{length, take}
+use Rattle.words.specs.Answers.{Answer, refused, full, lent-after, count-of}
+use Rattle.words.proofs.Answers.{front-written, fills-determined}
+use Rattle.network.specs.declared.Network.{Network}
+use Rattle.jobfile.specs.declared.Job.{Job}
+use Rattle.jobfile.specs.Bytes.{AllBytes}
+use Rattle.jobfile.specs.Writer.{WriterRows, file-of, write-answer}
+use Rattle.jobfile.specs.Reader.{JobContent, read-answer, vectors-read, responses-read, counted}
+use Rattle.jobfile.proofs.WriterLaws.{write-by-table, write-determined}
+use Rattle.jobfile.proofs.ReaderLaws.{read-by-table, read-determined}
+use Rattle.jobfile.proofs.Exactness as law
+use Rattle.demands.specs.JobFiles.{WriterProgram, Writes, ReaderProgram, Reads, file-written, Exact}
+use Rattle.demands.specs.Programs.{our-reader, our-writer}
+
+pub writes : Writes our-writer
+writes net k vectors responses lent = record {
+  answer = write-answer net k vectors responses (length lent);
+  allowed = write-by-table net k vectors responses (length lent);
+  returned = refl;
+  list = refl;
+}
+
+pub reads-files : Reads our-reader
+reads-files file vectors responses = record {
+  answer = read-answer file (length vectors) (length responses);
+  allowed = read-by-table file (length vectors) (length responses);
+  returned = refl;
+  first-list = refl;
+  second-list = refl;
+}
+
+-- an answer that counts is full of as many
+counted-words : (a : Answer (List ℕ)) (count : ℕ) → count-of a ≡ full count → (words : List ℕ) × (a ≡ full words) × (length words ≡ count)
+unfolding count-of
+counted-words (refused number) count e = absurd (let z : _≡_ {A = ℕ} 0 1 = cc in omega arith)
+counted-words (full words) count e = (words, refl, cc)
+
+counted-job : (a : Answer JobContent) (job : Job) → counted a ≡ full job
+    → (c : JobContent) × (a ≡ full c) × (record { network = c .network; class = c .class; vectors = length (c .vectors); responses = length (c .responses) } ≡ job)
+counted-job (refused number) job e = absurd (let z : _≡_ {A = ℕ} 0 1 = cc in omega arith)
+counted-job (full c) job e = (c, refl, cc)
+
+written-is-read : (net : Network) (k : ℕ) (vectors responses lent first second : List ℕ) (count : ℕ) → our-writer net k vectors responses lent .returned ≡ full count
+    → length vectors ≤ length first → length responses ≤ length second
+    → let did = our-reader (file-written (our-writer net k vectors responses lent) count) first second in
+    (did .returned ≡ full (record { network = net; class = k; vectors = length vectors; responses = length responses }))
+    × (take (length vectors) (did .vectors) ≡ vectors)
+    × (take (length responses) (did .responses) ≡ responses)
+written-is-read net k vectors responses lent first second count e l m =
+    let w = counted-words (write-answer net k vectors responses (length lent)) count e in
+    let file : List ℕ = w .0 in
+    let same : file-written (our-writer net k vectors responses lent) count ≡ file =
+    ap (λ (a : Answer (List ℕ)). take count (lent-after a lent)) (w .1) ∙ ap (λ (n : ℕ). take n (lent-after (full file) lent)) (sym (w .2)) ∙ front-written file lent in
+    let answer : read-answer file (length first) (length second) ≡ full (record { network = net; class = k; vectors = vectors; responses = responses }) =
+    law.written-is-read net k vectors responses (length lent) (length first) (length second) file (w .1) l m in
+    let read : read-answer (file-written (our-writer net k vectors responses lent) count) (length first) (length second) ≡ full (record { network = net; class = k; vectors = vectors; responses = responses }) =
+    ap (λ (f : List ℕ). read-answer f (length first) (length second)) same ∙ answer in (
+      ap counted read,
+      ap (λ (a : Answer JobContent). take (length vectors) (lent-after (vectors-read a) first)) read ∙ front-written vectors first,
+      ap (λ (a : Answer JobContent). take (length responses) (lent-after (responses-read a) second)) read ∙ front-written responses second,
+    )
+
+read-is-written : (file first second lent : List ℕ) (job : Job) → AllBytes file → our-reader file first second .returned ≡ full job → length file ≤ length lent
+    → let did = our-reader file first second in
+    let wrote = our-writer (job .network) (job .class) (take (job .vectors) (did .vectors)) (take (job .responses) (did .responses)) lent in
+    (wrote .returned ≡ full (length file)) × (file-written wrote (length file) ≡ file)
+unfolding count-of
+read-is-written file first second lent job bytes e l =
+    let r = counted-job (read-answer file (length first) (length second)) job e in
+    let c : JobContent = r .0 in
+    let vectors-same : take (job .vectors) (our-reader file first second .vectors) ≡ c .vectors =
+    ap (λ (a : Answer JobContent). take (job .vectors) (lent-after (vectors-read a) first)) (r .1)
+    ∙ ap (λ (j : Job). take (j .vectors) (lent-after (full (c .vectors)) first)) (sym (r .2)) ∙ front-written (c .vectors) first in
+    let responses-same : take (job .responses) (our-reader file first second .responses) ≡ c .responses =
+    ap (λ (a : Answer JobContent). take (job .responses) (lent-after (responses-read a) second)) (r .1)
+    ∙ ap (λ (j : Job). take (j .responses) (lent-after (full (c .responses)) second)) (sym (r .2)) ∙ front-written (c .responses) second in
+    let law-says : write-answer (c .network) (c .class) (c .vectors) (c .responses) (length lent) ≡ full file =
+    law.read-is-written file (length first) (length second) (length lent) c bytes (r .1) l in
+    let answer : write-answer (job .network) (job .class) (take (job .vectors) (our-reader file first second .vectors)) (take (job .responses) (our-reader file first second .responses)) (length lent) ≡ full file =
+    ap₂ (λ (v w : List ℕ). write-answer (job .network) (job .class) v w (length lent)) vectors-same responses-same
+    ∙ ap (λ (j : Job). write-answer (j .network) (j .class) (c .vectors) (c .responses) (length lent)) (sym (r .2)) ∙ law-says in
+    (ap count-of answer, ap (λ (a : Answer (List ℕ)). take (length file) (lent-after a lent)) answer ∙ front-written file lent)
+
+pub exact : Exact our-reader our-writer
+exact = record { written-is-read = written-is-read; read-is-written = read-is-written }
+
+-- ---- nothing is left open
+
+pub writer-determined : (p q : WriterProgram) → Writes p → Writes q → (net : Network) (k : ℕ) (vectors responses lent : List ℕ)
+    → p net k vectors responses lent ≡ q net k vectors responses lent
+writer-determined p q f g net k vectors responses lent =
+    fills-determined (WriterRows net k vectors responses (length lent)) (λ bytes. bytes ≡ file-of net k vectors responses) lent (p net k vectors responses lent) (q net k vectors responses lent)
+    (write-determined net k vectors responses (length lent)) (f net k vectors responses lent) (g net k vectors responses lent)
+
+pub reader-determined : (p q : ReaderProgram) → Reads p → Reads q → (file vectors responses : List ℕ) → p file vectors responses ≡ q file vectors responses
+reader-determined p q f g file vectors responses =
+    let a = f file vectors responses in
+    let b = g file vectors responses in
+    let same : a .answer ≡ b .answer = read-determined file (length vectors) (length responses) (a .answer) (b .answer) (a .allowed) (b .allowed) in
+    λ j. record {
+      returned = (a .returned ∙ ap counted same ∙ sym (b .returned)) j;
+      vectors = (a .first-list ∙ ap (λ (x : Answer JobContent). lent-after (vectors-read x) vectors) same ∙ sym (b .first-list)) j;
+      responses = (a .second-list ∙ ap (λ (x : Answer JobContent). lent-after (responses-read x) responses) same ∙ sym (b .second-list)) j;
+    }

@@ -1,0 +1,64 @@
+-- Job files: what the reader and the writer do on every input, and that, with lists long enough, the reader accepts exactly the
+-- writer's files and returns their content.
+use Prim.Native.Nat.{ℕ, _≤_}
+use mathlib.Core.Path.{_≡_}
+use mathlib.Core.List.{List}
+use lib.ListN.{length, take}
+use Rattle.words.specs.Answers.{Answer, full, ByTable, lent-after, Filled, FillsByTable}
+use Rattle.network.specs.declared.Network.{Network}
+use Rattle.jobfile.specs.declared.Job.{Job}
+use Rattle.jobfile.specs.Bytes.{AllBytes}
+use Rattle.jobfile.specs.Writer.{WriterRows, file-of}
+use Rattle.jobfile.specs.Reader.{JobContent, ReaderRows, content, vectors-read, responses-read, counted}
+
+-- ---- the writer
+
+-- a program for the call *write a job file*: what it returns, and the lent file after it
+abbrev pub WriterProgram : Type 0
+WriterProgram = Network → ℕ → (vectors responses lent : List ℕ) → Filled ℕ
+
+abbrev pub Writes : WriterProgram → Type 0
+Writes program = (net : Network) (k : ℕ) (vectors responses lent : List ℕ)
+    → FillsByTable (WriterRows net k vectors responses (length lent)) (λ bytes. bytes ≡ file-of net k vectors responses) lent (program net k vectors responses lent)
+
+-- ---- the reader
+
+-- what one call did: what it returned, and the two lists after it
+pub record ReadDone : Type 0 where
+  pub returned : Answer Job
+  pub vectors : List ℕ
+  pub responses : List ℕ
+
+abbrev pub ReaderProgram : Type 0
+ReaderProgram = (file vectors responses : List ℕ) → ReadDone
+
+-- refused by the first row that holds and both lists as they were, or the file's content in their fronts and their tails kept
+pub record ReadByTable (file vectors responses : List ℕ) (did : ReadDone) : Type 0 where
+  pub answer : Answer JobContent
+  pub allowed : ByTable (ReaderRows file (length vectors) (length responses)) (λ job. job ≡ content file) answer
+  pub returned : did .returned ≡ counted answer
+  pub first-list : did .vectors ≡ lent-after (vectors-read answer) vectors
+  pub second-list : did .responses ≡ lent-after (responses-read answer) responses
+
+abbrev pub Reads : ReaderProgram → Type 0
+Reads program = (file vectors responses : List ℕ) → ReadByTable file vectors responses (program file vectors responses)
+
+-- ---- the two together
+
+-- the file that a call of the writer wrote
+abbrev pub file-written : Filled ℕ → ℕ → List ℕ
+file-written did count = take count (did .list)
+
+pub record Exact (reader : ReaderProgram) (writer : WriterProgram) : Type 0 where
+  -- a file that was written is read, with what was written
+  pub written-is-read : (net : Network) (k : ℕ) (vectors responses lent first second : List ℕ) (count : ℕ) → writer net k vectors responses lent .returned ≡ full count
+      → length vectors ≤ length first → length responses ≤ length second
+      → let did = reader (file-written (writer net k vectors responses lent) count) first second in
+      (did .returned ≡ full (record { network = net; class = k; vectors = length vectors; responses = length responses }))
+      × (take (length vectors) (did .vectors) ≡ vectors)
+      × (take (length responses) (did .responses) ≡ responses)
+  -- and a file that is read is the one that is written with what was read
+  pub read-is-written : (file first second lent : List ℕ) (job : Job) → AllBytes file → reader file first second .returned ≡ full job → length file ≤ length lent
+      → let did = reader file first second in
+      let wrote = writer (job .network) (job .class) (take (job .vectors) (did .vectors)) (take (job .responses) (did .responses)) lent in
+      (wrote .returned ≡ full (length file)) × (file-written wrote (length file) ≡ file)
