@@ -1,5 +1,5 @@
 -- Laws of numbers in base ten.
-use Prim.Native.Nat.{ℕ, zero, suc, _-_, _/_, _%_, _<_, _≤_, _^_}
+use Prim.Native.Nat.{ℕ, zero, suc, _-_, _/_, _%_, _<_, _≤_, _^_, zero-le}
 use native.Mathlib.Nat.{not-suc-le-zero, le-of-suc-le-suc}
 use native.Mathlib.Omega.{arith}
 use mathlib.Core.Path.{_≡_, refl, sym, ap, _∙_}
@@ -7,7 +7,7 @@ use mathlib.Core.Logic.{_≢_}
 use mathlib.Core.Bool.{Bool, true, false, cond}
 use mathlib.Core.List.{List, [], _∷_, _++_, append-assoc}
 use lib.Dec.{eqb, ltb}
-use lib.ListN.{length, drop, set, drop-of-length-le}
+use lib.ListN.{length, length-append, drop, set, drop-of-length-le}
 use borrow.Author.Tests.{ne-eqb, ltb-true, ltb-false}
 use Rattle.listing.specs.Decimal.{digit-byte, digits, decimal}
 
@@ -56,3 +56,19 @@ unfolding decimal
 first-digit n buffer size =
     let rest : drop 20 buffer ≡ [] = drop-of-length-le buffer {i = 20} (omega (arith, size)) in
     digits-step 19 n ∙ sym (ap (λ (low : List ℕ). higher 19 (n / 10) ++ low) (drop-set buffer 19 _ (omega (arith, size)) ∙ ap (λ (after : List ℕ). digit-byte (n % 10) ∷ after) rest))
+
+-- ---- lengths
+
+digits-most : (most n : ℕ) → length (digits most n) ≤ most
+unfolding digits
+digits-most zero n = zero-le
+digits-most (suc most) n = go (ltb n 10) (digits-most most (n / 10))
+  where
+    go : (b : Bool) → length (digits most (n / 10)) ≤ most
+        → length {A = ℕ} (elim b as (λ _. List ℕ) [ true ↦ digit-byte n ∷ [] | false ↦ digits most (n / 10) ++ digit-byte (n % 10) ∷ [] ]) ≤ suc most
+    go true l = omega arith
+    go false l = let both = length-append (digits most (n / 10)) (digit-byte (n % 10) ∷ []) in omega arith
+
+pub decimal-most : (n : ℕ) → length (decimal n) ≤ 20
+unfolding decimal
+decimal-most n = digits-most 20 n

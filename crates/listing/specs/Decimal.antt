@@ -16,3 +16,17 @@ digits (suc most) n = elim (ltb n 10) [ true ↦ digit-byte n ∷ [] | false ↦
 -- a word has at most 20 digits
 unfoldable pub decimal : ℕ → List ℕ
 decimal n = digits 20 n
+
+abbrev pub space : ℕ
+space = 32
+
+abbrev pub newline : ℕ
+newline = 10
+
+abbrev pub spaced : ℕ → List ℕ
+spaced n = space ∷ decimal n
+
+-- numbers with a space before each, then a newline
+unfoldable pub numbers-end : List ℕ → List ℕ
+numbers-end [] = newline ∷ []
+numbers-end (n ∷ ns) = spaced n ++ numbers-end ns

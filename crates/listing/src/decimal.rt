@@ -1,9 +1,9 @@
 // Numbers as text in base ten. Helpers between crates: the text has room.
 ghost use mathlib.Core.Path.{_≡_};
-ghost use Prim.Native.Nat.{_+_, _≤_};
+ghost use Prim.Native.Nat.{_+_, _*_, _≤_};
 ghost use lib.ListN.{length, drop};
 ghost use Rattle.jobfile.specs.Bytes.{written};
-ghost use Rattle.listing.specs.Decimal.{decimal};
+ghost use Rattle.listing.specs.Decimal.{decimal, spaced, «numbers-end»};
 
 // The digits of a number at the end of a buffer; returns where they start.
 fn digits_at_end(n: u64, buffer: &mut [u8]) -> usize
@@ -42,4 +42,28 @@ pub fn put_decimal(text: &mut [u8], at: usize, n: u64) -> usize
     let start = digits_at_end(n, &mut buffer);
     put_bytes(text, at, &buffer[start..]);
     at + (20 - start)
+}
+
+// A space and a number into a text from an index on; returns the index past them.
+pub fn put_number(text: &mut [u8], at: usize, n: u64) -> usize
+    requires { ⌜ at + 21 ≤ length (now text) ⌝ }
+    ensures { λ r. ⌜ (r ≡ at + length (spaced n)) × (now (text .exit) ≡ written (now (text .entry)) at (spaced n)) ⌝ }
+{
+    put_bytes(text, at, b" ");
+    put_decimal(text, at + 1, n)
+}
+
+// Numbers with a space before each, and a newline, into a text from an index on; returns the index past them.
+pub fn put_numbers(text: &mut [u8], at: usize, numbers: &[u64]) -> usize
+    requires { ⌜ at + 21 * length (now numbers) + 1 ≤ length (now text) ⌝ }
+    ensures { λ r. ⌜ (r ≡ at + length (numbers-end (now (numbers .entry)))) × (now (text .exit) ≡ written (now (text .entry)) at (numbers-end (now (numbers .entry)))) ⌝ }
+{
+    let mut end = at;
+    let mut i: usize = 0;
+    while i < numbers.len() {
+        end = put_number(text, end, numbers[i]);
+        i += 1;
+    }
+    put_bytes(text, end, b"\n");
+    end + 1
 }

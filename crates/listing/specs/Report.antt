@@ -1,0 +1,50 @@
+-- The report: what is said of a job file, as text.
+use Prim.Native.Nat.{ℕ, zero, suc}
+use mathlib.Core.List.{List, [], _∷_, _++_}
+use lib.ListN.{length}
+use Rattle.words.specs.Answers.{Answer, refused, full}
+use Rattle.network.specs.declared.Network.{Network}
+use Rattle.checker.specs.declared.Verdict.{Verdict}
+use Rattle.checker.specs.declared.Verdict.the-variants.{Pass, Pair}
+use Rattle.checker.specs.Rule.{verdict}
+use Rattle.diagnosis.specs.declared.Finding.{Finding}
+use Rattle.diagnosis.specs.Diagnosis.{diagnosis-answer}
+use Rattle.diagnosis.specs.Findings.{finding}
+use Rattle.jobfile.specs.Reader.{JobContent, read-answer}
+use Rattle.listing.specs.Decimal.{decimal, numbers-end}
+
+-- `refused N`
+unfoldable pub refused-line : ℕ → List ℕ
+refused-line number = 114 ∷ 101 ∷ 102 ∷ 117 ∷ 115 ∷ 101 ∷ 100 ∷ numbers-end (number ∷ [])
+
+-- line one: `pass n k v`, or `pair n k v A B`
+unfoldable pub verdict-line : JobContent → Verdict → List ℕ
+verdict-line job Pass = 112 ∷ 97 ∷ 115 ∷ 115 ∷ numbers-end (job .network .nets ∷ job .class ∷ length (job .vectors) ∷ [])
+verdict-line job (Pair a b) = 112 ∷ 97 ∷ 105 ∷ 114 ∷ numbers-end (job .network .nets ∷ job .class ∷ length (job .vectors) ∷ a ∷ b ∷ [])
+
+-- a line of a net: net, kind, reach, partners
+unfoldable pub net-line : ℕ → Finding → List ℕ
+net-line i found = decimal i ++ numbers-end (found .kind ∷ found .reach ∷ found .partners ∷ [])
+
+-- the lines of the nets from net i on, of these records
+unfoldable pub net-lines : Network → List ℕ → ℕ → ℕ → List ℕ
+net-lines net state i zero = []
+net-lines net state i (suc count) = net-line i (finding net state i) ++ net-lines net state (suc i) count
+
+abbrev pub diagnosis-text : Network → Answer (List ℕ) → List ℕ
+diagnosis-text net (refused number) = refused-line number
+diagnosis-text net (full state) = net-lines net state 0 (net .nets)
+
+-- what follows line one: nothing if there are no responses
+abbrev pub responses-text : JobContent → List ℕ → List ℕ
+responses-text job [] = []
+responses-text job (word ∷ words) =
+    diagnosis-text (job .network) (diagnosis-answer (job .network) (job .class) (job .vectors) (word ∷ words) (job .network .nets))
+
+abbrev pub job-text : Answer JobContent → List ℕ
+job-text (refused number) = refused-line number
+job-text (full job) = verdict-line job (verdict (job .network) (job .class) (job .vectors)) ++ responses-text job (job .responses)
+
+-- the report on a file; 64 words are enough for the vectors, and for the responses
+unfoldable pub report : List ℕ → List ℕ
+report file = job-text (read-answer file 64 64)
