@@ -1,5 +1,6 @@
 // Numbers as text in base ten. Helpers between crates: the text has room.
 ghost use mathlib.Core.Path.{_≡_};
+ghost use mathlib.Core.List.{_++_};
 ghost use Prim.Native.Nat.{_+_, _*_, _≤_};
 ghost use lib.ListN.{length, drop};
 ghost use Rattle.jobfile.specs.Bytes.{written};
@@ -66,4 +67,13 @@ pub fn put_numbers(text: &mut [u8], at: usize, numbers: &[u64]) -> usize
     }
     put_bytes(text, end, b"\n");
     end + 1
+}
+
+// A line of a word and numbers into a text from an index on; returns the index past it.
+pub fn put_line(text: &mut [u8], at: usize, word: &[u8], numbers: &[u64]) -> usize
+    requires { ⌜ at + length (now word) + 21 * length (now numbers) + 1 ≤ length (now text) ⌝ }
+    ensures { λ r. ⌜ (r ≡ at + length (now (word .entry) ++ numbers-end (now (numbers .entry)))) × (now (text .exit) ≡ written (now (text .entry)) at (now (word .entry) ++ numbers-end (now (numbers .entry)))) ⌝ }
+{
+    put_bytes(text, at, word);
+    put_numbers(text, at + word.len(), numbers)
 }
