@@ -17,10 +17,10 @@ use Rattle.listing.specs.Decimal.{decimal, numbers-end}
 unfoldable pub refused-line : ℕ → List ℕ
 refused-line number = 114 ∷ 101 ∷ 102 ∷ 117 ∷ 115 ∷ 101 ∷ 100 ∷ numbers-end (number ∷ [])
 
--- line one: `pass n k v`, or `pair n k v A B`
-unfoldable pub verdict-line : JobContent → Verdict → List ℕ
-verdict-line job Pass = 112 ∷ 97 ∷ 115 ∷ 115 ∷ numbers-end (job .network .nets ∷ job .class ∷ length (job .vectors) ∷ [])
-verdict-line job (Pair a b) = 112 ∷ 97 ∷ 105 ∷ 114 ∷ numbers-end (job .network .nets ∷ job .class ∷ length (job .vectors) ∷ a ∷ b ∷ [])
+-- line one, of n, k and the number of vectors: `pass n k v`, or `pair n k v A B`
+unfoldable pub verdict-line : Network → ℕ → ℕ → Verdict → List ℕ
+verdict-line net k count Pass = 112 ∷ 97 ∷ 115 ∷ 115 ∷ numbers-end (net .nets ∷ k ∷ count ∷ [])
+verdict-line net k count (Pair a b) = 112 ∷ 97 ∷ 105 ∷ 114 ∷ numbers-end (net .nets ∷ k ∷ count ∷ a ∷ b ∷ [])
 
 -- a line of a net: net, kind, reach, partners
 unfoldable pub net-line : ℕ → Finding → List ℕ
@@ -43,7 +43,8 @@ responses-text job (word ∷ words) =
 
 abbrev pub job-text : Answer JobContent → List ℕ
 job-text (refused number) = refused-line number
-job-text (full job) = verdict-line job (verdict (job .network) (job .class) (job .vectors)) ++ responses-text job (job .responses)
+job-text (full job) =
+    verdict-line (job .network) (job .class) (length (job .vectors)) (verdict (job .network) (job .class) (job .vectors)) ++ responses-text job (job .responses)
 
 -- the report on a file; 64 words are enough for the vectors, and for the responses
 unfoldable pub report : List ℕ → List ℕ

@@ -1,2 +1,3 @@
 // The report on a job file, as text.
 pub mod decimal;
+pub mod lines;

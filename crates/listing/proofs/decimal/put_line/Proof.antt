@@ -28,10 +28,11 @@ returns c =
     let a = s .args in
     let word = a .word .now in
     let line = numbers-end (a .numbers .now) in
-    let whole = length-append word line in
-    (d .put-numbers .ensures .0 ∙ omega (arith, whole),
+    let whole = length-append word line in (
+      d .put-numbers .ensures .0 ∙ omega (arith, whole),
       written-next (a .text .now) (b .put-bytes .last .0) (d .put-numbers .last .0) (a .at) (a .at + length word) word line (b .put-bytes .ensures)
-          (d .put-numbers .ensures .1) refl (omega (arith, s .pre)))
+          (d .put-numbers .ensures .1) refl (omega (arith, s .pre)),
+    )
 
 pub put-line-spec : {M : Type 1} → statement M
 put-line-spec =

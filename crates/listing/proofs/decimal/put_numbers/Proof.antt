@@ -2,7 +2,7 @@ use borrow.Author.Needs.{needs}
 use Prim.Native.Nat.{_-_}
 use native.Mathlib.Omega.{arith}
 use lib.ListN.{length}
-use Rattle.listing.proofs.Lines.{Put, put-none, put-one, put-all}
+use Rattle.listing.proofs.NumbersPut.{Put, put-none, put-one, put-all}
 use Rattle.listing.proofs.decimal.put_numbers.Statement.{statement}
 use Rattle.listing.proofs.decimal.put_numbers.Tie as tie
 
