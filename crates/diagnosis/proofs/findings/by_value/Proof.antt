@@ -1,6 +1,5 @@
--- `diagnosis::findings::by_value` meets its contract: a walk of its MIR, by hand. A local array of 48 blank records is lent as a slice to `findings`, for a lifetime that is made for the call, and comes back at the last list that `findings` says.
+-- A local array of 48 blank records is lent as a slice to `findings`, for a lifetime that is made for the call, and comes back at the last list that `findings` says.
 -- All that the proof knows of `findings` is that it meets its contract.
--- Assumes nothing.
 use mathlib.Core.Path.{_≡_, refl, sym, ap, _∙_, subst}
 use Prim.Native.Nat.{ℕ, _<_, _^_}
 use mathlib.Core.List.{[], _∷_, List, map}

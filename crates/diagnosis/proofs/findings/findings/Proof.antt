@@ -1,8 +1,7 @@
--- `diagnosis::findings::findings` meets its contract: a walk of its MIR, by hand. Where `table_refusal` says a number other than 0 it is returned; else the loop's turn calls `finding_at` with a copy of the state's borrow, opens the table's borrow, stores the record at the place, and closes it.
+-- Where `table_refusal` says a number other than 0 it is returned; else the loop's turn calls `finding_at` with a copy of the state's borrow, opens the table's borrow, stores the record at the place, and closes it.
 --     At i         the whole context where the loop's test is reached: the table's borrow is closed, at the table with i places filled
 --     more, ends   a turn that fills one place, and the turn that leaves the loop, with the rest of the body
 -- All that the proof knows of `table_refusal` and `finding_at` is that each meets its contract.
--- Assumes nothing.
 use mathlib.Core.Path.{_≡_, refl, sym, _∙_, ap, subst}
 use Prim.Native.Nat.{ℕ, _+_, _*_, _-_, _<_, _≤_, _^_}
 use native.Mathlib.Omega.{arith}
