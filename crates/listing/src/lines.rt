@@ -3,8 +3,9 @@ ghost use mathlib.Core.Path.{_≡_};
 ghost use Prim.Native.Nat.{_+_, _≤_};
 ghost use lib.ListN.{length};
 ghost use Rattle.jobfile.specs.Bytes.{written};
-ghost use Rattle.listing.specs.Report.{«refused-line»};
+ghost use Rattle.listing.specs.Report.{«refused-line», «net-line»};
 use crate::decimal;
+use diagnosis::Finding;
 
 // The line of a refusal; returns the index past it.
 pub fn put_refused(text: &mut [u8], at: usize, number: u64) -> usize
@@ -13,4 +14,14 @@ pub fn put_refused(text: &mut [u8], at: usize, number: u64) -> usize
 {
     let numbers = [number];
     decimal::put_line(text, at, b"refused", &numbers)
+}
+
+// The line of a net; returns the index past it.
+pub fn put_net(text: &mut [u8], at: usize, net: u64, found: Finding) -> usize
+    requires { ⌜ at + 84 ≤ length (now text) ⌝ }
+    ensures { λ r. ⌜ (r ≡ at + length (net-line net found)) × (now (text .exit) ≡ written (now (text .entry)) at (net-line net found)) ⌝ }
+{
+    let numbers = [found.kind, found.reach, found.partners];
+    let end = decimal::put_decimal(text, at, net);
+    decimal::put_numbers(text, end, &numbers)
 }
