@@ -3,9 +3,11 @@ ghost use mathlib.Core.Path.{_≡_};
 ghost use Prim.Native.Nat.{_+_, _≤_};
 ghost use lib.ListN.{length};
 ghost use Rattle.jobfile.specs.Bytes.{written};
-ghost use Rattle.listing.specs.Report.{«refused-line», «net-line»};
+ghost use Rattle.listing.specs.Report.{«refused-line», «verdict-line», «net-line»};
 use crate::decimal;
+use checker::Verdict;
 use diagnosis::Finding;
+use network::Network;
 
 // The line of a refusal; returns the index past it.
 pub fn put_refused(text: &mut [u8], at: usize, number: u64) -> usize
@@ -14,6 +16,30 @@ pub fn put_refused(text: &mut [u8], at: usize, number: u64) -> usize
 {
     let numbers = [number];
     decimal::put_line(text, at, b"refused", &numbers)
+}
+
+// Line one; returns the index past it.
+pub fn put_verdict(
+    text: &mut [u8],
+    at: usize,
+    net: Network,
+    class: u64,
+    count: u64,
+    verdict: Verdict,
+) -> usize
+    requires { ⌜ at + 110 ≤ length (now text) ⌝ }
+    ensures { λ r. ⌜ (r ≡ at + length (verdict-line net class count verdict)) × (now (text .exit) ≡ written (now (text .entry)) at (verdict-line net class count verdict)) ⌝ }
+{
+    match verdict {
+        Verdict::Pass => {
+            let numbers = [net.nets, class, count];
+            decimal::put_line(text, at, b"pass", &numbers)
+        }
+        Verdict::Pair(a, b) => {
+            let numbers = [net.nets, class, count, a, b];
+            decimal::put_line(text, at, b"pair", &numbers)
+        }
+    }
 }
 
 // The line of a net; returns the index past it.
