@@ -1,2 +1,3 @@
 pub mod Numerals
 pub mod NumbersPut
+pub mod NetsPut

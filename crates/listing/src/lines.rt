@@ -1,9 +1,10 @@
 // The lines of the report, each put into a text from an index on. Helpers: the text has room.
 ghost use mathlib.Core.Path.{_≡_};
-ghost use Prim.Native.Nat.{_+_, _≤_};
+ghost use Prim.Native.Nat.{_+_, _*_, _≤_};
 ghost use lib.ListN.{length};
+ghost use Rattle.network.specs.States.{State};
 ghost use Rattle.jobfile.specs.Bytes.{written};
-ghost use Rattle.listing.specs.Report.{«refused-line», «verdict-line», «net-line»};
+ghost use Rattle.listing.specs.Report.{«refused-line», «verdict-line», «net-line», «net-lines»};
 use crate::decimal;
 use checker::Verdict;
 use diagnosis::Finding;
@@ -50,4 +51,19 @@ pub fn put_net(text: &mut [u8], at: usize, net: u64, found: Finding) -> usize
     let numbers = [found.kind, found.reach, found.partners];
     let end = decimal::put_decimal(text, at, net);
     decimal::put_numbers(text, end, &numbers)
+}
+
+// The lines of all nets of a wiring state; returns the index past them.
+pub fn put_nets(text: &mut [u8], at: usize, net: Network, state: &[u64]) -> usize
+    requires { ⌜ (net .nets ≤ 48) × State net (net .nets) (now state) × (at + 84 * net .nets ≤ length (now text)) ⌝ }
+    ensures { λ r. ⌜ (r ≡ at + length (net-lines net (now (state .entry)) 0 (net .nets))) × (now (text .exit) ≡ written (now (text .entry)) at (net-lines net (now (state .entry)) 0 (net .nets))) ⌝ }
+{
+    let mut end = at;
+    let mut i: u64 = 0;
+    while i < net.nets {
+        let found = diagnosis::findings::finding_of(net, state, i);
+        end = put_net(text, end, i, found);
+        i += 1;
+    }
+    end
 }
