@@ -1,0 +1,165 @@
+// The calls for C and Rust. Each returns 0 if it is accepted, or the number of the refusal. A record is lent as a list of words.
+mod lists;
+mod record;
+mod table;
+
+use checker::Checked;
+use diagnosis::Diagnosed;
+use jobfile::ReadJob;
+use jobfile::Wrote;
+use network::Network;
+use network::Responded;
+
+// What a call returns that is lent a list of a fixed length, of another length.
+const WRONG_LENGTH: u64 = 99;
+
+// The call *check*. The verdict's 3 words: 0 0 0 for pass, or 1 and the pair.
+#[no_mangle]
+pub extern "C" fn fontarelga_check(
+    nets: u64,
+    class: u64,
+    vectors: &[u64],
+    verdict: &mut [u64],
+) -> u64 {
+    if verdict.len() != 3 {
+        return WRONG_LENGTH;
+    }
+    match checker::check(Network { nets: nets }, class, vectors) {
+        Checked::Pass => lists::put_three(0, 0, 0, verdict),
+        Checked::Pair(a, b) => lists::put_three(1, a, b, verdict),
+        Checked::Refused(number) => number,
+    }
+}
+
+// The call *response from a state*.
+#[no_mangle]
+pub extern "C" fn fontarelga_respond(
+    nets: u64,
+    class: u64,
+    vectors: &[u64],
+    state: &[u64],
+    response: &mut [u64],
+) -> u64 {
+    match network::response_from_state(Network { nets: nets }, class, vectors, state, response) {
+        Responded::Wrote(_) => 0,
+        Responded::Refused(number) => number,
+    }
+}
+
+// The call *diagnosis*.
+#[no_mangle]
+pub extern "C" fn fontarelga_diagnose(
+    nets: u64,
+    class: u64,
+    vectors: &[u64],
+    responses: &[u64],
+    state: &mut [u64],
+) -> u64 {
+    match diagnosis::diagnose(Network { nets: nets }, class, vectors, responses, state) {
+        Diagnosed::Wrote(_) => 0,
+        Diagnosed::Refused(number) => number,
+    }
+}
+
+// The call *findings*: 3 words a net.
+#[no_mangle]
+pub extern "C" fn fontarelga_findings(nets: u64, state: &[u64], table: &mut [u64]) -> u64 {
+    let net = Network { nets: nets };
+    let code = table::refusal(net, state, table.len() / 3);
+    if code != 0 {
+        return code;
+    }
+    table::put_findings(net, state, table);
+    0
+}
+
+// The call *begin*.
+#[no_mangle]
+pub extern "C" fn fontarelga_begin(session: &mut [u64], nets: u64, first: &mut [u64]) -> u64 {
+    if session.len() != 59 {
+        return WRONG_LENGTH;
+    }
+    let held = record::session_of(session);
+    let done = session::begin_step(held, Network { nets: nets }, first);
+    record::put_session(done.session, session);
+    done.code
+}
+
+// The call *first answers*.
+#[no_mangle]
+pub extern "C" fn fontarelga_first_answers(
+    session: &mut [u64],
+    answers: &[u64],
+    second: &mut [u64],
+) -> u64 {
+    if session.len() != 59 {
+        return WRONG_LENGTH;
+    }
+    let held = record::session_of(session);
+    let done = session::first_step(held, answers, second);
+    record::put_session(done.session, session);
+    done.code
+}
+
+// The call *second answers*.
+#[no_mangle]
+pub extern "C" fn fontarelga_second_answers(session: &mut [u64], answers: &[u64]) -> u64 {
+    if session.len() != 59 {
+        return WRONG_LENGTH;
+    }
+    let held = record::session_of(session);
+    let done = session::second_step(held, answers);
+    record::put_session(done.session, session);
+    done.code
+}
+
+// How many words to drive next, from the start of the first list or of the second; 0 if none.
+#[no_mangle]
+pub extern "C" fn fontarelga_to_drive<'a>(
+    session: &[u64],
+    first: &'a [u64],
+    second: &'a [u64],
+) -> u64 {
+    if session.len() != 59 {
+        return 0;
+    }
+    let held = record::session_of(session);
+    let driven = session::drive::to_drive(held, first, second);
+    driven.len() as u64
+}
+
+// The call *read a job file*. The job's 4 words: nets, class, number of vectors, number of responses.
+#[no_mangle]
+pub extern "C" fn fontarelga_read_job(
+    file: &[u8],
+    vectors: &mut [u64],
+    responses: &mut [u64],
+    job: &mut [u64],
+) -> u64 {
+    if job.len() != 4 {
+        return WRONG_LENGTH;
+    }
+    match jobfile::read_job(file, vectors, responses) {
+        ReadJob::Content(content) => lists::put_job(content, job),
+        ReadJob::Refused(number) => number,
+    }
+}
+
+// The call *write a job file*. The size's only word: how many bytes were written.
+#[no_mangle]
+pub extern "C" fn fontarelga_write_job(
+    nets: u64,
+    class: u64,
+    vectors: &[u64],
+    responses: &[u64],
+    file: &mut [u8],
+    size: &mut [u64],
+) -> u64 {
+    if size.len() != 1 {
+        return WRONG_LENGTH;
+    }
+    match jobfile::write_job(Network { nets: nets }, class, vectors, responses, file) {
+        Wrote::Bytes(count) => lists::put_one(count, size),
+        Wrote::Refused(number) => number,
+    }
+}

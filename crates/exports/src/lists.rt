@@ -1,0 +1,43 @@
+// Words put into a lent list.
+ghost use mathlib.Core.Path.{_≡_};
+ghost use Prim.Native.Nat.{_+_, _≤_};
+ghost use lib.ListN.{length};
+use jobfile::Job;
+
+// Words from a place on; the rest of `out` is kept.
+pub fn put_words(out: &mut [u64], at: usize, from: &[u64])
+    requires { ⌜ at + length (now from) ≤ length (now out) ⌝ }
+{
+    words::lists::copy_words(from, &mut out[at..]);
+}
+
+// One word into the front; 0.
+pub fn put_one(word: u64, out: &mut [u64]) -> u64
+    requires { ⌜ length (now out) ≡ 1 ⌝ }
+{
+    out[0] = word;
+    0
+}
+
+// Three words into the front; 0.
+pub fn put_three(a: u64, b: u64, c: u64, out: &mut [u64]) -> u64
+    requires { ⌜ length (now out) ≡ 3 ⌝ }
+{
+    let three = [a, b, c];
+    words::lists::copy_words(&three, out);
+    0
+}
+
+// What the reader answers; 0.
+pub fn put_job(job: Job, out: &mut [u64]) -> u64
+    requires { ⌜ length (now out) ≡ 4 ⌝ }
+{
+    let four = [
+        job.network.nets,
+        job.class,
+        job.vectors as u64,
+        job.responses as u64,
+    ];
+    words::lists::copy_words(&four, out);
+    0
+}
