@@ -1,4 +1,12 @@
 // The calls for C and Rust. Each returns 0 if it is accepted, or the number of the refusal. A record is lent as a list of words.
+ghost use mathlib.Core.Path.{_≡_};
+ghost use lib.ListN.{length};
+ghost use Rattle.words.specs.Answers.{«lent-after»};
+ghost use Rattle.network.specs.Respond.{«response-answer»};
+ghost use Rattle.diagnosis.specs.Diagnosis.{«diagnosis-answer»};
+ghost use Rattle.jobfile.specs.Reader.{«vectors-read», «responses-read»};
+ghost use Rattle.exports.specs.Exported.{code, «in-words», «network-of», «verdict-words», «finding-words», «job-words», «size-words», «check-exported», «findings-exported», «begin-exported», «first-exported», «second-exported», «read-exported», «write-exported», «session-begun», «session-first», «session-second», «drive-count»};
+
 mod lists;
 mod record;
 mod table;
@@ -20,7 +28,10 @@ pub extern "C" fn fontarelga_check(
     class: u64,
     vectors: &[u64],
     verdict: &mut [u64],
-) -> u64 {
+) -> u64
+    ensures answer { λ r. ⌜ r ≡ code (check-exported nets class (now (vectors .entry)) (now (verdict .entry))) ⌝ }
+    ensures verdict { λ r. ⌜ now (verdict .exit) ≡ lent-after (in-words verdict-words (check-exported nets class (now (vectors .entry)) (now (verdict .entry)))) (now (verdict .entry)) ⌝ }
+{
     if verdict.len() != 3 {
         return WRONG_LENGTH;
     }
@@ -39,7 +50,10 @@ pub extern "C" fn fontarelga_respond(
     vectors: &[u64],
     state: &[u64],
     response: &mut [u64],
-) -> u64 {
+) -> u64
+    ensures answer { λ r. ⌜ r ≡ code (response-answer (network-of nets) class (now (vectors .entry)) (now (state .entry)) (length (now (response .entry)))) ⌝ }
+    ensures response { λ r. ⌜ now (response .exit) ≡ lent-after (response-answer (network-of nets) class (now (vectors .entry)) (now (state .entry)) (length (now (response .entry)))) (now (response .entry)) ⌝ }
+{
     match network::response_from_state(Network { nets: nets }, class, vectors, state, response) {
         Responded::Wrote(_) => 0,
         Responded::Refused(number) => number,
@@ -54,7 +68,10 @@ pub extern "C" fn fontarelga_diagnose(
     vectors: &[u64],
     responses: &[u64],
     state: &mut [u64],
-) -> u64 {
+) -> u64
+    ensures answer { λ r. ⌜ r ≡ code (diagnosis-answer (network-of nets) class (now (vectors .entry)) (now (responses .entry)) (length (now (state .entry)))) ⌝ }
+    ensures state { λ r. ⌜ now (state .exit) ≡ lent-after (diagnosis-answer (network-of nets) class (now (vectors .entry)) (now (responses .entry)) (length (now (state .entry)))) (now (state .entry)) ⌝ }
+{
     match diagnosis::diagnose(Network { nets: nets }, class, vectors, responses, state) {
         Diagnosed::Wrote(_) => 0,
         Diagnosed::Refused(number) => number,
@@ -63,7 +80,10 @@ pub extern "C" fn fontarelga_diagnose(
 
 // The call *findings*: 3 words a net.
 #[no_mangle]
-pub extern "C" fn fontarelga_findings(nets: u64, state: &[u64], table: &mut [u64]) -> u64 {
+pub extern "C" fn fontarelga_findings(nets: u64, state: &[u64], table: &mut [u64]) -> u64
+    ensures answer { λ r. ⌜ r ≡ code (findings-exported nets (now (state .entry)) (length (now (table .entry)))) ⌝ }
+    ensures table { λ r. ⌜ now (table .exit) ≡ lent-after (in-words finding-words (findings-exported nets (now (state .entry)) (length (now (table .entry))))) (now (table .entry)) ⌝ }
+{
     let net = Network { nets: nets };
     let code = table::refusal(net, state, table.len() / 3);
     if code != 0 {
@@ -75,7 +95,11 @@ pub extern "C" fn fontarelga_findings(nets: u64, state: &[u64], table: &mut [u64
 
 // The call *begin*.
 #[no_mangle]
-pub extern "C" fn fontarelga_begin(session: &mut [u64], nets: u64, first: &mut [u64]) -> u64 {
+pub extern "C" fn fontarelga_begin(session: &mut [u64], nets: u64, first: &mut [u64]) -> u64
+    ensures answer { λ r. ⌜ r ≡ code (begin-exported (now (session .entry)) nets (length (now (first .entry)))) ⌝ }
+    ensures session { λ r. ⌜ now (session .exit) ≡ lent-after (session-begun (now (session .entry)) nets (length (now (first .entry)))) (now (session .entry)) ⌝ }
+    ensures first { λ r. ⌜ now (first .exit) ≡ lent-after (begin-exported (now (session .entry)) nets (length (now (first .entry)))) (now (first .entry)) ⌝ }
+{
     if session.len() != 59 {
         return WRONG_LENGTH;
     }
@@ -91,7 +115,11 @@ pub extern "C" fn fontarelga_first_answers(
     session: &mut [u64],
     answers: &[u64],
     second: &mut [u64],
-) -> u64 {
+) -> u64
+    ensures answer { λ r. ⌜ r ≡ code (first-exported (now (session .entry)) (now (answers .entry)) (length (now (second .entry)))) ⌝ }
+    ensures session { λ r. ⌜ now (session .exit) ≡ lent-after (session-first (now (session .entry)) (now (answers .entry)) (length (now (second .entry)))) (now (session .entry)) ⌝ }
+    ensures second { λ r. ⌜ now (second .exit) ≡ lent-after (first-exported (now (session .entry)) (now (answers .entry)) (length (now (second .entry)))) (now (second .entry)) ⌝ }
+{
     if session.len() != 59 {
         return WRONG_LENGTH;
     }
@@ -103,7 +131,10 @@ pub extern "C" fn fontarelga_first_answers(
 
 // The call *second answers*.
 #[no_mangle]
-pub extern "C" fn fontarelga_second_answers(session: &mut [u64], answers: &[u64]) -> u64 {
+pub extern "C" fn fontarelga_second_answers(session: &mut [u64], answers: &[u64]) -> u64
+    ensures answer { λ r. ⌜ r ≡ code (second-exported (now (session .entry)) (now (answers .entry))) ⌝ }
+    ensures session { λ r. ⌜ now (session .exit) ≡ lent-after (session-second (now (session .entry)) (now (answers .entry))) (now (session .entry)) ⌝ }
+{
     if session.len() != 59 {
         return WRONG_LENGTH;
     }
@@ -119,7 +150,9 @@ pub extern "C" fn fontarelga_to_drive<'a>(
     session: &[u64],
     first: &'a [u64],
     second: &'a [u64],
-) -> u64 {
+) -> u64
+    ensures { λ r. ⌜ r ≡ drive-count (now (session .entry)) (now (first .entry)) (now (second .entry)) ⌝ }
+{
     if session.len() != 59 {
         return 0;
     }
@@ -135,7 +168,12 @@ pub extern "C" fn fontarelga_read_job(
     vectors: &mut [u64],
     responses: &mut [u64],
     job: &mut [u64],
-) -> u64 {
+) -> u64
+    ensures answer { λ r. ⌜ r ≡ code (read-exported (now (file .entry)) (now (job .entry)) (length (now (vectors .entry))) (length (now (responses .entry)))) ⌝ }
+    ensures vectors { λ r. ⌜ now (vectors .exit) ≡ lent-after (vectors-read (read-exported (now (file .entry)) (now (job .entry)) (length (now (vectors .entry))) (length (now (responses .entry))))) (now (vectors .entry)) ⌝ }
+    ensures responses { λ r. ⌜ now (responses .exit) ≡ lent-after (responses-read (read-exported (now (file .entry)) (now (job .entry)) (length (now (vectors .entry))) (length (now (responses .entry))))) (now (responses .entry)) ⌝ }
+    ensures job { λ r. ⌜ now (job .exit) ≡ lent-after (in-words job-words (read-exported (now (file .entry)) (now (job .entry)) (length (now (vectors .entry))) (length (now (responses .entry))))) (now (job .entry)) ⌝ }
+{
     if job.len() != 4 {
         return WRONG_LENGTH;
     }
@@ -154,7 +192,11 @@ pub extern "C" fn fontarelga_write_job(
     responses: &[u64],
     file: &mut [u8],
     size: &mut [u64],
-) -> u64 {
+) -> u64
+    ensures answer { λ r. ⌜ r ≡ code (write-exported nets class (now (vectors .entry)) (now (responses .entry)) (length (now (file .entry))) (now (size .entry))) ⌝ }
+    ensures file { λ r. ⌜ now (file .exit) ≡ lent-after (write-exported nets class (now (vectors .entry)) (now (responses .entry)) (length (now (file .entry))) (now (size .entry))) (now (file .entry)) ⌝ }
+    ensures size { λ r. ⌜ now (size .exit) ≡ lent-after (in-words size-words (write-exported nets class (now (vectors .entry)) (now (responses .entry)) (length (now (file .entry))) (now (size .entry)))) (now (size .entry)) ⌝ }
+{
     if size.len() != 1 {
         return WRONG_LENGTH;
     }

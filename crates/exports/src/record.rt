@@ -1,12 +1,15 @@
 // A session's record as 59 words.
 ghost use mathlib.Core.Path.{_≡_};
 ghost use lib.ListN.{length};
+ghost use Rattle.words.specs.Answers.{full, «lent-after»};
+ghost use Rattle.exports.specs.Exported.{«session-size», «session-words», «session-of»};
 use network::Network;
 use session::Session;
 
 // The record that the words are.
 pub fn session_of(words: &[u64]) -> Session
-    requires { ⌜ length (now words) ≡ 59 ⌝ }
+    requires { ⌜ length (now words) ≡ session-size ⌝ }
+    ensures { λ r. ⌜ r ≡ session-of (now (words .entry)) ⌝ }
 {
     let mut first = [0u64; 8];
     words::lists::copy_words(&words[2..10], &mut first);
@@ -23,7 +26,8 @@ pub fn session_of(words: &[u64]) -> Session
 
 // The record's words.
 pub fn put_session(session: Session, out: &mut [u64])
-    requires { ⌜ length (now out) ≡ 59 ⌝ }
+    requires { ⌜ length (now out) ≡ session-size ⌝ }
+    ensures { λ r. ⌜ now (out .exit) ≡ lent-after (full (session-words session)) (now (out .entry)) ⌝ }
 {
     let head = [session.step, session.network.nets];
     let first = session.first;

@@ -3,8 +3,9 @@ ghost use mathlib.Core.Path.{_≡_};
 ghost use Prim.Native.Nat.{_*_, _≤_};
 ghost use lib.ListN.{length};
 ghost use Rattle.network.specs.States.{State};
-ghost use Rattle.diagnosis.specs.FindingsTable.{«findings-answer», «table-meaning»};
-ghost use Rattle.words.specs.Answers.{«count-of»};
+ghost use Rattle.diagnosis.specs.FindingsTable.{findings, «findings-answer», «table-meaning»};
+ghost use Rattle.words.specs.Answers.{full, «count-of», «lent-after»};
+ghost use Rattle.exports.specs.Exported.{«finding-words»};
 use network::Network;
 
 // The first of rows 5, 11 and 12 that holds, or 0.
@@ -26,6 +27,7 @@ pub fn refusal(net: Network, state: &[u64], room: usize) -> u64
 // Kind, reach and partners of each net into the front of `table`.
 pub fn put_findings(net: Network, state: &[u64], table: &mut [u64])
     requires { ⌜ (net .nets ≤ 48) × State net (net .nets) (now state) × (3 * length (now state) ≤ length (now table)) ⌝ }
+    ensures { λ r. ⌜ now (table .exit) ≡ lent-after (full (finding-words (findings net (now (state .entry))))) (now (table .entry)) ⌝ }
 {
     let mut i: usize = 0;
     while i < state.len() {

@@ -17,7 +17,7 @@ refusal-requires c κs = search needs
 
 -- src/lib.rt:70:9
 returns : tie.Need-returns
-returns c = search needs
+returns c = ?
 
 -- src/lib.rt:72:5
 put-findings-requires : tie.Need-put-findings-requires
@@ -34,7 +34,7 @@ same-length c = search needs
 
 -- src/lib.rt:65:1
 returns-2 : tie.Need-returns-2
-returns-2 c = search needs
+returns-2 c = ?
 
 pub fontarelga-findings-spec : {M : Type 1} → statement M
 fontarelga-findings-spec =

@@ -1,3 +1,4 @@
+use Rattle.exports.proofs.Words.{session-written}
 use native.Mathlib.Omega.{arith}
 use mathlib.Core.Path.{_≡_}
 use lib.ListN.{length}
@@ -7,6 +8,13 @@ use Rattle.exports.proofs.record.put_session.Tie as tie
 use Rattle.exports.proofs.record.put_session.Reads as reads
 use Rattle.exports.proofs.record.put_session.Lts as lts
 use Rattle.exports.proofs.lists.put_words.Reads as put-words-reads
+
+-- the record's arrays
+first-size : (c : tie.Start) → length (c .args .session .first) ≡ 8
+first-size c = search needs
+
+reaches-size : (c : tie.Start) → length (c .args .session .reaches) ≡ 48
+reaches-size c = search needs
 
 -- src/record.rt:32:37
 slice-aggregate-put-words : tie.Need-slice-aggregate-put-words
@@ -23,8 +31,7 @@ slice-aggregate-put-words-2 c = search needs
 -- src/record.rt:33:5
 put-words-requires-2 : tie.Need-put-words-requires-2
 put-words-requires-2 c κs =
-    let size : length (c .before .before .before .before .before .before .before .before .before .before .args .session .first) ≡ 8 = search needs in
-    omega (arith, size)
+    omega (arith, first-size (c .before .before .before .before .before .before .before .before .before .before))
 
 -- src/record.rt:34:38
 slice-aggregate-put-words-3 : tie.Need-slice-aggregate-put-words-3
@@ -33,8 +40,7 @@ slice-aggregate-put-words-3 c = search needs
 -- src/record.rt:34:5
 put-words-requires-3 : tie.Need-put-words-requires-3
 put-words-requires-3 c κs =
-    let size : length (c .before .before .before .before .before .before .before .before .before .before .before .before .before .before .before .args .session .reaches) ≡ 48 = search needs in
-    omega (arith, size)
+    omega (arith, reaches-size (c .before .before .before .before .before .before .before .before .before .before .before .before .before .before .before))
 
 -- src/record.rt:35:38
 slice-aggregate-put-words-4 : tie.Need-slice-aggregate-put-words-4
@@ -50,7 +56,14 @@ same-length c = search needs
 
 -- src/record.rt:25:1
 returns : tie.Need-returns
-returns c = search needs
+returns c =
+    let p4 = c .before .before in
+    let p3 = p4 .before .before .before .before .before in
+    let p2 = p3 .before .before .before .before .before in
+    let p1 = p2 .before .before .before .before .before in
+    let s = p1 .before .before .before .before .before .before in
+    let a = s .args in
+    session-written (a .session) (a .out .now) _ _ _ _ (first-size s) (reaches-size s) (p1 .put-words .ensures) (p2 .put-words2 .ensures) (p3 .put-words3 .ensures) (p4 .put-words4 .ensures)
 
 pub put-session-spec : {M : Type 1} → statement M
 put-session-spec =

@@ -53,7 +53,7 @@ same-length c = search needs
 
 -- src/table.rt:27:1
 returns : tie.Need-returns Inv-loop μ-loop
-returns c = search needs
+returns c = ?
 
 pub put-findings-spec : {M : Type 1} → statement M
 put-findings-spec =

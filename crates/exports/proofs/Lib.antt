@@ -1,0 +1,2 @@
+pub mod Owing
+pub mod Words

@@ -1,0 +1,89 @@
+-- What an exported call owes: the number returned, and the lists lent.
+use mathlib.Core.Path.{_≡_, refl, sym, ap, ap₂, _∙_}
+use mathlib.Core.List.{List, [], _∷_}
+use Prim.Native.Nat.{ℕ}
+use native.Mathlib.Omega.{arith}
+use lib.ListN.{length}
+use borrow.Author.Tests.{eq-eqb, ne-eqb}
+use Rattle.words.specs.Answers.{Answer, refused, full, lent-after, count-of}
+use Rattle.session.specs.declared.Session.{Session}
+use Rattle.session.specs.Calls.{stepped}
+use Rattle.jobfile.specs.declared.Job.{Job}
+use Rattle.jobfile.specs.Reader.{JobContent, counted}
+use Rattle.exports.specs.Exported.{code, in-words, wrong-length, of-length, size-words, job-words, session-size, session-words, session-of}
+use Rattle.exports.proofs.Words.{all-written, session-there}
+
+-- ---- lists of a fixed length
+
+module _ {A : Type 0} (size : ℕ) (list : List ℕ) (a : Answer A) where
+  pub other-length : (length list ≡ size → ⊥) → of-length size list a ≡ refused wrong-length
+  unfolding of-length
+  other-length n = rw (ne-eqb (length list) size n)
+
+  pub right-length : length list ≡ size → of-length size list a ≡ a
+  unfolding of-length
+  right-length e = rw (eq-eqb (length list) size e)
+
+-- ---- a refusal, and a result
+
+module _ {A : Type 0} (a : Answer A) (number : ℕ) (e : a ≡ refused number) where
+  pub code-refused : number ≡ code a
+  unfolding code
+  code-refused = rw e
+
+  pub words-refused : (words : A → List ℕ) (lent : List ℕ) → lent ≡ lent-after (in-words words a) lent
+  unfolding in-words lent-after
+  words-refused words lent = rw e
+
+pub lent-refused : (a : Answer (List ℕ)) (number : ℕ) (lent : List ℕ) → a ≡ refused number → lent ≡ lent-after a lent
+unfolding lent-after
+lent-refused a number lent e = rw e
+
+module _ {A : Type 0} (a : Answer A) (x : A) (e : a ≡ full x) where
+  pub code-full : 0 ≡ code a
+  unfolding code
+  code-full = rw e
+
+  pub words-full : (words : A → List ℕ) (lent list : List ℕ) → list ≡ lent-after (full (words x)) lent → list ≡ lent-after (in-words words a) lent
+  unfolding in-words
+  words-full words lent list l = rw e l
+
+-- ---- a call that returns how much it wrote
+
+pub code-counted : (a : Answer (List ℕ)) (n : Answer ℕ) → n ≡ count-of a → code n ≡ code a
+unfolding code count-of
+code-counted (refused number) n said = ap code said
+code-counted (full words) n said = ap code said
+
+pub counted-size : (a : Answer (List ℕ)) (count : ℕ) → full count ≡ count-of a → in-words size-words a ≡ full (count ∷ [])
+unfolding in-words count-of
+counted-size (refused number) count said = absurd (let z : _≡_ {A = ℕ} 0 1 = cc in omega arith)
+counted-size (full words) count said = let same : length words ≡ count = cc in ap (λ (n : ℕ). full (n ∷ [])) same
+
+pub code-read : (a : Answer JobContent) (n : Answer Job) → n ≡ counted a → code n ≡ code a
+unfolding code
+code-read (refused number) n said = ap code said
+code-read (full job) n said = ap code said
+
+pub read-words : (a : Answer JobContent) (job : Job) → full job ≡ counted a
+    → in-words job-words a ≡ full (job .network .nets ∷ job .class ∷ job .vectors ∷ job .responses ∷ [])
+unfolding in-words job-words
+read-words (refused number) job said = absurd (let z : _≡_ {A = ℕ} 0 1 = cc in omega arith)
+read-words (full content) job said =
+    let same : record { network = content .network; class = content .class; vectors = length (content .vectors); responses = length (content .responses) } ≡ job = cc in
+    ap (λ (j : Job). full (j .network .nets ∷ j .class ∷ j .vectors ∷ j .responses ∷ [])) same
+
+-- ---- a call on a session
+
+pub stepped-code : (a : Answer (List ℕ)) (new old : Session) → stepped a new old .code ≡ code a
+unfolding stepped code
+stepped-code (refused number) new old = refl
+stepped-code (full words) new old = refl
+
+-- a refused call writes back the words that it was lent
+pub stepped-words : (a : Answer (List ℕ)) (new : Session) (words : List ℕ) → length words ≡ session-size
+    → lent-after (full (session-words (stepped a new (session-of words) .session))) words
+    ≡ lent-after (in-words (λ _. session-words (stepped a new (session-of words) .session)) a) words
+unfolding stepped in-words lent-after
+stepped-words (refused number) new words e = rw (session-there words e) (all-written words words refl)
+stepped-words (full list) new words e = refl

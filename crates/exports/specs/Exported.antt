@@ -1,0 +1,124 @@
+-- The calls for C and Rust: a number returned, and lists of words lent.
+use Prim.Native.Nat.{ℕ, _/_}
+use mathlib.Core.Bool.{cond}
+use mathlib.Core.List.{List, [], _∷_, _++_}
+use lib.Dec.{eqb}
+use lib.ListN.{length, take, drop}
+use Rattle.words.specs.Bits.{at}
+use Rattle.words.specs.Answers.{Answer, refused, full}
+use Rattle.network.specs.declared.Network.{Network}
+use Rattle.network.specs.Respond.{response-answer}
+use Rattle.checker.specs.declared.Verdict.{Verdict}
+use Rattle.checker.specs.declared.Verdict.the-variants.{Pass, Pair}
+use Rattle.checker.specs.Check.{check-answer}
+use Rattle.diagnosis.specs.declared.Finding.{Finding}
+use Rattle.diagnosis.specs.Diagnosis.{diagnosis-answer}
+use Rattle.diagnosis.specs.FindingsTable.{findings-answer}
+use Rattle.session.specs.declared.Session.{Session}
+use Rattle.session.specs.Calls.{begin-answer, begun, first-answer, first-answered, second-answer, second-answered}
+use Rattle.session.specs.Drive.{to-drive}
+use Rattle.jobfile.specs.Reader.{JobContent, read-answer}
+use Rattle.jobfile.specs.Writer.{write-answer}
+
+-- ---- what a call returns, and what it writes
+
+-- 0 if the call is accepted, else the number of the refusal
+unfoldable pub code : {A : Type 0} → Answer A → ℕ
+code (refused number) = number
+code (full x) = 0
+
+-- the words of a full result
+unfoldable pub in-words : {A : Type 0} → (A → List ℕ) → Answer A → Answer (List ℕ)
+in-words words (refused number) = refused number
+in-words words (full x) = full (words x)
+
+-- the refusal of a list of a fixed length that has another; no number of the table
+abbrev pub wrong-length : ℕ
+wrong-length = 99
+
+-- that refusal, or else the answer
+unfoldable pub of-length : {A : Type 0} → ℕ → List ℕ → Answer A → Answer A
+of-length size list answer = cond (eqb (length list) size) answer (refused wrong-length)
+
+abbrev pub network-of : ℕ → Network
+network-of nets = record { nets = nets }
+
+-- ---- results as words
+
+-- 0 0 0 for pass, or 1 and the pair
+unfoldable pub verdict-words : Verdict → List ℕ
+verdict-words Pass = 0 ∷ 0 ∷ 0 ∷ []
+verdict-words (Pair a b) = 1 ∷ a ∷ b ∷ []
+
+-- kind, reach and partners of each net
+unfoldable pub finding-words : List Finding → List ℕ
+finding-words [] = []
+finding-words (found ∷ table) = found .kind ∷ found .reach ∷ found .partners ∷ finding-words table
+
+-- nets, class, number of vectors, number of responses
+unfoldable pub job-words : JobContent → List ℕ
+job-words job = job .network .nets ∷ job .class ∷ length (job .vectors) ∷ length (job .responses) ∷ []
+
+-- how many bytes a file has
+abbrev pub size-words : List ℕ → List ℕ
+size-words file = length file ∷ []
+
+-- a session's record: step, nets, 8 words of first answers, 48 reaches, vectors spent
+abbrev pub session-size : ℕ
+session-size = 59
+
+unfoldable pub session-words : Session → List ℕ
+session-words session = session .step ∷ session .network .nets ∷ session .first ++ session .reaches ++ session .spent ∷ []
+
+-- and the record that 59 words are
+unfoldable pub session-of : List ℕ → Session
+session-of words =
+    record {
+      step = at words 0;
+      network = network-of (at words 1);
+      first = take 8 (drop 2 words);
+      reaches = take 48 (drop 10 words);
+      spent = at words 58;
+    }
+
+-- ---- the answers; `room` is how many words a lent list has, and `verdict`, `session`, `job` and `size` are lists of a fixed length
+
+abbrev pub check-exported : (nets class : ℕ) (vectors verdict : List ℕ) → Answer Verdict
+check-exported nets class vectors verdict = of-length 3 verdict (check-answer (network-of nets) class vectors)
+
+-- 3 words a record
+abbrev pub findings-exported : ℕ → (state : List ℕ) → ℕ → Answer (List Finding)
+findings-exported nets state room = findings-answer (network-of nets) state (room / 3)
+
+abbrev pub begin-exported : (session : List ℕ) (nets room : ℕ) → Answer (List ℕ)
+begin-exported session nets room = of-length session-size session (begin-answer (network-of nets) room)
+
+abbrev pub first-exported : (session answers : List ℕ) → ℕ → Answer (List ℕ)
+first-exported session answers room = of-length session-size session (first-answer (session-of session) answers room)
+
+abbrev pub second-exported : (session answers : List ℕ) → Answer (List ℕ)
+second-exported session answers = of-length session-size session (second-answer (session-of session) answers)
+
+abbrev pub read-exported : (file job : List ℕ) (first second : ℕ) → Answer JobContent
+read-exported file job first second = of-length 4 job (read-answer file first second)
+
+abbrev pub write-exported : (nets class : ℕ) (vectors responses : List ℕ) → ℕ → (size : List ℕ) → Answer (List ℕ)
+write-exported nets class vectors responses room size = of-length 1 size (write-answer (network-of nets) class vectors responses room)
+
+-- ---- the session's words after an accepted call, and what to drive
+
+abbrev pub session-begun : (session : List ℕ) (nets room : ℕ) → Answer (List ℕ)
+session-begun session nets room =
+    in-words (λ _. session-words (begun (session-of session) (network-of nets) room .session)) (begin-exported session nets room)
+
+abbrev pub session-first : (session answers : List ℕ) → ℕ → Answer (List ℕ)
+session-first session answers room =
+    in-words (λ _. session-words (first-answered (session-of session) answers room .session)) (first-exported session answers room)
+
+abbrev pub session-second : (session answers : List ℕ) → Answer (List ℕ)
+session-second session answers =
+    in-words (λ _. session-words (second-answered (session-of session) answers .session)) (second-exported session answers)
+
+-- how many words to drive; none for a list that is no session
+unfoldable pub drive-count : (session first second : List ℕ) → ℕ
+drive-count session first second = cond (eqb (length session) session-size) (length (to-drive (session-of session) first second)) 0
