@@ -1,5 +1,5 @@
 -- What an exported call owes: the number returned, and the lists lent.
-use mathlib.Core.Path.{_≡_, refl, sym, ap, ap₂, _∙_}
+use mathlib.Core.Path.{_≡_, refl, ap, _∙_}
 use mathlib.Core.List.{List, [], _∷_}
 use Prim.Native.Nat.{ℕ}
 use native.Mathlib.Omega.{arith}
@@ -7,6 +7,7 @@ use lib.ListN.{length}
 use borrow.Author.Tests.{eq-eqb, ne-eqb}
 use Rattle.words.specs.Answers.{Answer, refused, full, lent-after, count-of}
 use Rattle.session.specs.declared.Session.{Session}
+use Rattle.session.specs.declared.Stepped.{Stepped}
 use Rattle.session.specs.Calls.{stepped}
 use Rattle.jobfile.specs.declared.Job.{Job}
 use Rattle.jobfile.specs.Reader.{JobContent, counted}
@@ -73,17 +74,43 @@ read-words (full content) job said =
     let same : record { network = content .network; class = content .class; vectors = length (content .vectors); responses = length (content .responses) } ≡ job = cc in
     ap (λ (j : Job). full (j .network .nets ∷ j .class ∷ j .vectors ∷ j .responses ∷ [])) same
 
+pub read-refused : (a : Answer JobContent) (number : ℕ) → refused number ≡ counted a → a ≡ refused number
+read-refused (refused other) number said = let same : other ≡ number = cc in ap refused same
+read-refused (full content) number said = absurd (let z : _≡_ {A = ℕ} 0 1 = cc in omega arith)
+
 -- ---- a call on a session
 
-pub stepped-code : (a : Answer (List ℕ)) (new old : Session) → stepped a new old .code ≡ code a
+stepped-code : (a : Answer (List ℕ)) (new old : Session) → stepped a new old .code ≡ code a
 unfolding stepped code
 stepped-code (refused number) new old = refl
 stepped-code (full words) new old = refl
 
 -- a refused call writes back the words that it was lent
-pub stepped-words : (a : Answer (List ℕ)) (new : Session) (words : List ℕ) → length words ≡ session-size
+stepped-words : (a : Answer (List ℕ)) (new : Session) (words : List ℕ) → length words ≡ session-size
     → lent-after (full (session-words (stepped a new (session-of words) .session))) words
     ≡ lent-after (in-words (λ _. session-words (stepped a new (session-of words) .session)) a) words
 unfolding stepped in-words lent-after
 stepped-words (refused number) new words e = rw (session-there words e) (all-written words words refl)
 stepped-words (full list) new words e = refl
+
+-- by what a call answers on a record, and what it does to it
+module _ (answer : Session → Answer (List ℕ)) (done : Session → Stepped) (by-answer : (session : Session) → (new : Session) × (done session ≡ stepped (answer session) new session))
+    (words : List ℕ) (size : length words ≡ session-size) (held : Session) (same : held ≡ session-of words) where
+  pub step-code : (number : ℕ) → number ≡ done held .code → number ≡ code (of-length session-size words (answer (session-of words)))
+  step-code number e =
+      let by = by-answer (session-of words) in
+      rw (right-length session-size words (answer (session-of words)) size)
+      (e ∙ ap (λ (session : Session). done session .code) same ∙ ap (λ (d : Stepped). d .code) (by .1) ∙ stepped-code (answer (session-of words)) (by .0) (session-of words))
+
+  pub step-words : (new : Session) (after : List ℕ) → new ≡ done held .session → after ≡ lent-after (full (session-words new)) words
+      → after ≡ lent-after (in-words (λ _. session-words (done (session-of words) .session)) (of-length session-size words (answer (session-of words)))) words
+  step-words new after e f =
+      let by = by-answer (session-of words) in
+      rw (right-length session-size words (answer (session-of words)) size)
+      (f ∙ ap (λ (session : Session). lent-after (full (session-words session)) words) (e ∙ ap (λ (session : Session). done session .session) same)
+      ∙ rw (by .1) (stepped-words (answer (session-of words)) (by .0) words size))
+
+pub step-lent : (answer : Session → Answer (List ℕ)) (words : List ℕ) → length words ≡ session-size → (held : Session) → held ≡ session-of words
+    → (lent list : List ℕ) → list ≡ lent-after (answer held) lent → list ≡ lent-after (of-length session-size words (answer (session-of words))) lent
+step-lent answer words size held same lent list e =
+    rw (right-length session-size words (answer (session-of words)) size) (e ∙ ap (λ (session : Session). lent-after (answer session) lent) same)

@@ -1,3 +1,6 @@
+use Rattle.diagnosis.proofs.Tabling.{table-refused}
+use Rattle.exports.specs.Exported.{finding-words, network-of}
+use Rattle.exports.proofs.Owing.{code-refused, words-refused, code-full, words-full}
 use native.Mathlib.Omega.{arith}
 use Prim.Native.Nat.{_/_}
 use mathlib.Core.Path.{_≡_}
@@ -17,7 +20,11 @@ refusal-requires c κs = search needs
 
 -- src/lib.rt:70:9
 returns : tie.Need-returns
-returns c = ?
+returns c =
+    let r = c .before in
+    let a = r .before .before .before .args in
+    let e = table-refused (network-of (a .nets)) (a .state .now) (length (a .table .now) / 3) (r .refusal .result) (c .if1 .taken) (r .refusal .ensures) in
+    (code-refused _ _ e, words-refused _ _ e finding-words (a .table .now))
 
 -- src/lib.rt:72:5
 put-findings-requires : tie.Need-put-findings-requires
@@ -34,7 +41,12 @@ same-length c = search needs
 
 -- src/lib.rt:65:1
 returns-2 : tie.Need-returns-2
-returns-2 c = ?
+returns-2 c =
+    let p = c .before .before in
+    let r = p .before .before .before in
+    let a = r .before .before .before .args in
+    let ok = table-accepted (network-of (a .nets)) (a .state .now) (length (a .table .now) / 3) (r .refusal .result) (p .before .before .if1 .left) (r .refusal .ensures) in
+    (code-full _ _ (ok .answer), words-full _ _ (ok .answer) finding-words (a .table .now) _ (p .put-findings .ensures))
 
 pub fontarelga-findings-spec : {M : Type 1} → statement M
 fontarelga-findings-spec =

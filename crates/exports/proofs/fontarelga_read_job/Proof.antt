@@ -1,3 +1,11 @@
+use mathlib.Core.Path.{_≡_, sym, ap, _∙_}
+use mathlib.Core.List.{List}
+use Prim.Native.Nat.{ℕ}
+use lib.ListN.{length}
+use Rattle.words.specs.Answers.{Answer, refused, full, lent-after}
+use Rattle.jobfile.specs.Reader.{read-answer, read-meaning, counted, vectors-read, responses-read}
+use Rattle.exports.specs.Exported.{code, job-words}
+use Rattle.exports.proofs.Owing.{other-length, right-length, code-refused, words-refused, lent-refused, code-read, read-words, read-refused}
 use borrow.Author.Needs.{needs}
 use Rattle.exports.proofs.fontarelga_read_job.Statement.{statement}
 use Rattle.exports.proofs.fontarelga_read_job.Tie as tie
@@ -8,7 +16,12 @@ use Rattle.jobfile.proofs.read_job.Reads as read-job-reads
 
 -- src/lib.rt:177:9
 returns : tie.Need-returns
-returns c = ?
+returns c =
+    let a = c .before .before .before .before .before .args in
+    let e = other-length 4 (a .job .now) (read-answer (a .file .now) (length (a .vectors .now)) (length (a .responses .now))) (c .if1 .taken) in (
+      code-refused _ 99 e,
+      (lent-refused _ 99 (a .vectors .now) (ap vectors-read e), (lent-refused _ 99 (a .responses .now) (ap responses-read e), words-refused _ 99 e job-words (a .job .now))),
+    )
 
 -- src/lib.rt:179:11
 read-job-requires : tie.Need-read-job-requires
@@ -40,7 +53,19 @@ same-length-3 c = search needs
 
 -- src/lib.rt:164:1
 returns-2 : tie.Need-returns-2
-returns-2 c = ?
+unfolding code
+returns-2 c =
+    let p = c .before .before in
+    let t = p .before .before .before in
+    let k = t .before .before .before .before .before .before in
+    let a = k .before .before .before .before .before .before .before .before .args in
+    let answer = read-answer (a .file .now) (length (a .vectors .now)) (length (a .responses .now)) in
+    let job = t .content .given .0 .0 in
+    let said : full job ≡ counted answer = sym (ap read-meaning (t .content .given .1)) ∙ k .read-job .ensures .0 in
+    rw (right-length 4 (a .job .now) answer (k .before .before .before .if1 .left)) (
+      p .put-job .ensures .0 ∙ code-read answer (full job) said,
+      (k .read-job .ensures .1 .0, (k .read-job .ensures .1 .1, p .put-job .ensures .1 ∙ ap (λ (w : Answer (List ℕ)). lent-after w (a .job .now)) (sym (read-words answer job said)))),
+    )
 
 -- src/lib.rt:164:1
 same-length-4 : tie.Need-same-length-4
@@ -52,7 +77,18 @@ same-length-5 c = search needs
 
 -- src/lib.rt:164:1
 returns-3 : tie.Need-returns-3
-returns-3 c = ?
+unfolding code
+returns-3 c =
+    let t = c .before in
+    let k = t .before .before .before .before .before .before in
+    let a = k .before .before .before .before .before .before .before .before .args in
+    let answer = read-answer (a .file .now) (length (a .vectors .now)) (length (a .responses .now)) in
+    let number = t .number .given .0 .0 in
+    let said : refused number ≡ counted answer = sym (ap read-meaning (t .number .given .1)) ∙ k .read-job .ensures .0 in
+    rw (right-length 4 (a .job .now) answer (k .before .before .before .if1 .left)) (
+      code-read answer (refused number) said,
+      (k .read-job .ensures .1 .0, (k .read-job .ensures .1 .1, words-refused answer number (read-refused answer number said) job-words (a .job .now))),
+    )
 
 pub fontarelga-read-job-spec : {M : Type 1} → statement M
 fontarelga-read-job-spec =

@@ -1,3 +1,12 @@
+use mathlib.Core.Path.{_≡_, sym, ap, _∙_}
+use mathlib.Core.List.{List}
+use Prim.Native.Nat.{ℕ}
+use lib.ListN.{length}
+use Rattle.words.specs.Answers.{Answer, refused, full, lent-after, count-of}
+use Rattle.words.proofs.Answers.{counted-refused}
+use Rattle.jobfile.specs.Writer.{write-answer, meaning}
+use Rattle.exports.specs.Exported.{code, network-of, size-words}
+use Rattle.exports.proofs.Owing.{other-length, right-length, code-refused, words-refused, lent-refused, code-counted, counted-size}
 use borrow.Author.Needs.{needs}
 use Rattle.exports.proofs.fontarelga_write_job.Statement.{statement}
 use Rattle.exports.proofs.fontarelga_write_job.Tie as tie
@@ -8,7 +17,11 @@ use Rattle.jobfile.proofs.write_job.Reads as write-job-reads
 
 -- src/lib.rt:200:9
 returns : tie.Need-returns
-returns c = ?
+returns c =
+    let a = c .before .before .before .before .before .args in
+    let answer = write-answer (network-of (a .nets)) (a .class) (a .vectors .now) (a .responses .now) (length (a .file .now)) in
+    let e = other-length 1 (a .size .now) answer (c .if1 .taken) in
+    (code-refused _ 99 e, (lent-refused _ 99 (a .file .now) e, words-refused _ 99 e size-words (a .size .now)))
 
 -- src/lib.rt:202:11
 write-job-requires : tie.Need-write-job-requires
@@ -36,7 +49,19 @@ same-length-2 c = search needs
 
 -- src/lib.rt:186:1
 returns-2 : tie.Need-returns-2
-returns-2 c = ?
+unfolding code
+returns-2 c =
+    let p = c .before .before in
+    let t = p .before .before .before in
+    let k = t .before .before .before .before in
+    let a = k .before .before .before .before .before .before .before .args in
+    let answer = write-answer (network-of (a .nets)) (a .class) (a .vectors .now) (a .responses .now) (length (a .file .now)) in
+    let count = t .count .given .0 .0 in
+    let said : full count ≡ count-of answer = sym (ap meaning (t .count .given .1)) ∙ k .write-job .ensures .0 in
+    rw (right-length 1 (a .size .now) answer (k .before .before .if1 .left)) (
+      p .put-one .ensures .0 ∙ code-counted answer (full count) said,
+      (k .write-job .ensures .1, p .put-one .ensures .1 ∙ ap (λ (w : Answer (List ℕ)). lent-after w (a .size .now)) (sym (counted-size answer count said))),
+    )
 
 -- src/lib.rt:186:1
 same-length-3 : tie.Need-same-length-3
@@ -44,7 +69,18 @@ same-length-3 c = search needs
 
 -- src/lib.rt:186:1
 returns-3 : tie.Need-returns-3
-returns-3 c = ?
+unfolding code
+returns-3 c =
+    let t = c .before in
+    let k = t .before .before .before .before in
+    let a = k .before .before .before .before .before .before .before .args in
+    let answer = write-answer (network-of (a .nets)) (a .class) (a .vectors .now) (a .responses .now) (length (a .file .now)) in
+    let number = t .number .given .0 .0 in
+    let said : refused number ≡ count-of answer = sym (ap meaning (t .number .given .1)) ∙ k .write-job .ensures .0 in
+    rw (right-length 1 (a .size .now) answer (k .before .before .if1 .left)) (
+      code-counted answer (refused number) said,
+      (k .write-job .ensures .1, words-refused answer number (counted-refused answer number (sym said)) size-words (a .size .now)),
+    )
 
 pub fontarelga-write-job-spec : {M : Type 1} → statement M
 fontarelga-write-job-spec =
