@@ -1,2 +1,3 @@
 pub mod Owing
 pub mod Words
+pub mod Tabling

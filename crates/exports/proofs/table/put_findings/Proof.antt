@@ -1,3 +1,12 @@
+use native.Mathlib.Omega.{arith}
+use Prim.Native.Nat.{_*_}
+use mathlib.Core.Path.{refl, sym, _∙_}
+use lib.ListN.{drop}
+use Rattle.diagnosis.specs.FindingsTable.{findings}
+use Rattle.jobfile.specs.Bytes.{written}
+use Rattle.jobfile.proofs.ByteLaws.{written-front}
+use Rattle.exports.specs.Exported.{finding-words}
+use Rattle.exports.proofs.Tabling.{findings-turn, findings-end}
 use borrow.Author.Needs.{needs}
 use Prim.Native.Nat.{_≤_, _-_}
 use mathlib.Core.Path.{_≡_}
@@ -10,14 +19,17 @@ use Rattle.diagnosis.proofs.findings.finding_of.Reads as finding-of-reads
 use Rattle.exports.proofs.lists.put_words.Reads as put-words-reads
 
 abbrev Inv-loop : tie.InvT-loop
-Inv-loop net state table₀ i₀ table i = (i ≤ length state) × (length table ≡ length table₀)
+Inv-loop net state table₀ i₀ table i =
+    (i ≤ length state)
+    × (length table ≡ length table₀)
+    × (written table (3 * i) (finding-words (drop i (findings net state))) ≡ written table₀ 0 (finding-words (findings net state)))
 
 abbrev μ-loop : tie.MeasureT-loop
 μ-loop net state table₀ i₀ table i = length state - i
 
 -- src/table.rt:31:5
 loop-holds : tie.Need-loop-holds Inv-loop μ-loop
-loop-holds c = search needs
+loop-holds c = (search needs, refl, refl)
 
 -- src/table.rt:32:13
 finding-of-requires : tie.Need-finding-of-requires Inv-loop μ-loop
@@ -45,7 +57,15 @@ loop-less c = search needs
 
 -- src/table.rt:31:5
 loop-again : tie.Need-loop-again Inv-loop μ-loop
-loop-again c = search needs
+loop-again c =
+    let p = c .before .before in
+    let f = p .before .before .before in
+    let l = f .before .before .loop in
+    let a = f .before .before .before .before .before .args in (
+      search needs,
+      search needs,
+      findings-turn (a .net) (a .state .now) (l .i) (l .table) (f .finding-of .result) _ (f .finding-of .ensures) (p .put-words .ensures) (omega arith) (omega arith) ∙ l .inv .2,
+    )
 
 -- src/table.rt:27:1
 same-length : tie.Need-same-length Inv-loop μ-loop
@@ -53,7 +73,10 @@ same-length c = search needs
 
 -- src/table.rt:27:1
 returns : tie.Need-returns Inv-loop μ-loop
-returns c = ?
+returns c =
+    let l = c .before .loop in
+    let a = c .before .before .before .before .args in
+    sym (findings-end (a .net) (a .state .now) (l .i) (l .table) (c .loop-test .left)) ∙ l .inv .2 ∙ written-front (a .table .now) (finding-words (findings (a .net) (a .state .now)))
 
 pub put-findings-spec : {M : Type 1} → statement M
 put-findings-spec =

@@ -1,0 +1,51 @@
+-- The findings as words, as a loop puts them into a table.
+use mathlib.Core.Path.{_≡_, sym, ap, ap₂, _∙_}
+use mathlib.Core.List.{List, [], _∷_}
+use Prim.Native.Nat.{ℕ, suc, _+_, _*_, _≤_, _<_}
+use native.Mathlib.Omega.{arith}
+use lib.ListN.{length, drop, drop-of-length-le}
+use lib.Seq.{drop-cons}
+use Rattle.words.specs.Turning.{tabulate}
+use Rattle.words.proofs.Making.{map-at}
+use Rattle.words.proofs.Columns.{length-tabulate, tabulate-at}
+use Rattle.network.specs.declared.Network.{Network}
+use Rattle.diagnosis.specs.declared.Finding.{Finding}
+use Rattle.diagnosis.specs.Findings.{finding}
+use Rattle.diagnosis.specs.FindingsTable.{findings}
+use Rattle.diagnosis.proofs.Tabling.{findings-size}
+use Rattle.jobfile.specs.Bytes.{written}
+use Rattle.jobfile.proofs.ByteLaws.{written-none, written-more}
+use Rattle.exports.specs.Exported.{finding-words}
+
+abbrev three : Finding → List ℕ
+three found = found .kind ∷ found .reach ∷ found .partners ∷ []
+
+module _ (net : Network) (state : List ℕ) (i : ℕ) where
+  -- the records from net i on
+  from-net : i < length state → drop i (findings net state) ≡ finding net state i ∷ drop (suc i) (findings net state)
+  unfolding findings
+  from-net l =
+      let nets = tabulate (length state) (λ j. j) in
+      let size = findings-size net state in
+      let other : Finding = record { kind = 0; reach = 0; partners = 0 } in
+      drop-cons (findings net state) i other (omega arith)
+      ∙ ap (λ (found : Finding). found ∷ drop (suc i) (findings net state))
+      (map-at (finding net state) other nets i (rw (length-tabulate (length state) (λ j. j)) l) ∙ ap (finding net state) (tabulate-at (length state) (λ j. j) i l))
+
+  module _ (table : List ℕ) where
+    pub findings-turn : (found : Finding) (next : List ℕ) → found ≡ finding net state i → next ≡ written table (3 * i) (three found) → i < length state → 3 * i ≤ length table
+        → written next (3 * (i + 1)) (finding-words (drop (i + 1) (findings net state))) ≡ written table (3 * i) (finding-words (drop i (findings net state)))
+    unfolding finding-words
+    findings-turn found next e f l m =
+        let others = finding-words (drop (suc i) (findings net state)) in
+        let place : 3 * (i + 1) ≡ 3 * i + 3 = omega arith in
+        let one : i + 1 ≡ suc i = omega arith in
+        ap₂ (λ (t : List ℕ) (n : ℕ). written t (3 * (i + 1)) (finding-words (drop n (findings net state)))) f one
+        ∙ ap₂ (λ (n : ℕ) (r : Finding). written (written table (3 * i) (three r)) n others) place e
+        ∙ written-more table (3 * i) (three (finding net state i)) others m ∙ ap (λ (l : List Finding). written table (3 * i) (finding-words l)) (sym (from-net l))
+
+    pub findings-end : length state ≤ i → written table (3 * i) (finding-words (drop i (findings net state))) ≡ table
+    unfolding finding-words
+    findings-end l =
+        let size = findings-size net state in
+        ap (λ (l : List Finding). written table (3 * i) (finding-words l)) (drop-of-length-le (findings net state) {i = i} (omega arith)) ∙ written-none table (3 * i)
