@@ -7,12 +7,10 @@ use lib.ListN.{length, take, drop}
 use Rattle.words.specs.Bits.{at}
 use Rattle.words.specs.Answers.{Answer, refused, full}
 use Rattle.network.specs.declared.Network.{Network}
-use Rattle.network.specs.Respond.{response-answer}
 use Rattle.checker.specs.declared.Verdict.{Verdict}
 use Rattle.checker.specs.declared.Verdict.the-variants.{Pass, Pair}
 use Rattle.checker.specs.Check.{check-answer}
 use Rattle.diagnosis.specs.declared.Finding.{Finding}
-use Rattle.diagnosis.specs.Diagnosis.{diagnosis-answer}
 use Rattle.diagnosis.specs.FindingsTable.{findings-answer}
 use Rattle.session.specs.declared.Session.{Session}
 use Rattle.session.specs.Calls.{begin-answer, begun, first-answer, first-answered, second-answer, second-answered}

@@ -1,4 +1,5 @@
-// The calls for C and Rust. Each returns 0 if it is accepted, or the number of the refusal. A record is lent as a list of words.
+// The calls for C and Rust, where a list is a pointer and a length. Each returns 0 if it is accepted, or the number of the refusal. What
+// else it answers goes into lent lists of words; after a refusal they are as they were.
 ghost use mathlib.Core.Path.{_≡_};
 ghost use lib.ListN.{length};
 ghost use Rattle.words.specs.Answers.{«lent-after»};
@@ -18,10 +19,13 @@ use jobfile::Wrote;
 use network::Network;
 use network::Responded;
 
-// What a call returns that is lent a list of a fixed length, of another length.
+// The refusal of a list of a fixed length that has another. It comes before every row of the table.
 const WRONG_LENGTH: u64 = 99;
 
-// The call *check*. The verdict's 3 words: 0 0 0 for pass, or 1 and the pair.
+// The words of a session: step, nets, 8 words of first answers, 48 reaches, vectors spent.
+const SESSION_WORDS: usize = 59;
+
+// The call *check*. The verdict's 3 words: 0 0 0 for pass, or 1 and the pair. Rows 5, 6, 7, 8.
 #[no_mangle]
 pub extern "C" fn fontarelga_check(
     nets: u64,
@@ -42,7 +46,7 @@ pub extern "C" fn fontarelga_check(
     }
 }
 
-// The call *response from a state*.
+// The call *response from a state*: one response word a vector into the front of `response`. Rows 5, 6, 7, 8, 11, 12.
 #[no_mangle]
 pub extern "C" fn fontarelga_respond(
     nets: u64,
@@ -60,7 +64,7 @@ pub extern "C" fn fontarelga_respond(
     }
 }
 
-// The call *diagnosis*.
+// The call *diagnosis*: the state that gave the responses, into the front of `state`. Rows 5 to 10, 12, 13, 14.
 #[no_mangle]
 pub extern "C" fn fontarelga_diagnose(
     nets: u64,
@@ -78,7 +82,7 @@ pub extern "C" fn fontarelga_diagnose(
     }
 }
 
-// The call *findings*: 3 words a net.
+// The call *findings*: kind, reach and partners of each net into the front of `table`. Rows 5, 11 with k = n, and 12.
 #[no_mangle]
 pub extern "C" fn fontarelga_findings(nets: u64, state: &[u64], table: &mut [u64]) -> u64
     ensures answer { λ r. ⌜ r ≡ code (findings-exported nets (now (state .entry)) (length (now (table .entry)))) ⌝ }
@@ -93,14 +97,14 @@ pub extern "C" fn fontarelga_findings(nets: u64, state: &[u64], table: &mut [u64
     0
 }
 
-// The call *begin*.
+// The call *begin*: the vectors of step one into the front of `first`. Rows 5 and 12.
 #[no_mangle]
 pub extern "C" fn fontarelga_begin(session: &mut [u64], nets: u64, first: &mut [u64]) -> u64
     ensures answer { λ r. ⌜ r ≡ code (begin-exported (now (session .entry)) nets (length (now (first .entry)))) ⌝ }
     ensures session { λ r. ⌜ now (session .exit) ≡ lent-after (session-begun (now (session .entry)) nets (length (now (first .entry)))) (now (session .entry)) ⌝ }
     ensures first { λ r. ⌜ now (first .exit) ≡ lent-after (begin-exported (now (session .entry)) nets (length (now (first .entry)))) (now (first .entry)) ⌝ }
 {
-    if session.len() != 59 {
+    if session.len() != SESSION_WORDS {
         return WRONG_LENGTH;
     }
     let held = record::session_of(session);
@@ -109,7 +113,7 @@ pub extern "C" fn fontarelga_begin(session: &mut [u64], nets: u64, first: &mut [
     done.code
 }
 
-// The call *first answers*.
+// The call *first answers*: the vectors of step two into the front of `second`, if a net is unclear. Rows 4, 9, 10 and 12.
 #[no_mangle]
 pub extern "C" fn fontarelga_first_answers(
     session: &mut [u64],
@@ -120,7 +124,7 @@ pub extern "C" fn fontarelga_first_answers(
     ensures session { λ r. ⌜ now (session .exit) ≡ lent-after (session-first (now (session .entry)) (now (answers .entry)) (length (now (second .entry)))) (now (session .entry)) ⌝ }
     ensures second { λ r. ⌜ now (second .exit) ≡ lent-after (first-exported (now (session .entry)) (now (answers .entry)) (length (now (second .entry)))) (now (second .entry)) ⌝ }
 {
-    if session.len() != 59 {
+    if session.len() != SESSION_WORDS {
         return WRONG_LENGTH;
     }
     let held = record::session_of(session);
@@ -129,13 +133,13 @@ pub extern "C" fn fontarelga_first_answers(
     done.code
 }
 
-// The call *second answers*.
+// The call *second answers*: the only state that fits both steps, into the session. Rows 4, 9, 10 and 14.
 #[no_mangle]
 pub extern "C" fn fontarelga_second_answers(session: &mut [u64], answers: &[u64]) -> u64
     ensures answer { λ r. ⌜ r ≡ code (second-exported (now (session .entry)) (now (answers .entry))) ⌝ }
     ensures session { λ r. ⌜ now (session .exit) ≡ lent-after (session-second (now (session .entry)) (now (answers .entry))) (now (session .entry)) ⌝ }
 {
-    if session.len() != 59 {
+    if session.len() != SESSION_WORDS {
         return WRONG_LENGTH;
     }
     let held = record::session_of(session);
@@ -144,7 +148,7 @@ pub extern "C" fn fontarelga_second_answers(session: &mut [u64], answers: &[u64]
     done.code
 }
 
-// How many words to drive next, from the start of the first list or of the second; 0 if none.
+// How many words to drive next, from the start of `first` in step 1 or of `second` in step 2; 0 if none, or if `session` has another length.
 #[no_mangle]
 pub extern "C" fn fontarelga_to_drive<'a>(
     session: &[u64],
@@ -153,7 +157,7 @@ pub extern "C" fn fontarelga_to_drive<'a>(
 ) -> u64
     ensures { λ r. ⌜ r ≡ drive-count (now (session .entry)) (now (first .entry)) (now (second .entry)) ⌝ }
 {
-    if session.len() != 59 {
+    if session.len() != SESSION_WORDS {
         return 0;
     }
     let held = record::session_of(session);
@@ -161,7 +165,7 @@ pub extern "C" fn fontarelga_to_drive<'a>(
     driven.len() as u64
 }
 
-// The call *read a job file*. The job's 4 words: nets, class, number of vectors, number of responses.
+// The call *read a job file*. The job's 4 words: nets, class, number of vectors, number of responses. Rows 1, 2, 3, 5 to 10, 12.
 #[no_mangle]
 pub extern "C" fn fontarelga_read_job(
     file: &[u8],
@@ -183,7 +187,7 @@ pub extern "C" fn fontarelga_read_job(
     }
 }
 
-// The call *write a job file*. The size's only word: how many bytes were written.
+// The call *write a job file*. The size's only word: how many bytes were written. Rows 5 to 10 and 12; 9 and 10 only if there are responses.
 #[no_mangle]
 pub extern "C" fn fontarelga_write_job(
     nets: u64,

@@ -1,4 +1,4 @@
-// Words put into a lent list.
+// Words put into a lent list. Helpers: each asks for room, or for a list of the length that it fills.
 ghost use mathlib.Core.Path.{_≡_};
 ghost use Prim.Native.Nat.{_+_, _≤_};
 ghost use mathlib.Core.List.{[], _∷_};
@@ -15,7 +15,7 @@ pub fn put_words(out: &mut [u64], at: usize, from: &[u64])
     words::lists::copy_words(from, &mut out[at..]);
 }
 
-// One word into the front; 0.
+// One word; returns 0.
 pub fn put_one(word: u64, out: &mut [u64]) -> u64
     requires { ⌜ length (now out) ≡ 1 ⌝ }
     ensures { λ r. ⌜ (r ≡ 0) × (now (out .exit) ≡ lent-after (full (word ∷ [])) (now (out .entry))) ⌝ }
@@ -25,7 +25,7 @@ pub fn put_one(word: u64, out: &mut [u64]) -> u64
     0
 }
 
-// Three words into the front; 0.
+// Three words; returns 0.
 pub fn put_three(a: u64, b: u64, c: u64, out: &mut [u64]) -> u64
     requires { ⌜ length (now out) ≡ 3 ⌝ }
     ensures { λ r. ⌜ (r ≡ 0) × (now (out .exit) ≡ lent-after (full (a ∷ b ∷ c ∷ [])) (now (out .entry))) ⌝ }
@@ -35,7 +35,7 @@ pub fn put_three(a: u64, b: u64, c: u64, out: &mut [u64]) -> u64
     0
 }
 
-// What the reader answers; 0.
+// The words of what the reader answers; returns 0.
 pub fn put_job(job: Job, out: &mut [u64]) -> u64
     requires { ⌜ length (now out) ≡ 4 ⌝ }
     ensures { λ r. ⌜ (r ≡ 0) × (now (out .exit) ≡ lent-after (full (job .network .nets ∷ job .class ∷ job .vectors ∷ job .responses ∷ [])) (now (out .entry))) ⌝ }

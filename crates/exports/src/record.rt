@@ -1,4 +1,4 @@
-// A session's record as 59 words.
+// A session's record as words. Helpers: each asks for 59 of them.
 ghost use mathlib.Core.Path.{_≡_};
 ghost use lib.ListN.{length};
 ghost use Rattle.words.specs.Answers.{full, «lent-after»};

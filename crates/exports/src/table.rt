@@ -1,4 +1,4 @@
-// The findings of a state, 3 words a net.
+// The findings of a state, 3 words a net. `put_findings` is a helper: it asks for what `refusal` has tested.
 ghost use mathlib.Core.Path.{_≡_};
 ghost use Prim.Native.Nat.{_*_, _≤_};
 ghost use lib.ListN.{length};

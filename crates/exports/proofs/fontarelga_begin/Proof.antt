@@ -1,51 +1,38 @@
+use borrow.Author.Needs.{needs}
 use Prim.Native.Nat.{ℕ}
 use mathlib.Core.Path.{_≡_, refl}
 use mathlib.Core.List.{List}
-use Rattle.words.specs.Answers.{Answer}
 use lib.ListN.{length}
+use Rattle.words.specs.Answers.{Answer}
 use Rattle.session.specs.declared.Session.{Session}
-
 use Rattle.session.specs.declared.Stepped.{Stepped}
 use Rattle.session.specs.Calls.{stepped, begin-answer, begun}
 use Rattle.exports.specs.Exported.{network-of, session-size}
 use Rattle.exports.proofs.Owing.{other-length, code-refused, words-refused, lent-refused, step-code, step-words, step-lent}
-use borrow.Author.Needs.{needs}
 use Rattle.exports.proofs.fontarelga_begin.Statement.{statement}
 use Rattle.exports.proofs.fontarelga_begin.Tie as tie
-use Rattle.exports.proofs.fontarelga_begin.Reads as reads
-use Rattle.exports.proofs.fontarelga_begin.Lts as lts
-use Rattle.exports.proofs.record.put_session.Reads as put-session-reads
-use Rattle.exports.proofs.record.session_of.Reads as session-of-reads
-use Rattle.session.proofs.begin_step.Reads as begin-step-reads
 
--- src/lib.rt:103:9
 returns : tie.Need-returns
 returns c =
     let a = c .before .before .before .args in
     let e = other-length session-size (a .session .now) (begin-answer (network-of (a .nets)) (length (a .first .now))) (c .if1 .taken) in
-    (code-refused _ 99 e, (words-refused _ 99 e _ (a .session .now), lent-refused _ 99 (a .first .now) e))
+    (code-refused _ _ e, (words-refused _ _ e _ (a .session .now), lent-refused _ _ (a .first .now) e))
 
--- src/lib.rt:105:9
 session-of-requires : tie.Need-session-of-requires
 session-of-requires c κs = search needs
 
--- src/lib.rt:106:9
 begin-step-requires : tie.Need-begin-step-requires
 begin-step-requires c κs = search needs
 
--- src/lib.rt:107:5
 put-session-requires : tie.Need-put-session-requires
 put-session-requires c κs = search needs
 
--- src/lib.rt:96:1
 same-length : tie.Need-same-length
 same-length c = search needs
 
--- src/lib.rt:96:1
 same-length-2 : tie.Need-same-length-2
 same-length-2 c = search needs
 
--- src/lib.rt:96:1
 returns-2 : tie.Need-returns-2
 returns-2 c =
     let p = c .before .before in
@@ -59,8 +46,10 @@ returns-2 c =
     let same = h .session-of .ensures in
     let said = k .begin-step .ensures in (
       step-code answer done by (a .session .now) size _ same _ (said .1),
-      (step-words answer done by (a .session .now) size _ same _ _ (said .0) (p .put-session .ensures),
-      step-lent answer (a .session .now) size _ same (a .first .now) _ (said .2)),
+      (
+        step-words answer done by (a .session .now) size _ same _ _ (said .0) (p .put-session .ensures),
+        step-lent answer (a .session .now) size _ same (a .first .now) _ (said .2),
+      ),
     )
 
 pub fontarelga-begin-spec : {M : Type 1} → statement M

@@ -1,26 +1,19 @@
+use borrow.Author.Needs.{needs}
 use mathlib.Core.Path.{_≡_, sym, ap, _∙_}
-use Rattle.words.specs.Answers.{Answer, refused, full}
-
-use Prim.Native.Nat.{ℕ}
+use Rattle.words.specs.Answers.{refused, full}
 use Rattle.checker.specs.declared.Verdict.{Verdict}
 use Rattle.checker.specs.declared.Verdict.the-variants.{Pass, Pair}
 use Rattle.checker.specs.Check.{check-answer, meaning}
 use Rattle.exports.specs.Exported.{verdict-words, check-exported, network-of}
 use Rattle.exports.proofs.Owing.{other-length, right-length, code-refused, words-refused, code-full, words-full}
-use borrow.Author.Needs.{needs}
 use Rattle.exports.proofs.fontarelga_check.Statement.{statement}
 use Rattle.exports.proofs.fontarelga_check.Tie as tie
-use Rattle.exports.proofs.fontarelga_check.Reads as reads
-use Rattle.exports.proofs.fontarelga_check.Lts as lts
-use Rattle.checker.proofs.check.Reads as check-reads
-use Rattle.exports.proofs.lists.put_three.Reads as put-three-reads
 
--- src/lib.rt:35:9
 returns : tie.Need-returns
 returns c =
     let a = c .before .before .before .args in
     let e = other-length 3 (a .verdict .now) (check-answer (network-of (a .nets)) (a .class) (a .vectors .now)) (c .if1 .taken) in
-    (code-refused _ 99 e, words-refused _ 99 e verdict-words (a .verdict .now))
+    (code-refused _ _ e, words-refused _ _ e verdict-words (a .verdict .now))
 
 -- a verdict of 3 words: the answer is the checker's
 answered : (c : tie.After-check)
@@ -29,35 +22,27 @@ answered c =
     let a = c .before .before .before .before .args in
     right-length 3 (a .verdict .now) (check-answer (network-of (a .nets)) (a .class) (a .vectors .now)) (c .before .if1 .left) ∙ sym (c .check .ensures)
 
--- src/lib.rt:37:11
 check-requires : tie.Need-check-requires
 check-requires c κs = search needs
 
--- src/lib.rt:38:52
 enum-told : tie.Need-enum-told
 enum-told c = search needs
 
--- src/lib.rt:38:26
 put-three-requires : tie.Need-put-three-requires
 put-three-requires c κs = search needs
 
--- src/lib.rt:39:23
 enum-known-a : tie.Need-enum-known-a
 enum-known-a c = search needs
 
--- src/lib.rt:39:32
 put-three-requires-2 : tie.Need-put-three-requires-2
 put-three-requires-2 c κs = search needs
 
--- src/lib.rt:40:26
 enum-known-number : tie.Need-enum-known-number
 enum-known-number c = search needs
 
--- src/lib.rt:24:1
 same-length : tie.Need-same-length
 same-length c = search needs
 
--- src/lib.rt:24:1
 returns-2 : tie.Need-returns-2
 unfolding verdict-words
 returns-2 c =
@@ -68,11 +53,9 @@ returns-2 c =
     let e : check-exported (a .nets) (a .class) (a .vectors .now) (a .verdict .now) ≡ full Pass = answered k ∙ ap meaning (t .enum-told .given .1) in
     (p .put-three .ensures .0 ∙ code-full _ Pass e, words-full _ Pass e verdict-words (a .verdict .now) _ (p .put-three .ensures .1))
 
--- src/lib.rt:24:1
 same-length-2 : tie.Need-same-length-2
 same-length-2 c = search needs
 
--- src/lib.rt:24:1
 returns-3 : tie.Need-returns-3
 unfolding verdict-words
 returns-3 c =
@@ -84,7 +67,6 @@ returns-3 c =
     let e : check-exported (a .nets) (a .class) (a .vectors .now) (a .verdict .now) ≡ full pair = answered k ∙ ap meaning (t .a .given .1) in
     (p .put-three2 .ensures .0 ∙ code-full _ pair e, words-full _ pair e verdict-words (a .verdict .now) _ (p .put-three2 .ensures .1))
 
--- src/lib.rt:24:1
 returns-4 : tie.Need-returns-4
 returns-4 c =
     let t = c .before in

@@ -1,24 +1,16 @@
-use Rattle.diagnosis.proofs.Tabling.{table-refused}
-use Rattle.exports.specs.Exported.{finding-words, network-of}
-use Rattle.exports.proofs.Owing.{code-refused, words-refused, code-full, words-full}
+use borrow.Author.Needs.{needs}
 use native.Mathlib.Omega.{arith}
 use Prim.Native.Nat.{_/_}
-use mathlib.Core.Path.{_≡_}
 use lib.ListN.{length}
-use Rattle.diagnosis.proofs.Tabling.{table-accepted}
-use borrow.Author.Needs.{needs}
+use Rattle.diagnosis.proofs.Tabling.{table-refused, table-accepted}
+use Rattle.exports.specs.Exported.{finding-words, network-of}
+use Rattle.exports.proofs.Owing.{code-refused, words-refused, code-full, words-full}
 use Rattle.exports.proofs.fontarelga_findings.Statement.{statement}
 use Rattle.exports.proofs.fontarelga_findings.Tie as tie
-use Rattle.exports.proofs.fontarelga_findings.Reads as reads
-use Rattle.exports.proofs.fontarelga_findings.Lts as lts
-use Rattle.exports.proofs.table.put_findings.Reads as put-findings-reads
-use Rattle.exports.proofs.table.refusal.Reads as refusal-reads
 
--- src/lib.rt:68:9
 refusal-requires : tie.Need-refusal-requires
 refusal-requires c κs = search needs
 
--- src/lib.rt:70:9
 returns : tie.Need-returns
 returns c =
     let r = c .before in
@@ -26,7 +18,6 @@ returns c =
     let e = table-refused (network-of (a .nets)) (a .state .now) (length (a .table .now) / 3) (r .refusal .result) (c .if1 .taken) (r .refusal .ensures) in
     (code-refused _ _ e, words-refused _ _ e finding-words (a .table .now))
 
--- src/lib.rt:72:5
 put-findings-requires : tie.Need-put-findings-requires
 put-findings-requires c κs =
     let r = c .before .before in
@@ -35,11 +26,9 @@ put-findings-requires c κs =
     let fits = ok .fits in
     (ok .few, ok .is-state, omega arith)
 
--- src/lib.rt:65:1
 same-length : tie.Need-same-length
 same-length c = search needs
 
--- src/lib.rt:65:1
 returns-2 : tie.Need-returns-2
 returns-2 c =
     let p = c .before .before in

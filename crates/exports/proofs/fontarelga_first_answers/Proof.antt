@@ -1,51 +1,38 @@
+use borrow.Author.Needs.{needs}
 use Prim.Native.Nat.{ℕ}
 use mathlib.Core.Path.{_≡_, refl}
 use mathlib.Core.List.{List}
-use Rattle.words.specs.Answers.{Answer}
 use lib.ListN.{length}
+use Rattle.words.specs.Answers.{Answer}
 use Rattle.session.specs.declared.Session.{Session}
-
 use Rattle.session.specs.declared.Stepped.{Stepped}
 use Rattle.session.specs.Calls.{stepped, first-answer, first-answered}
 use Rattle.exports.specs.Exported.{session-size, session-of}
 use Rattle.exports.proofs.Owing.{other-length, code-refused, words-refused, lent-refused, step-code, step-words, step-lent}
-use borrow.Author.Needs.{needs}
 use Rattle.exports.proofs.fontarelga_first_answers.Statement.{statement}
 use Rattle.exports.proofs.fontarelga_first_answers.Tie as tie
-use Rattle.exports.proofs.fontarelga_first_answers.Reads as reads
-use Rattle.exports.proofs.fontarelga_first_answers.Lts as lts
-use Rattle.exports.proofs.record.put_session.Reads as put-session-reads
-use Rattle.exports.proofs.record.session_of.Reads as session-of-reads
-use Rattle.session.proofs.first_step.Reads as first-step-reads
 
--- src/lib.rt:123:9
 returns : tie.Need-returns
 returns c =
     let a = c .before .before .before .before .args in
     let e = other-length session-size (a .session .now) (first-answer (session-of (a .session .now)) (a .answers .now) (length (a .second .now))) (c .if1 .taken) in
-    (code-refused _ 99 e, (words-refused _ 99 e _ (a .session .now), lent-refused _ 99 (a .second .now) e))
+    (code-refused _ _ e, (words-refused _ _ e _ (a .session .now), lent-refused _ _ (a .second .now) e))
 
--- src/lib.rt:125:9
 session-of-requires : tie.Need-session-of-requires
 session-of-requires c κs = search needs
 
--- src/lib.rt:126:9
 first-step-requires : tie.Need-first-step-requires
 first-step-requires c κs = search needs
 
--- src/lib.rt:127:5
 put-session-requires : tie.Need-put-session-requires
 put-session-requires c κs = search needs
 
--- src/lib.rt:112:1
 same-length : tie.Need-same-length
 same-length c = search needs
 
--- src/lib.rt:112:1
 same-length-2 : tie.Need-same-length-2
 same-length-2 c = search needs
 
--- src/lib.rt:112:1
 returns-2 : tie.Need-returns-2
 returns-2 c =
     let p = c .before .before in
@@ -59,8 +46,10 @@ returns-2 c =
     let same = h .session-of .ensures in
     let said = k .first-step .ensures in (
       step-code answer done by (a .session .now) size _ same _ (said .1),
-      (step-words answer done by (a .session .now) size _ same _ _ (said .0) (p .put-session .ensures),
-      step-lent answer (a .session .now) size _ same (a .second .now) _ (said .2)),
+      (
+        step-words answer done by (a .session .now) size _ same _ _ (said .0) (p .put-session .ensures),
+        step-lent answer (a .session .now) size _ same (a .second .now) _ (said .2),
+      ),
     )
 
 pub fontarelga-first-answers-spec : {M : Type 1} → statement M

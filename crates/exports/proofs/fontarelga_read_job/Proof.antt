@@ -1,57 +1,44 @@
+use borrow.Author.Needs.{needs}
+use Prim.Native.Nat.{ℕ}
 use mathlib.Core.Path.{_≡_, sym, ap, _∙_}
 use mathlib.Core.List.{List}
-use Prim.Native.Nat.{ℕ}
 use lib.ListN.{length}
 use Rattle.words.specs.Answers.{Answer, refused, full, lent-after}
 use Rattle.jobfile.specs.Reader.{read-answer, read-meaning, counted, vectors-read, responses-read}
 use Rattle.exports.specs.Exported.{code, job-words}
 use Rattle.exports.proofs.Owing.{other-length, right-length, code-refused, words-refused, lent-refused, code-read, read-words, read-refused}
-use borrow.Author.Needs.{needs}
 use Rattle.exports.proofs.fontarelga_read_job.Statement.{statement}
 use Rattle.exports.proofs.fontarelga_read_job.Tie as tie
-use Rattle.exports.proofs.fontarelga_read_job.Reads as reads
-use Rattle.exports.proofs.fontarelga_read_job.Lts as lts
-use Rattle.exports.proofs.lists.put_job.Reads as put-job-reads
-use Rattle.jobfile.proofs.read_job.Reads as read-job-reads
 
--- src/lib.rt:177:9
 returns : tie.Need-returns
 returns c =
     let a = c .before .before .before .before .before .args in
     let e = other-length 4 (a .job .now) (read-answer (a .file .now) (length (a .vectors .now)) (length (a .responses .now))) (c .if1 .taken) in (
-      code-refused _ 99 e,
-      (lent-refused _ 99 (a .vectors .now) (ap vectors-read e), (lent-refused _ 99 (a .responses .now) (ap responses-read e), words-refused _ 99 e job-words (a .job .now))),
+      code-refused _ _ e,
+      (lent-refused _ _ (a .vectors .now) (ap vectors-read e), (lent-refused _ _ (a .responses .now) (ap responses-read e), words-refused _ _ e job-words (a .job .now))),
     )
 
--- src/lib.rt:179:11
 read-job-requires : tie.Need-read-job-requires
 read-job-requires c κs = search needs
 
--- src/lib.rt:180:26
 enum-known-content : tie.Need-enum-known-content
 enum-known-content c = search needs
 
--- src/lib.rt:180:38
 put-job-requires : tie.Need-put-job-requires
 put-job-requires c κs = search needs
 
--- src/lib.rt:181:26
 enum-known-number : tie.Need-enum-known-number
 enum-known-number c = search needs
 
--- src/lib.rt:164:1
 same-length : tie.Need-same-length
 same-length c = search needs
 
--- src/lib.rt:164:1
 same-length-2 : tie.Need-same-length-2
 same-length-2 c = search needs
 
--- src/lib.rt:164:1
 same-length-3 : tie.Need-same-length-3
 same-length-3 c = search needs
 
--- src/lib.rt:164:1
 returns-2 : tie.Need-returns-2
 unfolding code
 returns-2 c =
@@ -67,15 +54,12 @@ returns-2 c =
       (k .read-job .ensures .1 .0, (k .read-job .ensures .1 .1, p .put-job .ensures .1 ∙ ap (λ (w : Answer (List ℕ)). lent-after w (a .job .now)) (sym (read-words answer job said)))),
     )
 
--- src/lib.rt:164:1
 same-length-4 : tie.Need-same-length-4
 same-length-4 c = search needs
 
--- src/lib.rt:164:1
 same-length-5 : tie.Need-same-length-5
 same-length-5 c = search needs
 
--- src/lib.rt:164:1
 returns-3 : tie.Need-returns-3
 unfolding code
 returns-3 c =

@@ -1,33 +1,24 @@
-use mathlib.Core.Path.{_≡_, sym, ap, _∙_}
+use borrow.Author.Needs.{needs}
+use mathlib.Core.Path.{sym, ap, _∙_}
 use lib.ListN.{length}
-use Rattle.words.specs.Answers.{refused, full}
 use Rattle.network.specs.Respond.{response-answer, meaning}
 use Rattle.exports.specs.Exported.{code, network-of}
 use Rattle.exports.proofs.Owing.{code-counted}
-use borrow.Author.Needs.{needs}
 use Rattle.exports.proofs.fontarelga_respond.Statement.{statement}
 use Rattle.exports.proofs.fontarelga_respond.Tie as tie
-use Rattle.exports.proofs.fontarelga_respond.Reads as reads
-use Rattle.exports.proofs.fontarelga_respond.Lts as lts
-use Rattle.network.proofs.response_from_state.Reads as response-from-state-reads
 
--- src/lib.rt:56:11
 response-from-state-requires : tie.Need-response-from-state-requires
 response-from-state-requires c κs = search needs
 
--- src/lib.rt:57:32
 enum-told : tie.Need-enum-told
 enum-told c = search needs
 
--- src/lib.rt:58:28
 enum-known-number : tie.Need-enum-known-number
 enum-known-number c = search needs
 
--- src/lib.rt:45:1
 same-length : tie.Need-same-length
 same-length c = search needs
 
--- src/lib.rt:45:1
 returns : tie.Need-returns
 unfolding code
 returns c =
@@ -35,11 +26,9 @@ returns c =
     let a = k .before .before .before .before .before .args in
     (sym (ap code (ap meaning (c .enum-told .given .1))) ∙ code-counted (response-answer (network-of (a .nets)) (a .class) (a .vectors .now) (a .state .now) (length (a .response .now))) _ (k .response-from-state .ensures .0), k .response-from-state .ensures .1)
 
--- src/lib.rt:45:1
 same-length-2 : tie.Need-same-length-2
 same-length-2 c = search needs
 
--- src/lib.rt:45:1
 returns-2 : tie.Need-returns-2
 unfolding code
 returns-2 c =

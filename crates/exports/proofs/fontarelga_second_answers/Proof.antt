@@ -1,46 +1,34 @@
+use borrow.Author.Needs.{needs}
 use Prim.Native.Nat.{ℕ}
 use mathlib.Core.Path.{_≡_, refl}
 use mathlib.Core.List.{List}
 use Rattle.words.specs.Answers.{Answer}
-use lib.ListN.{length}
 use Rattle.session.specs.declared.Session.{Session}
 use Rattle.session.specs.declared.Stepped.{Stepped}
 use Rattle.session.specs.Calls.{stepped, second-answer, second-answered}
 use Rattle.exports.specs.Exported.{session-size, session-of}
 use Rattle.exports.proofs.Owing.{other-length, code-refused, words-refused, step-code, step-words}
-use borrow.Author.Needs.{needs}
 use Rattle.exports.proofs.fontarelga_second_answers.Statement.{statement}
 use Rattle.exports.proofs.fontarelga_second_answers.Tie as tie
-use Rattle.exports.proofs.fontarelga_second_answers.Reads as reads
-use Rattle.exports.proofs.fontarelga_second_answers.Lts as lts
-use Rattle.exports.proofs.record.put_session.Reads as put-session-reads
-use Rattle.exports.proofs.record.session_of.Reads as session-of-reads
-use Rattle.session.proofs.second_step.Reads as second-step-reads
 
--- src/lib.rt:138:9
 returns : tie.Need-returns
 returns c =
     let a = c .before .before .before .args in
     let e = other-length session-size (a .session .now) (second-answer (session-of (a .session .now)) (a .answers .now)) (c .if1 .taken) in
-    (code-refused _ 99 e, words-refused _ 99 e _ (a .session .now))
+    (code-refused _ _ e, words-refused _ _ e _ (a .session .now))
 
--- src/lib.rt:140:9
 session-of-requires : tie.Need-session-of-requires
 session-of-requires c κs = search needs
 
--- src/lib.rt:141:9
 second-step-requires : tie.Need-second-step-requires
 second-step-requires c κs = search needs
 
--- src/lib.rt:142:5
 put-session-requires : tie.Need-put-session-requires
 put-session-requires c κs = search needs
 
--- src/lib.rt:132:1
 same-length : tie.Need-same-length
 same-length c = search needs
 
--- src/lib.rt:132:1
 returns-2 : tie.Need-returns-2
 returns-2 c =
     let p = c .before .before in

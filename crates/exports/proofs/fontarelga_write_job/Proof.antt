@@ -1,53 +1,41 @@
+use borrow.Author.Needs.{needs}
+use Prim.Native.Nat.{ℕ}
 use mathlib.Core.Path.{_≡_, sym, ap, _∙_}
 use mathlib.Core.List.{List}
-use Prim.Native.Nat.{ℕ}
 use lib.ListN.{length}
 use Rattle.words.specs.Answers.{Answer, refused, full, lent-after, count-of}
 use Rattle.words.proofs.Answers.{counted-refused}
 use Rattle.jobfile.specs.Writer.{write-answer, meaning}
 use Rattle.exports.specs.Exported.{code, network-of, size-words}
 use Rattle.exports.proofs.Owing.{other-length, right-length, code-refused, words-refused, lent-refused, code-counted, counted-size}
-use borrow.Author.Needs.{needs}
 use Rattle.exports.proofs.fontarelga_write_job.Statement.{statement}
 use Rattle.exports.proofs.fontarelga_write_job.Tie as tie
-use Rattle.exports.proofs.fontarelga_write_job.Reads as reads
-use Rattle.exports.proofs.fontarelga_write_job.Lts as lts
-use Rattle.exports.proofs.lists.put_one.Reads as put-one-reads
-use Rattle.jobfile.proofs.write_job.Reads as write-job-reads
 
--- src/lib.rt:200:9
 returns : tie.Need-returns
 returns c =
     let a = c .before .before .before .before .before .args in
     let answer = write-answer (network-of (a .nets)) (a .class) (a .vectors .now) (a .responses .now) (length (a .file .now)) in
     let e = other-length 1 (a .size .now) answer (c .if1 .taken) in
-    (code-refused _ 99 e, (lent-refused _ 99 (a .file .now) e, words-refused _ 99 e size-words (a .size .now)))
+    (code-refused _ _ e, (lent-refused _ _ (a .file .now) e, words-refused _ _ e size-words (a .size .now)))
 
--- src/lib.rt:202:11
 write-job-requires : tie.Need-write-job-requires
 write-job-requires c κs = search needs
 
--- src/lib.rt:203:22
 enum-known-count : tie.Need-enum-known-count
 enum-known-count c = search needs
 
--- src/lib.rt:203:32
 put-one-requires : tie.Need-put-one-requires
 put-one-requires c κs = search needs
 
--- src/lib.rt:204:24
 enum-known-number : tie.Need-enum-known-number
 enum-known-number c = search needs
 
--- src/lib.rt:186:1
 same-length : tie.Need-same-length
 same-length c = search needs
 
--- src/lib.rt:186:1
 same-length-2 : tie.Need-same-length-2
 same-length-2 c = search needs
 
--- src/lib.rt:186:1
 returns-2 : tie.Need-returns-2
 unfolding code
 returns-2 c =
@@ -63,11 +51,9 @@ returns-2 c =
       (k .write-job .ensures .1, p .put-one .ensures .1 ∙ ap (λ (w : Answer (List ℕ)). lent-after w (a .size .now)) (sym (counted-size answer count said))),
     )
 
--- src/lib.rt:186:1
 same-length-3 : tie.Need-same-length-3
 same-length-3 c = search needs
 
--- src/lib.rt:186:1
 returns-3 : tie.Need-returns-3
 unfolding code
 returns-3 c =

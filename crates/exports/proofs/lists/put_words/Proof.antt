@@ -1,36 +1,26 @@
-use Rattle.exports.proofs.Words.{part-written}
 use borrow.Author.Needs.{needs}
+use Rattle.exports.proofs.Words.{part-written}
 use Rattle.exports.proofs.lists.put_words.Statement.{statement}
 use Rattle.exports.proofs.lists.put_words.Tie as tie
-use Rattle.exports.proofs.lists.put_words.Reads as reads
-use Rattle.exports.proofs.lists.put_words.Lts as lts
-use Rattle.words.proofs.lists.copy_words.Reads as copy-words-reads
 
--- src/lists.rt:15:36
 mul-copy-words : tie.Need-mul-copy-words
 mul-copy-words c = search needs
 
--- src/lists.rt:15:36
 sub-copy-words : tie.Need-sub-copy-words
 sub-copy-words c = search needs
 
--- src/lists.rt:15:36
 part-copy-words-start : tie.Need-part-copy-words-start
 part-copy-words-start c = search needs
 
--- src/lists.rt:15:36
 part-copy-words-end : tie.Need-part-copy-words-end
 part-copy-words-end c = search needs
 
--- src/lists.rt:15:5
 copy-words-requires : tie.Need-copy-words-requires
 copy-words-requires c κs = search needs
 
--- src/lists.rt:11:1
 same-length : tie.Need-same-length
 same-length c = search needs
 
--- src/lists.rt:11:1
 returns : tie.Need-returns
 returns c =
     let a = c .before .before .before .before .before .before .args in

@@ -1,13 +1,10 @@
-use Rattle.exports.proofs.Words.{session-written}
+use borrow.Author.Needs.{needs}
 use native.Mathlib.Omega.{arith}
 use mathlib.Core.Path.{_≡_}
 use lib.ListN.{length}
-use borrow.Author.Needs.{needs}
+use Rattle.exports.proofs.Words.{session-written}
 use Rattle.exports.proofs.record.put_session.Statement.{statement}
 use Rattle.exports.proofs.record.put_session.Tie as tie
-use Rattle.exports.proofs.record.put_session.Reads as reads
-use Rattle.exports.proofs.record.put_session.Lts as lts
-use Rattle.exports.proofs.lists.put_words.Reads as put-words-reads
 
 -- the record's arrays
 first-size : (c : tie.Start) → length (c .args .session .first) ≡ 8
@@ -16,45 +13,35 @@ first-size c = search needs
 reaches-size : (c : tie.Start) → length (c .args .session .reaches) ≡ 48
 reaches-size c = search needs
 
--- src/record.rt:32:37
 slice-aggregate-put-words : tie.Need-slice-aggregate-put-words
 slice-aggregate-put-words c = search needs
 
--- src/record.rt:32:5
 put-words-requires : tie.Need-put-words-requires
 put-words-requires c κs = search needs
 
--- src/record.rt:33:37
 slice-aggregate-put-words-2 : tie.Need-slice-aggregate-put-words-2
 slice-aggregate-put-words-2 c = search needs
 
--- src/record.rt:33:5
 put-words-requires-2 : tie.Need-put-words-requires-2
 put-words-requires-2 c κs =
     omega (arith, first-size (c .before .before .before .before .before .before .before .before .before .before))
 
--- src/record.rt:34:38
 slice-aggregate-put-words-3 : tie.Need-slice-aggregate-put-words-3
 slice-aggregate-put-words-3 c = search needs
 
--- src/record.rt:34:5
 put-words-requires-3 : tie.Need-put-words-requires-3
 put-words-requires-3 c κs =
     omega (arith, reaches-size (c .before .before .before .before .before .before .before .before .before .before .before .before .before .before .before))
 
--- src/record.rt:35:38
 slice-aggregate-put-words-4 : tie.Need-slice-aggregate-put-words-4
 slice-aggregate-put-words-4 c = search needs
 
--- src/record.rt:35:5
 put-words-requires-4 : tie.Need-put-words-requires-4
 put-words-requires-4 c κs = search needs
 
--- src/record.rt:25:1
 same-length : tie.Need-same-length
 same-length c = search needs
 
--- src/record.rt:25:1
 returns : tie.Need-returns
 returns c =
     let p4 = c .before .before in

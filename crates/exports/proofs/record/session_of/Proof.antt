@@ -1,3 +1,4 @@
+use borrow.Author.Needs.{needs}
 use Prim.Native.Nat.{ℕ}
 use mathlib.Core.Path.{_≡_, ap₂, _∙_}
 use mathlib.Core.List.{List}
@@ -5,66 +6,48 @@ use lib.ListN.{take, drop}
 use Rattle.words.specs.Bits.{at}
 use Rattle.exports.specs.Exported.{session-of}
 use Rattle.exports.proofs.Words.{all-written}
-use borrow.Author.Needs.{needs}
 use Rattle.exports.proofs.record.session_of.Statement.{statement}
 use Rattle.exports.proofs.record.session_of.Tie as tie
-use Rattle.exports.proofs.record.session_of.Reads as reads
-use Rattle.exports.proofs.record.session_of.Lts as lts
-use Rattle.words.proofs.lists.copy_words.Reads as copy-words-reads
 
--- src/record.rt:15:30
 sub-copy-words : tie.Need-sub-copy-words
 sub-copy-words c = search needs
 
--- src/record.rt:15:30
 part-copy-words-start : tie.Need-part-copy-words-start
 part-copy-words-start c = search needs
 
--- src/record.rt:15:30
 part-copy-words-end : tie.Need-part-copy-words-end
 part-copy-words-end c = search needs
 
--- src/record.rt:15:45
 slice-aggregate-copy-words : tie.Need-slice-aggregate-copy-words
 slice-aggregate-copy-words c = search needs
 
--- src/record.rt:15:5
 copy-words-requires : tie.Need-copy-words-requires
 copy-words-requires c κs = search needs
 
--- src/record.rt:17:30
 sub-copy-words-2 : tie.Need-sub-copy-words-2
 sub-copy-words-2 c = search needs
 
--- src/record.rt:17:30
 part-copy-words-start-2 : tie.Need-part-copy-words-start-2
 part-copy-words-start-2 c = search needs
 
--- src/record.rt:17:30
 part-copy-words-end-2 : tie.Need-part-copy-words-end-2
 part-copy-words-end-2 c = search needs
 
--- src/record.rt:17:46
 slice-aggregate-copy-words-2 : tie.Need-slice-aggregate-copy-words-2
 slice-aggregate-copy-words-2 c = search needs
 
--- src/record.rt:17:5
 copy-words-requires-2 : tie.Need-copy-words-requires-2
 copy-words-requires-2 c κs = search needs
 
--- src/record.rt:19:15
 shared-slice-read-t17 : tie.Need-shared-slice-read-t17
 shared-slice-read-t17 c = search needs
 
--- src/record.rt:20:34
 shared-slice-read-t19 : tie.Need-shared-slice-read-t19
 shared-slice-read-t19 c = search needs
 
--- src/record.rt:23:16
 shared-slice-read-t24 : tie.Need-shared-slice-read-t24
 shared-slice-read-t24 c = search needs
 
--- src/record.rt:10:1
 returns : tie.Need-returns
 unfolding session-of
 returns c =

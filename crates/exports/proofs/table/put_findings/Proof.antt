@@ -1,22 +1,15 @@
+use borrow.Author.Needs.{needs}
 use native.Mathlib.Omega.{arith}
-use Prim.Native.Nat.{_*_}
-use mathlib.Core.Path.{refl, sym, _∙_}
-use lib.ListN.{drop}
+use Prim.Native.Nat.{_*_, _≤_, _-_}
+use mathlib.Core.Path.{refl, sym, _∙_, _≡_}
+use lib.ListN.{drop, length}
 use Rattle.diagnosis.specs.FindingsTable.{findings}
 use Rattle.jobfile.specs.Bytes.{written}
 use Rattle.jobfile.proofs.ByteLaws.{written-front}
 use Rattle.exports.specs.Exported.{finding-words}
 use Rattle.exports.proofs.Tabling.{findings-turn, findings-end}
-use borrow.Author.Needs.{needs}
-use Prim.Native.Nat.{_≤_, _-_}
-use mathlib.Core.Path.{_≡_}
-use lib.ListN.{length}
 use Rattle.exports.proofs.table.put_findings.Statement.{statement}
 use Rattle.exports.proofs.table.put_findings.Tie as tie
-use Rattle.exports.proofs.table.put_findings.Reads as reads
-use Rattle.exports.proofs.table.put_findings.Lts as lts
-use Rattle.diagnosis.proofs.findings.finding_of.Reads as finding-of-reads
-use Rattle.exports.proofs.lists.put_words.Reads as put-words-reads
 
 abbrev Inv-loop : tie.InvT-loop
 Inv-loop net state table₀ i₀ table i =
@@ -27,35 +20,27 @@ Inv-loop net state table₀ i₀ table i =
 abbrev μ-loop : tie.MeasureT-loop
 μ-loop net state table₀ i₀ table i = length state - i
 
--- src/table.rt:31:5
 loop-holds : tie.Need-loop-holds Inv-loop μ-loop
 loop-holds c = (search needs, refl, refl)
 
--- src/table.rt:32:13
 finding-of-requires : tie.Need-finding-of-requires Inv-loop μ-loop
 finding-of-requires c κs = search needs
 
--- src/table.rt:34:40
 mul-put-words : tie.Need-mul-put-words Inv-loop μ-loop
 mul-put-words c = search needs
 
--- src/table.rt:34:47
 slice-aggregate-put-words : tie.Need-slice-aggregate-put-words Inv-loop μ-loop
 slice-aggregate-put-words c = search needs
 
--- src/table.rt:34:9
 put-words-requires : tie.Need-put-words-requires Inv-loop μ-loop
 put-words-requires c κs = search needs
 
--- src/table.rt:35:9
 add-i : tie.Need-add-i Inv-loop μ-loop
 add-i c = search needs
 
--- src/table.rt:31:5
 loop-less : tie.Need-loop-less Inv-loop μ-loop
 loop-less c = search needs
 
--- src/table.rt:31:5
 loop-again : tie.Need-loop-again Inv-loop μ-loop
 loop-again c =
     let p = c .before .before in
@@ -67,11 +52,9 @@ loop-again c =
       findings-turn (a .net) (a .state .now) (l .i) (l .table) (f .finding-of .result) _ (f .finding-of .ensures) (p .put-words .ensures) (omega arith) (omega arith) ∙ l .inv .2,
     )
 
--- src/table.rt:27:1
 same-length : tie.Need-same-length Inv-loop μ-loop
 same-length c = search needs
 
--- src/table.rt:27:1
 returns : tie.Need-returns Inv-loop μ-loop
 returns c =
     let l = c .before .loop in
