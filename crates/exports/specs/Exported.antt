@@ -68,7 +68,7 @@ session-size = 59
 unfoldable pub session-words : Session → List ℕ
 session-words session = session .step ∷ session .network .nets ∷ session .first ++ session .reaches ++ session .spent ∷ []
 
--- and the record that 59 words are
+-- the record that 59 words are
 unfoldable pub session-of : List ℕ → Session
 session-of words =
     record {
@@ -79,12 +79,13 @@ session-of words =
       spent = at words 58;
     }
 
--- ---- the answers; `room` is how many words a lent list has, and `verdict`, `session`, `job` and `size` are lists of a fixed length
+-- ---- the answers
+-- A room is the length of a list that is lent to be filled; `verdict`, `session`, `job` and `size` are lent lists of a fixed length.
 
 abbrev pub check-exported : (nets class : ℕ) (vectors verdict : List ℕ) → Answer Verdict
 check-exported nets class vectors verdict = of-length 3 verdict (check-answer (network-of nets) class vectors)
 
--- 3 words a record
+-- the room in words, 3 a record
 abbrev pub findings-exported : ℕ → (state : List ℕ) → ℕ → Answer (List Finding)
 findings-exported nets state room = findings-answer (network-of nets) state (room / 3)
 
@@ -103,7 +104,7 @@ read-exported file job first second = of-length 4 job (read-answer file first se
 abbrev pub write-exported : (nets class : ℕ) (vectors responses : List ℕ) → ℕ → (size : List ℕ) → Answer (List ℕ)
 write-exported nets class vectors responses room size = of-length 1 size (write-answer (network-of nets) class vectors responses room)
 
--- ---- the session's words after an accepted call, and what to drive
+-- ---- the session's words after a call that is accepted, and what to drive
 
 abbrev pub session-begun : (session : List ℕ) (nets room : ℕ) → Answer (List ℕ)
 session-begun session nets room =
