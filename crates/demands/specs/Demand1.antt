@@ -22,7 +22,7 @@ use Rattle.jobfile.specs.Reader.{ReaderRows, content}
 use Rattle.demands.specs.Demand2.{ResponseProgram, DiagnosisProgram}
 use Rattle.demands.specs.FindingsCall.{FindingsProgram}
 use Rattle.demands.specs.JobFiles.{WriterProgram, ReadDone, ReaderProgram}
-use Rattle.demands.specs.SessionCalls.{Call, begin, first, second, lent, Did, SessionProgram, History, none, waits-first, waits-second, finished-first, finished-second, accepted, LeftBy, FitsAnswers}
+use Rattle.demands.specs.SessionCalls.{Call, begin, first, second, lent, SessionProgram, History, none, waits-first, waits-second, finished-first, finished-second, accepted, LeftBy, FitsAnswers}
 use Rattle.demands.specs.Demand3.{CheckProgram, BeginRows, Written, second-words}
 use Rattle.demands.specs.SessionRecords.{WaitsFor, DriveProgram, DrivesNext}
 
