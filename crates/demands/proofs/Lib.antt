@@ -8,6 +8,8 @@ pub mod Telling
 pub mod JobFilesExact
 pub mod Sessions
 pub mod DemandThree
+pub mod DemandOne
 pub mod SessionsAlike
 pub mod RefutingSessions
 pub mod RefutingFindings
+pub mod RefutingCalls
