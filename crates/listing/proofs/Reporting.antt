@@ -4,10 +4,10 @@ use native.Mathlib.Omega.{arith}
 use mathlib.Core.Path.{_≡_, refl, sym, ap, ap₂, _∙_, subst, subst₂}
 use mathlib.Core.Logic.{_≢_, inl, inr}
 use mathlib.Core.List.{List, [], _∷_, _++_, append-nil}
-use lib.ListN.{length, take, drop, replicate, length-append}
+use lib.ListN.{length, take, replicate, length-append}
 use Rattle.words.specs.Answers.{Answer, refused, full, ByTable, NoneHolds, lent-after, count-of}
 use Rattle.words.proofs.Classes.{ones-at-most}
-use Rattle.words.proofs.Answers.{table-full, front-written, counted-refused, counted-full}
+use Rattle.words.proofs.Answers.{table-full, front-written, written-fits, counted-refused, counted-full}
 use Rattle.network.specs.declared.Network.{Network}
 use Rattle.network.specs.States.{State, Fits}
 use Rattle.network.specs.Rows.{SetRows}
@@ -120,11 +120,6 @@ full-none-holds result [] x p = tt
 full-none-holds result ((number, holds) ∷ rows) x (inl (h, e)) = absurd (let z : _≡_ {A = ℕ} 0 1 = cc in omega arith)
 full-none-holds result ((number, holds) ∷ rows) x (inr (n, p)) = (n, full-none-holds result rows x p)
 
--- a lent list has room for what was written
-written-room : (written lent : List ℕ) → length written ≤ length (lent-after (full written) lent)
-unfolding lent-after
-written-room written lent = let both = length-append written (drop (length written) lent) in omega arith
-
 module _ (file : List ℕ) where
   -- the test set of a file that is read is admitted
   set-admitted : (c : JobContent) → read-answer file 64 64 ≡ full c → NoneHolds (SetRows (c .network) (c .class) (c .vectors))
@@ -145,8 +140,8 @@ module _ (file : List ℕ) where
       let responses = front-written (c .responses) (replicate 64 0) in
       subst (λ (j : Job). ReadContent file j (lent-after (full (c .vectors)) (replicate 64 0)) (lent-after (full (c .responses)) (replicate 64 0))) same
       (record {
-        vectors-room = written-room (c .vectors) (replicate 64 0);
-        responses-room = written-room (c .responses) (replicate 64 0);
+        vectors-room = written-fits (c .vectors) (replicate 64 0);
+        responses-room = written-fits (c .responses) (replicate 64 0);
         admitted = subst (λ (v : List ℕ). NoneHolds (SetRows (c .network) (c .class) v)) (sym vectors) (set-admitted c e);
         text = ap job-text e ∙ ap₂ (λ (v w : List ℕ). content-text (c .network) (c .class) v w) (sym vectors) (sym responses);
       })
