@@ -39,7 +39,7 @@ use Rattle.demands.proofs.Sessions.{goes-through, left-tells, row-four,
 -- ---- any table
 
 -- an answer by the rows is refused with the number of the first that holds, or full where none holds
-either : {A : Type 0} (result : A → Type 0) (Refused : ℕ → Type 0) (Full : Type 0) (rows : List (ℕ × Type 0)) (a : Answer A)
+pub either : {A : Type 0} (result : A → Type 0) (Refused : ℕ → Type 0) (Full : Type 0) (rows : List (ℕ × Type 0)) (a : Answer A)
     → ((number : ℕ) → a ≡ refused number → Refused number) → ((x : A) → a ≡ full x → result x → Full) → ByTable rows result a
     → ((number : ℕ) × FirstRow rows number × Refused number) ⊎ (NoneHolds rows × Full)
 either result Refused Full [] a f g (x, e, r) = inr (tt, g x e r)

@@ -9,6 +9,7 @@ pub mod JobFilesExact
 pub mod Sessions
 pub mod DemandThree
 pub mod DemandOne
+pub mod Reporting
 pub mod SessionsAlike
 pub mod RefutingSessions
 pub mod RefutingFindings
