@@ -4,7 +4,7 @@ use native.Mathlib.Omega.{arith}
 use mathlib.Core.Path.{_≡_, refl, sym, ap, _∙_, subst}
 use mathlib.Core.Logic.{_≢_, inl, inr, ⊎-elim}
 use mathlib.Core.Bool.{Bool, true, false, cond}
-use mathlib.Core.List.{List, [], _∷_, _++_}
+use mathlib.Core.List.{List, [], _∷_}
 use lib.ListN.{length}
 use Rattle.words.specs.Answers.{Answer, refused, full, ByTable, NoneHolds}
 use Rattle.words.proofs.Answers.{table-skip}
@@ -19,7 +19,7 @@ use Rattle.jobfile.specs.Layout.{body-words, has-responses, file-responses}
 use Rattle.jobfile.specs.Reader.{JobContent, content, ReaderRows, read-answer}
 use Rattle.jobfile.proofs.ReaderLaws.{read-by-table}
 use Rattle.listing.specs.Report.{refused-line, diagnosis-text, responses-text, content-text, job-text, report}
-use Rattle.demands.specs.Reports.{Follows, nothing, a-line-a-net, not-passed, no-state, LineOne, Says, Reports}
+use Rattle.demands.specs.Reports.{Follows, nothing, a-line-a-net, not-passed, no-state, LineOne, Reports}
 use Rattle.demands.proofs.DemandOne.{either}
 
 -- the rows of the reader on responses do not hold, where there are any

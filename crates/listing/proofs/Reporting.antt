@@ -1,9 +1,9 @@
 -- What the report's parts say of one another: the reader's answer and the diagnosis, and how long line one is.
-use Prim.Native.Nat.{ℕ, _+_, _≤_}
+use Prim.Native.Nat.{ℕ, _≤_}
 use native.Mathlib.Omega.{arith}
 use mathlib.Core.Path.{_≡_, refl, sym, ap, ap₂, _∙_, subst, subst₂}
 use mathlib.Core.Logic.{_≢_, inl, inr}
-use mathlib.Core.List.{List, [], _∷_, _++_, append-nil}
+use mathlib.Core.List.{List, [], _∷_}
 use lib.ListN.{length, take, replicate, length-append}
 use Rattle.words.specs.Answers.{Answer, refused, full, ByTable, NoneHolds, lent-after, count-of}
 use Rattle.words.proofs.Classes.{ones-at-most}
@@ -22,7 +22,7 @@ use Rattle.jobfile.specs.declared.ReadJob.{ReadJob}
 use Rattle.jobfile.specs.declared.ReadJob.the-variants.{Content, Refused as Stopped}
 use Rattle.jobfile.specs.Reader.{JobContent, content, ReaderRows, read-answer, vectors-read, responses-read, counted, read-meaning}
 use Rattle.jobfile.proofs.ReaderLaws.{read-by-table}
-use Rattle.listing.specs.Decimal.{decimal, spaced, numbers-end}
+use Rattle.listing.specs.Decimal.{spaced, numbers-end}
 use Rattle.listing.specs.Report.{refused-line, verdict-line, diagnosis-text, responses-text, content-text, job-text, report}
 use Rattle.listing.proofs.Numerals.{decimal-most}
 

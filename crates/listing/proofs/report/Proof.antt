@@ -1,14 +1,13 @@
 use borrow.Author.Needs.{needs}
 use native.Mathlib.Omega.{arith}
-use Prim.Native.Nat.{ℕ, _≤_}
-use mathlib.Core.Path.{_≡_, refl, sym, ap, ap₂, _∙_}
+use Prim.Native.Nat.{ℕ}
+use mathlib.Core.Path.{_≡_, refl, sym, ap, _∙_}
 use mathlib.Core.List.{List}
 use lib.ListN.{length, take, replicate}
 use lib.Seq.{length-take-le}
 use Rattle.words.specs.Answers.{full, lent-after}
 use Rattle.jobfile.specs.declared.Job.{Job}
 use Rattle.jobfile.specs.Bytes.{written}
-use Rattle.jobfile.specs.Reader.{read-answer}
 use Rattle.jobfile.proofs.ByteLaws.{written-front}
 use Rattle.listing.specs.Report.{refused-line, content-text, report}
 use Rattle.listing.proofs.Reporting.{ReadContent, read-refused, read-content}
