@@ -8,6 +8,9 @@ pub mod Telling
 pub mod JobFilesExact
 pub mod Sessions
 pub mod DemandThree
+pub mod DemandOne
+pub mod Reporting
 pub mod SessionsAlike
 pub mod RefutingSessions
 pub mod RefutingFindings
+pub mod RefutingCalls

@@ -23,6 +23,7 @@ use Rattle.demands.proofs.Diagnosing.{diagnoses, diagnosis-determined-p
 use Rattle.demands.proofs.Checking.{checks, pair-not-one}
 use Rattle.demands.proofs.RefutingFindings.{table-as-lent, record-not-written, table-cleared}
 use Rattle.demands.proofs.RefutingSessions.{guessed, counted-itself, refuses-begins, uncounted, no-vectors}
+use Rattle.demands.proofs.RefutingCalls.{vectors-cleared, started-again}
 
 -- two nets, class 2
 abbrev two : Network
@@ -146,4 +147,6 @@ refuted = record {
   refuses-begins = refuses-begins;
   uncounted = uncounted;
   no-vectors = no-vectors;
+  vectors-cleared = vectors-cleared;
+  started-again = started-again;
 }

@@ -50,7 +50,7 @@ first-through net answers e size narrow =
     )
 
 -- what an accepted call does
-goes-through : (session : Session) (call : Call) (words : List ℕ) → our-answer session call ≡ full words
+pub goes-through : (session : Session) (call : Call) (words : List ℕ) → our-answer session call ≡ full words
     → (our-sessions session call .session ≡ our-new session call) × ((h : History) → extended h call (our-sessions session call) ≡ by-answer h call (full words) (lent-after (full words) (lent call)))
 unfolding stepped
 goes-through session call words e = (
@@ -183,7 +183,7 @@ refused-four session (second answers) other none! =
     second-refused session answers
     (⊎-elim (λ e. let w = row-four .second-answers session answers .0 e in absurd (none! (w .0) (w .1) (w .2))) (λ e. e) (cases (awaits-second session)))
 
-call-by-table : (session : Session) (call : Call) → CallByTable our-sessions session call
+pub call-by-table : (session : Session) (call : Call) → CallByTable our-sessions session call
 call-by-table session call = record {
   record-kept = λ number e. kept-if-refused session call number e;
   list-after = refl;

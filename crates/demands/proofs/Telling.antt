@@ -182,17 +182,17 @@ not-second : (session : Session) → session .step ≢ 2 → awaits-second sessi
 not-second session h = ⊎-elim (λ e. absurd (h (awaits-second-step session e))) (λ e. e) (cases (awaits-second session))
 
 -- the step that a record of this session holds
-abbrev step-of : History → ℕ
+abbrev pub step-of : History → ℕ
 step-of none = 0
 step-of (waits-first net v1) = 1
 step-of (waits-second net v1 r1 v2) = 2
 step-of (finished-first net v1 r1 v2) = 3
 step-of (finished-second net v1 r1 v2 r2) = 3
 
-is-begun : (h : History) → step-of h ≢ 0 → h ≢ none
+pub is-begun : (h : History) → step-of h ≢ 0 → h ≢ none
 is-begun h d e = d (ap step-of e)
 
-step-told : (h : History) (session : Session) → h ≢ none → Tells h session → session .step ≡ step-of h
+pub step-told : (h : History) (session : Session) → h ≢ none → Tells h session → session .step ≡ step-of h
 step-told none session begun t = absurd (begun refl)
 step-told (waits-first net v1) session begun t = ap (λ (s : Session). s .step) (t .is)
 step-told (waits-second net v1 r1 v2) session begun t = ap (λ (s : Session). s .step) (t .is)
@@ -337,8 +337,8 @@ begin-in session net list words e = record {
   is = refl;
 }
 
-not-both : {number : ℕ} {words : List ℕ} {a : Answer (List ℕ)} → a ≡ refused number → a ≡ full words → ⊥
-not-both {number} {words} {a} p q = let e : refused number ≡ full words = sym p ∙ q in let z : _≡_ {A = ℕ} 0 1 = cc in omega arith
+pub not-both : {A : Type 0} {number : ℕ} {x : A} {a : Answer A} → a ≡ refused number → a ≡ full x → ⊥
+not-both {number = number} {x = x} p q = let e : refused number ≡ full x = sym p ∙ q in let z : _≡_ {A = ℕ} 0 1 = cc in omega arith
 
 accepted-tells : (h : History) (session : Session) (call : Call) (words : List ℕ) → our-answer session call ≡ full words → Tells h session
     → Tells (accepted h call words) (our-new session call)

@@ -4,6 +4,8 @@ pub mod SessionCalls
 pub mod Demand3
 pub mod SessionRecords
 pub mod JobFiles
+pub mod Demand1
+pub mod Reports
 pub mod Programs
 pub mod Determined
 pub mod Refuted

@@ -14,10 +14,13 @@ use Rattle.jobfile.specs.Reader.{read-answer, vectors-read, responses-read, cou
 use Rattle.session.specs.declared.Session.{Session}
 use Rattle.session.specs.Record.{awaiting-first, finished}
 use Rattle.session.specs.Calls.{stepped, begin-answer, first-answer, answered-by, second-answer, vectors-driven, all-answers}
+use Rattle.session.specs.Drive.{to-drive}
 use Rattle.demands.specs.Demand2.{ResponseProgram, DiagnosisProgram}
 use Rattle.demands.specs.FindingsCall.{FindingsProgram}
 use Rattle.demands.specs.JobFiles.{WriterProgram, ReaderProgram}
 use Rattle.demands.specs.SessionCalls.{Call, begin, first, second, lent, SessionProgram}
+use Rattle.demands.specs.SessionRecords.{DriveProgram}
+use Rattle.demands.specs.Demand1.{Programs}
 use Rattle.demands.specs.Demand3.{CheckProgram}
 
 abbrev pub our-response : ResponseProgram
@@ -68,4 +71,19 @@ our-sessions session call = record {
   answer = our-answer session call;
   list = lent-after (our-answer session call) (lent call);
   session = stepped (our-answer session call) (our-new session call) session .session;
+}
+
+abbrev pub our-drive : DriveProgram
+our-drive session one two = to-drive session one two
+
+abbrev pub ours : Programs
+ours = record {
+  checks = our-check;
+  responds = our-response;
+  diagnoses = our-diagnosis;
+  finds = our-findings;
+  reads = our-reader;
+  writes = our-writer;
+  advances = our-sessions;
+  drives = our-drive;
 }

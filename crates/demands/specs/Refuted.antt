@@ -14,11 +14,14 @@ use Rattle.demands.specs.Demand2.{ResponseProgram, Responds, DiagnosisPr
 use Rattle.demands.specs.FindingsCall.{FindingsProgram, Finds}
 use Rattle.network.specs.declared.Network.{Network}
 use Rattle.session.specs.declared.Session.{Session}
-use Rattle.session.specs.Record.{finished, held-answers}
+use Rattle.session.specs.Record.{awaiting-first, finished, held-answers}
 use Rattle.session.specs.Calls.{stepped, vectors-driven}
+use Rattle.jobfile.specs.Reader.{read-answer, vectors-read, responses-read, counted}
+use Rattle.demands.specs.JobFiles.{ReaderProgram}
 use Rattle.demands.specs.SessionCalls.{begin, first, second, lent, SessionProgram}
 use Rattle.demands.specs.Demand3.{CheckProgram, Checks, Sessions}
-use Rattle.demands.specs.Programs.{our-answer, our-sessions}
+use Rattle.demands.specs.Demand1.{Programs, Demand1}
+use Rattle.demands.specs.Programs.{our-reader, our-answer, our-new, our-sessions, ours}
 
 -- ---- checkers
 
@@ -151,6 +154,34 @@ writes-uncounted session (second answers) = our-sessions session (second answers
 abbrev pub writes-no-vectors : SessionProgram
 writes-no-vectors session call = record { answer = our-answer session call; list = lent call; session = our-sessions session call .session }
 
+-- ---- demand 1: our programs, with another reader and other session calls
+
+abbrev pub ours-but : ReaderProgram → SessionProgram → Programs
+ours-but reader sessions = record {
+  checks = ours .checks;
+  responds = ours .responds;
+  diagnoses = ours .diagnoses;
+  finds = ours .finds;
+  reads = reader;
+  writes = ours .writes;
+  advances = sessions;
+  drives = ours .drives;
+}
+
+-- a refused call clears the first list
+abbrev pub clears-vectors : ReaderProgram
+clears-vectors file vectors responses =
+    let answer = read-answer file (length vectors) (length responses) in
+    record { returned = counted answer; vectors = clears-list 0 (vectors-read answer) vectors; responses = lent-after (responses-read answer) responses }
+
+-- a refused call puts the record back to step one
+abbrev pub starts-again : SessionProgram
+starts-again session call = record {
+  answer = our-answer session call;
+  list = our-sessions session call .list;
+  session = stepped (our-answer session call) (our-new session call) (awaiting-first (session .network)) .session;
+}
+
 pub record Refuted : Type 0 where
   pub passes-all : ¬ (Checks passes-all-sets)
   pub one-pair : (a b : ℕ) → ¬ (Checks (shows-one-pair a b))
@@ -171,3 +202,5 @@ pub record Refuted : Type 0 where
   pub refuses-begins : (number : ℕ) → ¬ (Sessions (refuses-every-begin number))
   pub uncounted : ¬ (Sessions writes-uncounted)
   pub no-vectors : ¬ (Sessions writes-no-vectors)
+  pub vectors-cleared : ¬ (Demand1 (ours-but clears-vectors our-sessions))
+  pub started-again : ¬ (Demand1 (ours-but our-reader starts-again))

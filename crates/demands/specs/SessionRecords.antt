@@ -28,5 +28,9 @@ pub record DrivesNext (program : SessionProgram) (session : Session) (one two pa
   pub step-two : (net : Network) (v1 r1 v2 : List ℕ) → LeftBy program (waits-second net v1 r1 v2) session → Front (length v2) two part
   pub otherwise : ¬ (WaitsFor program session (first [] [])) → ¬ (WaitsFor program session (second [])) → part ≡ []
 
-abbrev pub Drives : SessionProgram → (Session → (one two : List ℕ) → List ℕ) → Type 0
+-- a program for it
+abbrev pub DriveProgram : Type 0
+DriveProgram = Session → (one two : List ℕ) → List ℕ
+
+abbrev pub Drives : SessionProgram → DriveProgram → Type 0
 Drives program drive = (session : Session) (one two : List ℕ) → DrivesNext program session one two (drive session one two)

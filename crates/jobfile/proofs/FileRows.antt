@@ -10,19 +10,11 @@ use lib.ListN.{length, take}
 use borrow.Author.Tests.{eqb-true, eq-eqb, ne-eqb, ltb-false, le-ltb, not-false}
 use Rattle.words.specs.Answers.{Decides}
 use Rattle.words.specs.Searching.{any}
-use Rattle.words.proofs.Tests.{cases, contrary, and-left, and-right, and-both, and-false, neither, decides-less, decides-equal, decides-not, decides-or}
+use Rattle.words.proofs.Tests.{cases, contrary, and-left, and-right, and-both, and-false, neither, decides-less, decides-equal, decides-not, decides-or, decides-and, test-passes}
 use Rattle.words.proofs.Searching.{any-none, any-false, decides-any}
 use Rattle.network.specs.Rows.{Row12, no-room}
 use Rattle.network.proofs.Rows.{decides-row-12}
 use Rattle.jobfile.specs.Layout.{mark, most-bytes, entry-count, bodies-at, entry-kind, body-offset, body-length, Row1, Layout, Row2, Row3, same-bytes, bad-mark, bad-entry, bad-layout, bad-bodies, has-responses}
-
--- a test passes where what it decides holds
-test-passes : {a : Bool} {A : Type 0} → Decides a A → A → a ≡ true
-test-passes {a} f h = ⊎-elim (λ e. e) (λ e. absurd (f .1 e h)) (cases a)
-
-pub decides-and : {a b : Bool} {A B : Type 0} → Decides a A → Decides b B → Decides (a && b) (A × B)
-decides-and {a} {b} f g =
-    (λ e. (f .0 (and-left a b e), g .0 (and-right a b e)), λ e w. contrary (and-both (test-passes f (w .0)) (test-passes g (w .1))) e)
 
 -- ---- row 1
 

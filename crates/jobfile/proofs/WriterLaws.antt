@@ -11,12 +11,12 @@ use lib.ListN.{length, length-append}
 use borrow.Author.Tests.{lt-ltb, eqb-true, not-false}
 use Rattle.words.specs.Answers.{Answer, ByTable, Decides, Decided}
 use Rattle.words.proofs.Answers.{decided-append, tests-by-table, table-determined}
+use Rattle.words.proofs.Tests.{decides-and}
 use Rattle.network.specs.declared.Network.{Network}
 use Rattle.network.specs.Rows.{SetRows, set-tests, bad-response-count}
 use Rattle.network.proofs.Rows.{decides-set, decides-row-9, decides-high-bit, decides-row-12}
 use Rattle.jobfile.specs.Bytes.{bytes-of, word-bytes}
 use Rattle.jobfile.specs.Layout.{mark, bodies-at}
-use Rattle.jobfile.proofs.FileRows.{decides-and}
 use Rattle.jobfile.specs.Writer.{entry-bytes, response-entry, entries-for, head-of, file-of, OwnRows, WriterRows, given, own-tests, writer-tests, write-answer}
 use Rattle.jobfile.proofs.ByteLaws.{bytes-count, word-bytes-count}
 

@@ -1,3 +1,4 @@
 pub mod Numerals
 pub mod NumbersPut
 pub mod NetsPut
+pub mod Reporting

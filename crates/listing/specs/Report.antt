@@ -35,16 +35,17 @@ abbrev pub diagnosis-text : Network → Answer (List ℕ) → List ℕ
 diagnosis-text net (refused number) = refused-line number
 diagnosis-text net (full state) = net-lines net state 0 (net .nets)
 
--- what follows line one: nothing if there are no responses
-abbrev pub responses-text : JobContent → List ℕ → List ℕ
-responses-text job [] = []
-responses-text job (word ∷ words) =
-    diagnosis-text (job .network) (diagnosis-answer (job .network) (job .class) (job .vectors) (word ∷ words) (job .network .nets))
+-- what follows line one: nothing if there are no responses; 48 words are enough for the state
+abbrev pub responses-text : Network → ℕ → (vectors responses : List ℕ) → List ℕ
+responses-text net k vectors [] = []
+responses-text net k vectors (word ∷ words) = diagnosis-text net (diagnosis-answer net k vectors (word ∷ words) 48)
+
+unfoldable pub content-text : Network → ℕ → (vectors responses : List ℕ) → List ℕ
+content-text net k vectors responses = verdict-line net k (length vectors) (verdict net k vectors) ++ responses-text net k vectors responses
 
 abbrev pub job-text : Answer JobContent → List ℕ
 job-text (refused number) = refused-line number
-job-text (full job) =
-    verdict-line (job .network) (job .class) (length (job .vectors)) (verdict (job .network) (job .class) (job .vectors)) ++ responses-text job (job .responses)
+job-text (full job) = content-text (job .network) (job .class) (job .vectors) (job .responses)
 
 -- the report on a file; 64 words are enough for the vectors, and for the responses
 unfoldable pub report : List ℕ → List ℕ

@@ -3,9 +3,9 @@ use mathlib.Core.Path.{_≡_, refl, sym, ap, ap₂, _∙_, subst}
 use mathlib.Core.Bool.{Bool, true, false, cond}
 use mathlib.Core.Logic.{_⊎_, inl, inr}
 use mathlib.Core.List.{List, [], _∷_, _++_}
-use Prim.Native.Nat.{ℕ}
+use Prim.Native.Nat.{ℕ, _≤_}
 use native.Mathlib.Omega.{arith}
-use lib.ListN.{length, take, drop}
+use lib.ListN.{length, take, drop, length-append}
 use lib.Seq.{drop-append-seam, take-append-seam}
 use Rattle.words.specs.Answers.{Answer, refused, full, ByTable, NoneHolds, by-tests, Decided, lent-after, count-of, Filled, FillsByTable}
 
@@ -112,6 +112,11 @@ module _ {A : Type 0} where
   pub front-written : (xs old : List A) → take (length xs) (lent-after (full xs) old) ≡ xs
   unfolding lent-after
   front-written xs old = take-append-seam xs (drop (length xs) old)
+
+  -- what was written is within the list
+  pub written-fits : (xs old : List A) → length xs ≤ length (lent-after (full xs) old)
+  unfolding lent-after
+  written-fits xs old = let both = length-append xs (drop (length xs) old) in omega arith
 
   -- what a call that fills a list owes when it refuses, and when it has written
   pub owed-refused : (a : Answer (List A)) (number : ℕ) (lent : List A) → a ≡ refused number → (refused number ≡ count-of a) × (lent ≡ lent-after a lent)

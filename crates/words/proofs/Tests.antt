@@ -71,3 +71,11 @@ decides-or {a} {b} f g =
 
 pub decides-not : {a : Bool} {A : Type 0} → Decides a A → Decides (not a) (¬ A)
 decides-not {a} f = (λ e. f .1 (borrow.Author.Tests.not-true a e), λ e n. n (f .0 (borrow.Author.Tests.not-false a e)))
+
+-- a test passes where what it decides holds
+pub test-passes : {a : Bool} {A : Type 0} → Decides a A → A → a ≡ true
+test-passes {a} f h = ⊎-elim (λ e. e) (λ e. absurd (f .1 e h)) (cases a)
+
+pub decides-and : {a b : Bool} {A B : Type 0} → Decides a A → Decides b B → Decides (a && b) (A × B)
+decides-and {a} {b} f g =
+    (λ e. (f .0 (and-left a b e), g .0 (and-right a b e)), λ e w. contrary (and-both (test-passes f (w .0)) (test-passes g (w .1))) e)

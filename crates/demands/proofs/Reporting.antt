@@ -1,0 +1,91 @@
+-- What our report says of a file.
+use Prim.Native.Nat.{ℕ, _≤_}
+use native.Mathlib.Omega.{arith}
+use mathlib.Core.Path.{_≡_, refl, sym, ap, _∙_, subst}
+use mathlib.Core.Logic.{_≢_, inl, inr, ⊎-elim}
+use mathlib.Core.Bool.{Bool, true, false, cond}
+use mathlib.Core.List.{List, [], _∷_}
+use lib.ListN.{length}
+use Rattle.words.specs.Answers.{Answer, refused, full, ByTable, NoneHolds}
+use Rattle.words.proofs.Answers.{table-skip}
+use Rattle.network.specs.States.{Fits}
+use Rattle.network.specs.Rows.{SetRows, Row9, HighBit}
+use Rattle.network.proofs.Rows.{admitted-set}
+use Rattle.checker.specs.Rule.{verdict}
+use Rattle.checker.proofs.Verdicts.{verdict-rule}
+use Rattle.diagnosis.specs.Diagnosis.{OwnRows, diagnosis-answer}
+use Rattle.diagnosis.proofs.Answering.{diagnosis-by-table}
+use Rattle.jobfile.specs.Layout.{body-words, has-responses, file-responses}
+use Rattle.jobfile.specs.Reader.{JobContent, content, ReaderRows, read-answer}
+use Rattle.jobfile.proofs.ReaderLaws.{read-by-table}
+use Rattle.listing.specs.Report.{refused-line, diagnosis-text, responses-text, content-text, job-text, report}
+use Rattle.demands.specs.Reports.{Follows, nothing, a-line-a-net, not-passed, no-state, LineOne, Reports}
+use Rattle.demands.proofs.DemandOne.{either}
+
+-- the rows of the reader on responses do not hold, where there are any
+abbrev ResponsesAdmitted : JobContent → Type 0
+ResponsesAdmitted job = (¬ (Row9 (length (job .vectors)) (length (job .responses)))) × (¬ (HighBit (job .network) (job .responses)))
+
+module _ (job : JobContent) (admitted : NoneHolds (SetRows (job .network) (job .class) (job .vectors))) where
+  abbrev answer : Answer (List ℕ)
+  answer = diagnosis-answer (job .network) (job .class) (job .vectors) (job .responses) 48
+
+  diagnosed : job .responses ≢ [] → ResponsesAdmitted job → Follows job (diagnosis-text (job .network) answer)
+  diagnosed some fine =
+      go (table-skip (Fits (job .network) (job .class) (job .vectors) (job .responses)) (SetRows (job .network) (job .class) (job .vectors))
+      (OwnRows (job .network) (job .class) (job .vectors) (job .responses) 48) answer admitted
+      (diagnosis-by-table (job .network) (job .class) (job .vectors) (job .responses) 48))
+    where
+      says : (a : Answer (List ℕ)) → answer ≡ a → Follows job (diagnosis-text (job .network) a) → Follows job (diagnosis-text (job .network) answer)
+      says a e f = subst (λ (b : Answer (List ℕ)). Follows job (diagnosis-text (job .network) b)) (sym e) f
+
+      most : job .network .nets ≤ 48
+      most = admitted-set (job .network) (job .class) (job .vectors) admitted .most
+
+      go : ByTable (OwnRows (job .network) (job .class) (job .vectors) (job .responses) 48) (Fits (job .network) (job .class) (job .vectors) (job .responses)) answer
+          → Follows job (diagnosis-text (job .network) answer)
+      go (inl (nine, e)) = absurd (fine .0 nine)
+      go (inr (_, inl (ten, e))) = absurd (fine .1 ten)
+      go (inr (_, inr (_, inl (twelve, e)))) = absurd (omega (arith, most, twelve))
+      go (inr (_, inr (_, inr (_, inl (thirteen, e))))) = says (refused 13) e (not-passed some thirteen)
+      go (inr (_, inr (_, inr (_, inr (_, inl (fourteen, e)))))) = says (refused 14) e (no-state some fourteen)
+      go (inr (_, inr (_, inr (_, inr (_, inr (_, (state, e, fits))))))) = says (full state) e (a-line-a-net some state fits)
+
+  follows : (job .responses ≢ [] → ResponsesAdmitted job) → Follows job (responses-text (job .network) (job .class) (job .vectors) (job .responses))
+  follows fine = go (job .responses) refl
+    where
+      go : (responses : List ℕ) → job .responses ≡ responses → Follows job (responses-text (job .network) (job .class) (job .vectors) responses)
+      go [] e = nothing e
+      go (word ∷ words) e =
+          let some : job .responses ≢ [] = λ none. let z : _≡_ {A = ℕ} 0 1 = cc in omega arith in
+          subst (λ (r : List ℕ). Follows job (diagnosis-text (job .network) (diagnosis-answer (job .network) (job .class) (job .vectors) r 48))) e (diagnosed some (fine some))
+
+-- a file with responses has a third entry
+third-entry : (file : List ℕ) → file-responses file ≢ [] → has-responses file ≡ true
+unfolding file-responses
+third-entry file some = go (has-responses file) some
+  where
+    go : (b : Bool) → cond b (body-words file 2) [] ≢ [] → b ≡ true
+    go true h = refl
+    go false h = absurd (h refl)
+
+reached : (file : List ℕ) → NoneHolds (ReaderRows file 64 64) → read-answer file 64 64 ≡ full (content file) → LineOne (content file) (report file)
+unfolding report content-text content
+reached file (_, (_, (_, (five, (six, (seven, (eight, (nine, (ten, _))))))))) e =
+    let job = content file in
+    let fine : job .responses ≢ [] → ResponsesAdmitted job =
+    λ some. let third = third-entry file some in (λ row. nine (third, row), λ row. ten (third, row)) in
+    record {
+      verdict = verdict (job .network) (job .class) (job .vectors);
+      by-rule = verdict-rule (job .network) (job .class) (job .vectors);
+      rest = responses-text (job .network) (job .class) (job .vectors) (job .responses);
+      follows = follows job (five, (six, (seven, (eight, tt)))) fine;
+      whole = ap job-text e;
+    }
+
+pub reports : Reports report
+unfolding report
+reports file =
+    ⊎-elim inl (λ w. inr (w .0, reached file (w .0) (w .1)))
+    (either (λ job. job ≡ content file) (λ number. report file ≡ refused-line number) (read-answer file 64 64 ≡ full (content file)) (ReaderRows file 64 64) (read-answer file 64 64)
+    (λ number e. ap job-text e) (λ job e same. e ∙ ap full same) (read-by-table file 64 64))

@@ -1,0 +1,194 @@
+-- Demand 1: the answer to any call, on any numbers and any bytes, is either its full result or one refusal number from document
+-- 01. After a refusal each lent list, table and session record still holds what it held before the call.
+use Prim.Native.Nat.{ℕ}
+use mathlib.Core.Path.{_≡_}
+use mathlib.Core.Logic.{_⊎_}
+use mathlib.Core.List.{List, [], _∷_, _++_, map}
+use lib.ListN.{length, drop}
+use Rattle.words.specs.Answers.{refused, full, NoneHolds, Filled}
+use Rattle.network.specs.declared.Network.{Network}
+use Rattle.network.specs.Reading.{Response}
+use Rattle.network.specs.States.{Fits}
+use Rattle.network.specs.Rows.{SetRows, Row9, HighBit, Row12}
+use Rattle.network.specs.Respond.{ResponseRows}
+use Rattle.checker.specs.declared.Verdict.{Verdict}
+use Rattle.checker.specs.Rule.{Rule}
+use Rattle.diagnosis.specs.declared.Finding.{Finding}
+use Rattle.diagnosis.specs.Diagnosis.{DiagnosisRows}
+use Rattle.diagnosis.specs.FindingsTable.{FindingsRows, Findings}
+use Rattle.session.specs.declared.Session.{Session}
+use Rattle.jobfile.specs.Writer.{WriterRows, file-of}
+use Rattle.jobfile.specs.Reader.{ReaderRows, content}
+use Rattle.demands.specs.Demand2.{ResponseProgram, DiagnosisProgram}
+use Rattle.demands.specs.FindingsCall.{FindingsProgram}
+use Rattle.demands.specs.JobFiles.{WriterProgram, ReadDone, ReaderProgram}
+use Rattle.demands.specs.SessionCalls.{Call, begin, first, second, lent, SessionProgram, History, none, waits-first, waits-second, finished-first, finished-second, accepted, LeftBy, FitsAnswers}
+use Rattle.demands.specs.Demand3.{CheckProgram, BeginRows, Written, second-words}
+use Rattle.demands.specs.SessionRecords.{WaitsFor, DriveProgram, DrivesNext}
+
+-- ---- the calls
+
+-- a public call, with all that it takes and is lent
+pub data PublicCall : Type 0 where
+  check : (net : Network) (k : ℕ) (vectors : List ℕ) → PublicCall
+  respond : (net : Network) (k : ℕ) (vectors state list : List ℕ) → PublicCall
+  diagnose : (net : Network) (k : ℕ) (vectors responses list : List ℕ) → PublicCall
+  find : (net : Network) (state : List ℕ) (table : List Finding) → PublicCall
+  read : (file vectors responses : List ℕ) → PublicCall
+  write : (net : Network) (k : ℕ) (vectors responses file : List ℕ) → PublicCall
+  -- begin, first answers, second answers
+  advance : (session : Session) (call : Call) → PublicCall
+  -- the vectors to drive next: no refusal
+  drive : (session : Session) (one two : List ℕ) → PublicCall
+
+-- a program for each
+pub record Programs : Type 0 where
+  pub checks : CheckProgram
+  pub responds : ResponseProgram
+  pub diagnoses : DiagnosisProgram
+  pub finds : FindingsProgram
+  pub reads : ReaderProgram
+  pub writes : WriterProgram
+  pub advances : SessionProgram
+  pub drives : DriveProgram
+
+-- ---- the rows of each call
+
+-- the answers that a session waits for are as many as these vectors
+abbrev pub awaited-vectors : History → List ℕ
+awaited-vectors none = []
+awaited-vectors (waits-first net v1) = v1
+awaited-vectors (waits-second net v1 r1 v2) = v2
+awaited-vectors (finished-first net v1 r1 v2) = []
+awaited-vectors (finished-second net v1 r1 v2 r2) = []
+
+-- a word with a bit at or above the session's n
+abbrev pub SessionHighBit : History → List ℕ → Type 0
+SessionHighBit none answers = ⊥
+SessionHighBit (waits-first net v1) answers = HighBit net answers
+SessionHighBit (waits-second net v1 r1 v2) answers = HighBit net answers
+SessionHighBit (finished-first net v1 r1 v2) answers = HighBit net answers
+SessionHighBit (finished-second net v1 r1 v2 r2) answers = HighBit net answers
+
+-- in a session whose accepted calls leave the record
+abbrev pub InSession : SessionProgram → Session → (History → Type 0) → Type 0
+InSession program session holds = (h : History) × LeftBy program h session × holds h
+
+-- rows 4, 9 and 10 of the calls that take answers
+abbrev pub AnswerRows : SessionProgram → Session → Call → List ℕ → List (ℕ × Type 0)
+AnswerRows program session call answers =
+    (4, ¬ (WaitsFor program session call))
+    ∷ (9, InSession program session (λ h. Row9 (length (awaited-vectors h)) (length answers)))
+    ∷ (10, InSession program session (λ h. SessionHighBit h answers))
+    ∷ []
+
+abbrev pub SessionRows : SessionProgram → Session → Call → List (ℕ × Type 0)
+SessionRows program session (begin net list) = BeginRows net list
+SessionRows program session (first answers list) =
+    AnswerRows program session (first answers list) answers ++ (12, InSession program session (λ h. Row12 (length (second-words h answers)) (length list))) ∷ []
+SessionRows program session (second answers) =
+    AnswerRows program session (second answers) answers
+    ++ (14, InSession program session (λ h. ¬ ((state : List ℕ) × FitsAnswers (accepted h (second answers) []) state)))
+    ∷ []
+
+abbrev pub Rows : Programs → PublicCall → List (ℕ × Type 0)
+Rows p (check net k vectors) = SetRows net k vectors
+Rows p (respond net k vectors state list) = ResponseRows net k vectors state (length list)
+Rows p (diagnose net k vectors responses list) = DiagnosisRows net k vectors responses (length list)
+Rows p (find net state table) = FindingsRows net state (length table)
+Rows p (read file vectors responses) = ReaderRows file (length vectors) (length responses)
+Rows p (write net k vectors responses file) = WriterRows net k vectors responses (length file)
+Rows p (advance session call) = SessionRows (p .advances) session call
+Rows p (drive session one two) = []
+
+-- their numbers, as document 01 lists them
+abbrev pub session-numbers : Call → List ℕ
+session-numbers (begin net list) = 5 ∷ 12 ∷ []
+session-numbers (first answers list) = 4 ∷ 9 ∷ 10 ∷ 12 ∷ []
+session-numbers (second answers) = 4 ∷ 9 ∷ 10 ∷ 14 ∷ []
+
+abbrev pub numbers : PublicCall → List ℕ
+numbers (check net k vectors) = 5 ∷ 6 ∷ 7 ∷ 8 ∷ []
+numbers (respond net k vectors state list) = 5 ∷ 6 ∷ 7 ∷ 8 ∷ 11 ∷ 12 ∷ []
+numbers (diagnose net k vectors responses list) = 5 ∷ 6 ∷ 7 ∷ 8 ∷ 9 ∷ 10 ∷ 12 ∷ 13 ∷ 14 ∷ []
+numbers (find net state table) = 5 ∷ 11 ∷ 12 ∷ []
+numbers (read file vectors responses) = 1 ∷ 2 ∷ 3 ∷ 5 ∷ 6 ∷ 7 ∷ 8 ∷ 9 ∷ 10 ∷ 12 ∷ []
+numbers (write net k vectors responses file) = 5 ∷ 6 ∷ 7 ∷ 8 ∷ 9 ∷ 10 ∷ 12 ∷ []
+numbers (advance session call) = session-numbers call
+numbers (drive session one two) = []
+
+-- ---- what a refusal is, and what a full result is
+
+-- a list after a refusal is as it was; after a full result it begins with what was written and keeps its tail
+abbrev pub FrontWritten : {A : Type 0} → (written lent after : List A) → Type 0
+FrontWritten written lent after = after ≡ written ++ drop (length written) lent
+
+abbrev pub RefusedFill : {A : Type 0} → List A → Filled A → ℕ → Type 0
+RefusedFill lent did number = (did .returned ≡ refused number) × (did .list ≡ lent)
+
+abbrev pub FullFill : {A : Type 0} → (List A → Type 0) → List A → Filled A → Type 0
+FullFill {A} result lent did = (written : List A) × result written × (did .returned ≡ full (length written)) × FrontWritten written lent (did .list)
+
+abbrev pub FullRead : (file vectors responses : List ℕ) → ReadDone → Type 0
+FullRead file vectors responses did =
+    let job = content file in
+    (did .returned ≡ full (record { network = job .network; class = job .class; vectors = length (job .vectors); responses = length (job .responses) }))
+    × FrontWritten (job .vectors) vectors (did .vectors)
+    × FrontWritten (job .responses) responses (did .responses)
+
+-- an accepted call leaves the record in the session that it makes of the one before; begin takes any record
+abbrev pub Before : SessionProgram → Session → Call → History → Type 0
+Before program session (begin net list) h = Unit {0}
+Before program session (first answers list) h = LeftBy program h session
+Before program session (second answers) h = LeftBy program h session
+
+abbrev pub FullAdvance : SessionProgram → Session → Call → Type 0
+FullAdvance program session call =
+    let did = program session call in
+    (h : History)
+    × (written : List ℕ)
+    × Before program session call h
+    × Written h call written
+    × (did .answer ≡ full written)
+    × FrontWritten written (lent call) (did .list)
+    × LeftBy program (accepted h call written) (did .session)
+
+-- this number, and all memory lent as it was
+abbrev pub RefusedWith : Programs → PublicCall → ℕ → Type 0
+RefusedWith p (check net k vectors) number = p .checks net k vectors ≡ refused number
+RefusedWith p (respond net k vectors state list) number = RefusedFill list (p .responds net k vectors state list) number
+RefusedWith p (diagnose net k vectors responses list) number = RefusedFill list (p .diagnoses net k vectors responses list) number
+RefusedWith p (find net state table) number = RefusedFill table (p .finds net state table) number
+RefusedWith p (read file vectors responses) number =
+    let did = p .reads file vectors responses in
+    (did .returned ≡ refused number) × (did .vectors ≡ vectors) × (did .responses ≡ responses)
+RefusedWith p (write net k vectors responses file) number = RefusedFill file (p .writes net k vectors responses file) number
+RefusedWith p (advance session call) number =
+    let did = p .advances session call in
+    (did .answer ≡ refused number) × (did .list ≡ lent call) × (did .session ≡ session)
+RefusedWith p (drive session one two) number = ⊥
+
+-- the whole result, and a longer list keeps its tail
+abbrev pub FullResult : Programs → PublicCall → Type 0
+FullResult p (check net k vectors) = (verdict : Verdict) × Rule net k vectors verdict × (p .checks net k vectors ≡ full verdict)
+FullResult p (respond net k vectors state list) = FullFill (Response net state vectors) list (p .responds net k vectors state list)
+FullResult p (diagnose net k vectors responses list) = FullFill (Fits net k vectors responses) list (p .diagnoses net k vectors responses list)
+FullResult p (find net state table) = FullFill (Findings net state) table (p .finds net state table)
+FullResult p (read file vectors responses) = FullRead file vectors responses (p .reads file vectors responses)
+FullResult p (write net k vectors responses file) = FullFill (λ bytes. bytes ≡ file-of net k vectors responses) file (p .writes net k vectors responses file)
+FullResult p (advance session call) = FullAdvance (p .advances) session call
+FullResult p (drive session one two) = DrivesNext (p .advances) session one two (p .drives session one two)
+
+-- ---- demand 1, whole
+
+-- the number of the first row that holds
+abbrev pub FirstRow : List (ℕ × Type 0) → ℕ → Type 0
+FirstRow [] number = ⊥
+FirstRow ((row, holds) ∷ rows) number = (holds × (number ≡ row)) ⊎ ((¬ holds) × FirstRow rows number)
+
+abbrev pub RefusedOrFull : Programs → PublicCall → Type 0
+RefusedOrFull p call = ((number : ℕ) × FirstRow (Rows p call) number × RefusedWith p call number) ⊎ (NoneHolds (Rows p call) × FullResult p call)
+
+pub record Demand1 (p : Programs) : Type 0 where
+  pub each-call : (call : PublicCall) → RefusedOrFull p call
+  pub by-its-rows : (call : PublicCall) → map (λ (row : ℕ × Type 0). row .0) (Rows p call) ≡ numbers call

@@ -1,0 +1,154 @@
+-- What the report's parts say of one another: the reader's answer and the diagnosis, and how long line one is.
+use Prim.Native.Nat.{ℕ, _≤_}
+use native.Mathlib.Omega.{arith}
+use mathlib.Core.Path.{_≡_, refl, sym, ap, ap₂, _∙_, subst, subst₂}
+use mathlib.Core.Logic.{_≢_, inl, inr}
+use mathlib.Core.List.{List, [], _∷_}
+use lib.ListN.{length, take, replicate, length-append}
+use Rattle.words.specs.Answers.{Answer, refused, full, ByTable, NoneHolds, lent-after, count-of}
+use Rattle.words.proofs.Classes.{ones-at-most}
+use Rattle.words.proofs.Answers.{table-full, front-written, written-fits, counted-refused, counted-full}
+use Rattle.network.specs.declared.Network.{Network}
+use Rattle.network.specs.States.{State, Fits}
+use Rattle.network.specs.Rows.{SetRows}
+use Rattle.checker.specs.declared.Verdict.{Verdict}
+use Rattle.checker.specs.declared.Verdict.the-variants.{Pass, Pair}
+use Rattle.diagnosis.specs.declared.Diagnosed.{Diagnosed}
+use Rattle.diagnosis.specs.declared.Diagnosed.the-variants.{Wrote, Refused}
+use Rattle.diagnosis.specs.Diagnosis.{DiagnosisRows, diagnosis-answer, meaning}
+use Rattle.diagnosis.proofs.Answering.{diagnosis-by-table}
+use Rattle.jobfile.specs.declared.Job.{Job}
+use Rattle.jobfile.specs.declared.ReadJob.{ReadJob}
+use Rattle.jobfile.specs.declared.ReadJob.the-variants.{Content, Refused as Stopped}
+use Rattle.jobfile.specs.Reader.{JobContent, content, ReaderRows, read-answer, vectors-read, responses-read, counted, read-meaning}
+use Rattle.jobfile.proofs.ReaderLaws.{read-by-table}
+use Rattle.listing.specs.Decimal.{spaced, numbers-end}
+use Rattle.listing.specs.Report.{refused-line, verdict-line, diagnosis-text, responses-text, content-text, job-text, report}
+use Rattle.listing.proofs.Numerals.{decimal-most}
+
+-- ---- the diagnosis
+
+-- a state of any class is one of class n
+wider : (net : Network) (k : ℕ) (state : List ℕ) → State net k state → State net (net .nets) state
+wider net k state s = record {
+  size = s .size;
+  reach = λ i l. record { inside = s .reach i l .inside; few = ones-at-most (net .nets) _ };
+  meet-only-if-equal = s .meet-only-if-equal;
+}
+
+module _ (net : Network) (k : ℕ) (vectors responses lent list : List ℕ) (answer : Diagnosed) where
+  abbrev outcome : Answer (List ℕ)
+  outcome = diagnosis-answer net k vectors responses (length lent)
+
+  pub diagnosis-refused : (number : ℕ) → meaning answer ≡ count-of outcome → answer ≡ Refused number → outcome ≡ refused number
+  diagnosis-refused number e r = counted-refused outcome number (sym e ∙ ap meaning r)
+
+  -- an accepted diagnosis: what was written is a state
+  pub diagnosis-wrote : (count : ℕ) → meaning answer ≡ count-of outcome → list ≡ lent-after outcome lent → answer ≡ Wrote count
+      → (outcome ≡ full (take (net .nets) list)) × State net (net .nets) (take (net .nets) list)
+  diagnosis-wrote count e l w =
+      let found = counted-full outcome count (sym e ∙ ap meaning w) in
+      let state : List ℕ = found .0 in
+      let fits : Fits net k vectors responses state =
+      table-full (Fits net k vectors responses) (DiagnosisRows net k vectors responses (length lent)) state
+      (subst (ByTable (DiagnosisRows net k vectors responses (length lent)) (Fits net k vectors responses)) (found .1) (diagnosis-by-table net k vectors responses (length lent))) in
+      let front : take (net .nets) list ≡ state =
+      ap (λ (a : List ℕ). take (net .nets) a) (l ∙ ap (λ (a : Answer (List ℕ)). lent-after a lent) (found .1))
+      ∙ ap (λ (n : ℕ). take n (lent-after (full state) lent)) (sym (fits .of-class .size))
+      ∙ front-written state lent in
+      (found .1 ∙ ap full (sym front), subst (State net (net .nets)) (sym front) (wider net k state (fits .of-class)))
+
+-- ---- line one
+
+-- it has at most 110 bytes
+pub verdict-most : (net : Network) (k count : ℕ) (verdict : Verdict) → length (verdict-line net k count verdict) ≤ 110
+unfolding verdict-line numbers-end
+verdict-most net k count Pass =
+    let a = decimal-most (net .nets) in
+    let b = decimal-most k in
+    let c = decimal-most count in
+    let one = length-append (spaced (net .nets)) (numbers-end (k ∷ count ∷ [])) in
+    let two = length-append (spaced k) (numbers-end (count ∷ [])) in
+    let three = length-append (spaced count) (numbers-end []) in
+    omega arith
+verdict-most net k count (Pair x y) =
+    let a = decimal-most (net .nets) in
+    let b = decimal-most k in
+    let c = decimal-most count in
+    let d = decimal-most x in
+    let e = decimal-most y in
+    let one = length-append (spaced (net .nets)) (numbers-end (k ∷ count ∷ x ∷ y ∷ [])) in
+    let two = length-append (spaced k) (numbers-end (count ∷ x ∷ y ∷ [])) in
+    let three = length-append (spaced count) (numbers-end (x ∷ y ∷ [])) in
+    let four = length-append (spaced x) (numbers-end (y ∷ [])) in
+    let five = length-append (spaced y) (numbers-end []) in
+    omega arith
+
+-- ---- what follows it
+
+module _ (net : Network) (k : ℕ) (vectors : List ℕ) where
+  pub nothing-follows : (responses : List ℕ) → length responses ≡ 0 → responses-text net k vectors responses ≡ []
+  nothing-follows [] e = refl
+  nothing-follows (word ∷ words) e = absurd (omega arith)
+
+  pub diagnosis-follows : (responses : List ℕ) → length responses ≢ 0
+      → responses-text net k vectors responses ≡ diagnosis-text net (diagnosis-answer net k vectors responses 48)
+  diagnosis-follows [] e = absurd (e refl)
+  diagnosis-follows (word ∷ words) e = refl
+
+-- ---- the reader's answer
+
+-- what the report knows of a file that was read, and of the two lists
+pub record ReadContent (file : List ℕ) (job : Job) (vectors responses : List ℕ) : Type 0 where
+  pub vectors-room : job .vectors ≤ length vectors
+  pub responses-room : job .responses ≤ length responses
+  pub admitted : NoneHolds (SetRows (job .network) (job .class) (take (job .vectors) vectors))
+  pub text : report file ≡ content-text (job .network) (job .class) (take (job .vectors) vectors) (take (job .responses) responses)
+
+pub read-refused : (file : List ℕ) (answer : ReadJob) (number : ℕ) → answer ≡ Stopped number → read-meaning answer ≡ counted (read-answer file 64 64)
+    → report file ≡ refused-line number
+unfolding report
+read-refused file answer number r e = ap job-text (stopped (read-answer file 64 64) (sym e ∙ ap read-meaning r))
+  where
+    stopped : (a : Answer JobContent) → counted a ≡ refused number → a ≡ refused number
+    stopped (refused other) q = let same : other ≡ number = cc in ap refused same
+    stopped (full job) q = absurd (let z : _≡_ {A = ℕ} 0 1 = cc in omega arith)
+
+-- a full result is given only where no row holds
+full-none-holds : {A : Type 0} (result : A → Type 0) (rows : List (ℕ × Type 0)) (x : A) → ByTable rows result (full x) → NoneHolds rows
+full-none-holds result [] x p = tt
+full-none-holds result ((number, holds) ∷ rows) x (inl (h, e)) = absurd (let z : _≡_ {A = ℕ} 0 1 = cc in omega arith)
+full-none-holds result ((number, holds) ∷ rows) x (inr (n, p)) = (n, full-none-holds result rows x p)
+
+module _ (file : List ℕ) where
+  -- the test set of a file that is read is admitted
+  set-admitted : (c : JobContent) → read-answer file 64 64 ≡ full c → NoneHolds (SetRows (c .network) (c .class) (c .vectors))
+  set-admitted c e =
+      let by-rows : ByTable (ReaderRows file 64 64) (λ x. x ≡ content file) (full c) =
+      subst (ByTable (ReaderRows file 64 64) (λ x. x ≡ content file)) e (read-by-table file 64 64) in
+      let set = full-none-holds (λ x. x ≡ content file) (ReaderRows file 64 64) c by-rows .1 .1 .1 in
+      subst (λ (x : JobContent). NoneHolds (SetRows (x .network) (x .class) (x .vectors))) (sym (table-full (λ x. x ≡ content file) (ReaderRows file 64 64) c by-rows))
+      (set .0, (set .1 .0, (set .1 .1 .0, (set .1 .1 .1 .0, tt))))
+
+  content-read : (job : Job) (a : Answer JobContent) → read-answer file 64 64 ≡ a → counted a ≡ full job
+      → ReadContent file job (lent-after (vectors-read a) (replicate 64 0)) (lent-after (responses-read a) (replicate 64 0))
+  unfolding report
+  content-read job (refused number) e q = absurd (let z : _≡_ {A = ℕ} 0 1 = cc in omega arith)
+  content-read job (full c) e q =
+      let same : record { network = c .network; class = c .class; vectors = length (c .vectors); responses = length (c .responses) } ≡ job = cc in
+      let vectors = front-written (c .vectors) (replicate 64 0) in
+      let responses = front-written (c .responses) (replicate 64 0) in
+      subst (λ (j : Job). ReadContent file j (lent-after (full (c .vectors)) (replicate 64 0)) (lent-after (full (c .responses)) (replicate 64 0))) same
+      (record {
+        vectors-room = written-fits (c .vectors) (replicate 64 0);
+        responses-room = written-fits (c .responses) (replicate 64 0);
+        admitted = subst (λ (v : List ℕ). NoneHolds (SetRows (c .network) (c .class) v)) (sym vectors) (set-admitted c e);
+        text = ap job-text e ∙ ap₂ (λ (v w : List ℕ). content-text (c .network) (c .class) v w) (sym vectors) (sym responses);
+      })
+
+pub read-content : (file : List ℕ) (answer : ReadJob) (job : Job) (vectors responses : List ℕ) → answer ≡ Content job
+    → read-meaning answer ≡ counted (read-answer file 64 64)
+    → vectors ≡ lent-after (vectors-read (read-answer file 64 64)) (replicate 64 0)
+    → responses ≡ lent-after (responses-read (read-answer file 64 64)) (replicate 64 0) → ReadContent file job vectors responses
+read-content file answer job vectors responses r e v w =
+    subst₂ (λ (a b : List ℕ). ReadContent file job a b) (sym v) (sym w) (content-read file job (read-answer file 64 64) refl (sym e ∙ ap read-meaning r))

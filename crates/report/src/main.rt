@@ -1,0 +1,44 @@
+// The report on the job file that standard input holds.
+ghost use lib.ListN.{length};
+ghost use Rattle.report.specs.Input.{Within};
+
+// How many bytes were read, or that a read failed.
+enum Input {
+    Bytes(usize),
+    Failed,
+}
+
+// Reads to the end of standard input, or until the buffer is full, in as many reads as it takes.
+fn read_input(buffer: &mut [u8]) -> Input
+    ensures { λ r. ⌜ Within r (length (now (buffer .entry))) ⌝ }
+{
+    let mut count: usize = 0;
+    while count < buffer.len() {
+        let got = libc::read(0, &mut buffer[count..]);
+        if got < 0 {
+            return Input::Failed;
+        }
+        let more = io::count(got, &buffer[count..]);
+        if more == 0 {
+            return Input::Bytes(count);
+        }
+        count += more;
+    }
+    Input::Bytes(count)
+}
+
+// A job file has at most 2,048 bytes: one more is enough to tell that a file has too many.
+fn main() {
+    let mut file = [0u8; 2049];
+    let input = read_input(&mut file);
+    let Input::Bytes(size) = input else {
+        io::write_all(2, b"report: standard input cannot be read\n");
+        return;
+    };
+    let text = listing::report(&file[..size]);
+    let count = text.count;
+    let bytes = text.bytes;
+    if !io::write_all(1, &bytes[..count]) {
+        io::write_all(2, b"report: standard output cannot be written\n");
+    }
+}
