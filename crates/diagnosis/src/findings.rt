@@ -72,7 +72,7 @@ fn finding_at(net: Network, state: &[u64], i: usize) -> Finding
 }
 
 // The first of rows 5, 11 and 12 that holds, or 0.
-fn table_refusal(net: Network, state: &[u64], room: usize) -> u64
+pub fn table_refusal(net: Network, state: &[u64], room: usize) -> u64
     ensures { λ r. ⌜ table-meaning net r ≡ count-of (findings-answer net (now (state .entry)) room) ⌝ }
 {
     if network::refusals::bad_net_count(net) {

@@ -5,14 +5,11 @@ use mathlib.Core.Path.{_≡_, sym, ap, ap₂, _∙_}
 use mathlib.Core.List.{List, [], _∷_}
 use lib.ListN.{length, drop, drop-of-length-le}
 use lib.Seq.{drop-cons}
-use Rattle.words.specs.Turning.{tabulate}
-use Rattle.words.proofs.Making.{map-at}
-use Rattle.words.proofs.Columns.{length-tabulate, tabulate-at}
 use Rattle.network.specs.declared.Network.{Network}
 use Rattle.diagnosis.specs.declared.Finding.{Finding}
 use Rattle.diagnosis.specs.Findings.{finding}
 use Rattle.diagnosis.specs.FindingsTable.{findings}
-use Rattle.diagnosis.proofs.Tabling.{findings-size}
+use Rattle.diagnosis.proofs.Tabling.{findings-size, findings-is}
 use Rattle.jobfile.specs.Bytes.{written}
 use Rattle.jobfile.proofs.ByteLaws.{written-none, written-more}
 use Rattle.exports.specs.Exported.{finding-words}
@@ -23,14 +20,10 @@ three found = found .kind ∷ found .reach ∷ found .partners ∷ []
 module _ (net : Network) (state : List ℕ) (i : ℕ) where
   -- the records from net i on
   from-net : i < length state → drop i (findings net state) ≡ finding net state i ∷ drop (suc i) (findings net state)
-  unfolding findings
   from-net l =
-      let nets = tabulate (length state) (λ j. j) in
       let size = findings-size net state in
       let other : Finding = record { kind = 0; reach = 0; partners = 0 } in
-      drop-cons (findings net state) i other (omega arith)
-      ∙ ap (λ (found : Finding). found ∷ drop (suc i) (findings net state))
-      (map-at (finding net state) other nets i (rw (length-tabulate (length state) (λ j. j)) l) ∙ ap (finding net state) (tabulate-at (length state) (λ j. j) i l))
+      drop-cons (findings net state) i other (omega arith) ∙ ap (λ (found : Finding). found ∷ drop (suc i) (findings net state)) (findings-is net state .found i l other)
 
   module _ (table : List ℕ) where
     pub findings-turn : (found : Finding) (next : List ℕ) → found ≡ finding net state i → next ≡ written table (3 * i) (three found) → i < length state → 3 * i ≤ length table

@@ -89,7 +89,7 @@ pub extern "C" fn fontarelga_findings(nets: u64, state: &[u64], table: &mut [u64
     ensures table { λ r. ⌜ now (table .exit) ≡ lent-after (in-words finding-words (findings-exported nets (now (state .entry)) (length (now (table .entry))))) (now (table .entry)) ⌝ }
 {
     let net = Network { nets: nets };
-    let code = table::refusal(net, state, table.len() / 3);
+    let code = diagnosis::findings::table_refusal(net, state, table.len() / 3);
     if code != 0 {
         return code;
     }

@@ -1,28 +1,12 @@
-// The findings of a state, 3 words a net. `put_findings` is a helper: it asks for what `refusal` has tested.
+// The findings of a state, 3 words a net. A helper: it asks for what rows 5, 11 and 12 have tested.
 ghost use mathlib.Core.Path.{_≡_};
 ghost use Prim.Native.Nat.{_*_, _≤_};
 ghost use lib.ListN.{length};
 ghost use Rattle.network.specs.States.{State};
-ghost use Rattle.diagnosis.specs.FindingsTable.{findings, «findings-answer», «table-meaning»};
-ghost use Rattle.words.specs.Answers.{full, «count-of», «lent-after»};
+ghost use Rattle.diagnosis.specs.FindingsTable.{findings};
+ghost use Rattle.words.specs.Answers.{full, «lent-after»};
 ghost use Rattle.exports.specs.Exported.{«finding-words»};
 use network::Network;
-
-// The first of rows 5, 11 and 12 that holds, or 0.
-pub fn refusal(net: Network, state: &[u64], room: usize) -> u64
-    ensures { λ r. ⌜ table-meaning net r ≡ count-of (findings-answer net (now (state .entry)) room) ⌝ }
-{
-    if network::refusals::bad_net_count(net) {
-        return 5;
-    }
-    if network::refusals::not_a_state(net, net.nets, state) {
-        return 11;
-    }
-    if network::refusals::no_room(net.nets as usize, room) {
-        return 12;
-    }
-    0
-}
 
 // Kind, reach and partners of each net into the front of `table`.
 pub fn put_findings(net: Network, state: &[u64], table: &mut [u64])

@@ -8,21 +8,21 @@ use Rattle.exports.proofs.Owing.{code-refused, words-refused, code-full
 use Rattle.exports.proofs.fontarelga_findings.Statement.{statement}
 use Rattle.exports.proofs.fontarelga_findings.Tie as tie
 
-refusal-requires : tie.Need-refusal-requires
-refusal-requires c κs = search needs
+table-refusal-requires : tie.Need-table-refusal-requires
+table-refusal-requires c κs = search needs
 
 returns : tie.Need-returns
 returns c =
     let r = c .before in
     let a = r .before .before .before .args in
-    let e = table-refused (network-of (a .nets)) (a .state .now) (length (a .table .now) / 3) (r .refusal .result) (c .if1 .taken) (r .refusal .ensures) in
+    let e = table-refused (network-of (a .nets)) (a .state .now) (length (a .table .now) / 3) (r .table-refusal .result) (c .if1 .taken) (r .table-refusal .ensures) in
     (code-refused _ _ e, words-refused _ _ e finding-words (a .table .now))
 
 put-findings-requires : tie.Need-put-findings-requires
 put-findings-requires c κs =
     let r = c .before .before in
     let a = r .before .before .before .args in
-    let ok = table-accepted (record { nets = a .nets }) (a .state .now) (length (a .table .now) / 3) (r .refusal .result) (c .before .if1 .left) (r .refusal .ensures) in
+    let ok = table-accepted (record { nets = a .nets }) (a .state .now) (length (a .table .now) / 3) (r .table-refusal .result) (c .before .if1 .left) (r .table-refusal .ensures) in
     let fits = ok .fits in
     (ok .few, ok .is-state, omega arith)
 
@@ -34,9 +34,9 @@ returns-2 c =
     let p = c .before .before in
     let r = p .before .before .before in
     let a = r .before .before .before .args in
-    let ok = table-accepted (network-of (a .nets)) (a .state .now) (length (a .table .now) / 3) (r .refusal .result) (p .before .before .if1 .left) (r .refusal .ensures) in
+    let ok = table-accepted (network-of (a .nets)) (a .state .now) (length (a .table .now) / 3) (r .table-refusal .result) (p .before .before .if1 .left) (r .table-refusal .ensures) in
     (code-full _ _ (ok .answer), words-full _ _ (ok .answer) finding-words (a .table .now) _ (p .put-findings .ensures))
 
 pub fontarelga-findings-spec : {M : Type 1} → statement M
 fontarelga-findings-spec =
-    tie.close (tie.spec refusal-requires returns put-findings-requires same-length returns-2)
+    tie.close (tie.spec table-refusal-requires returns put-findings-requires same-length returns-2)
