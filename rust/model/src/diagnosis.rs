@@ -1,7 +1,7 @@
 //! Reading back: the state that fits a response, and the findings.
 
 use crate::checker::{check, sets_of_class, Verdict};
-use crate::network::{all_states, bit, extended, is_state, meet_and_differ, read_along, response, word_of};
+use crate::network::{all_states, bit, extended, is_state, meet_and_differ, reads, response, word_of};
 use crate::rows::{bad_net_count, bad_state, rows_of_responses, rows_of_set, Rows};
 
 /// A record of the findings.
@@ -28,8 +28,8 @@ pub fn fitting_by_receivers(n: u64, k: u64, vectors: &[u64], responses: &[u64]) 
     let sets = sets_of_class(n, k);
     let mut fronts = vec![Vec::new()];
     for receiver in 0..n {
-        let answered = word_of(responses.iter().map(|word| bit(*word, receiver)));
-        let reaches: Vec<u64> = sets.iter().copied().filter(|set| read_along(*set, vectors) == answered).collect();
+        let reads_so = |set: u64| vectors.iter().zip(responses).all(|(v, word)| reads(set, *v) == bit(*word, receiver));
+        let reaches: Vec<u64> = sets.iter().copied().filter(|set| reads_so(*set)).collect();
         fronts = joined(&fronts, &reaches);
     }
     fronts
