@@ -29,10 +29,6 @@ impl<T: Clone + PartialEq + Debug> Lent<T> {
         &mut self.now
     }
 
-    pub fn now(&self) -> &[T] {
-        &self.now
-    }
-
     /// The front is what was written, and the tail is as it was. After a refusal nothing was written.
     pub fn assert_holds(&self, written: &[T], of: &dyn Debug) {
         assert_eq!(&self.now[..written.len()], written, "written: {of:?}");
