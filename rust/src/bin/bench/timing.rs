@@ -2,7 +2,7 @@
 
 use std::time::{Duration, Instant};
 
-const ROUNDS: usize = 15;
+const ROUNDS: usize = 21;
 /// A round makes calls for about this long.
 const ROUND: Duration = Duration::from_millis(4);
 
@@ -24,16 +24,17 @@ fn round(version: &mut dyn FnMut(), calls: u32) -> f64 {
     start.elapsed().as_secs_f64() / f64::from(calls)
 }
 
-/// The least time of a call of each version, measured in turn round by round.
-fn measure(versions: &mut [Version]) -> Vec<f64> {
+/// The times of a call of each version, a list a round. The versions take turns within a round.
+fn measure(versions: &mut [Version]) -> Vec<Vec<f64>> {
     let calls: Vec<u32> = versions.iter_mut().map(|(_, version)| calls_a_round(version)).collect();
-    let mut best = vec![f64::INFINITY; versions.len()];
-    for _ in 0..ROUNDS {
-        for (i, (_, version)) in versions.iter_mut().enumerate() {
-            best[i] = best[i].min(round(version, calls[i]));
-        }
-    }
-    best
+    let one_round = |_| versions.iter_mut().zip(&calls).map(|((_, version), calls)| round(version, *calls)).collect();
+    (0..ROUNDS).map(one_round).collect()
+}
+
+fn median(numbers: impl Iterator<Item = f64>) -> f64 {
+    let mut numbers: Vec<f64> = numbers.collect();
+    numbers.sort_by(f64::total_cmp);
+    numbers[numbers.len() / 2]
 }
 
 fn shown(seconds: f64) -> String {
@@ -49,13 +50,16 @@ pub fn print_head() {
     println!("|---|---|---|---|---|");
 }
 
-/// Prints a line for each baseline: ours, the baseline, and the ratio of ours to it.
+/// Prints a line for each baseline: our time and its, as medians of the rounds, and the median of the rounds' ratios.
 pub fn print_lines(job: &str, ours: &mut dyn FnMut(), baselines: &mut [Version]) {
     let mut versions: Vec<Version> = vec![("ours", ours)];
     let names: Vec<String> = baselines.iter().map(|(name, _)| name.to_string()).collect();
     versions.extend(baselines.iter_mut().map(|(name, version)| (*name, &mut **version as &mut dyn FnMut())));
-    let times = measure(&mut versions);
-    for (name, time) in names.iter().zip(&times[1..]) {
-        println!("| {job} | {} | {name} | {} | {:.3} |", shown(times[0]), shown(*time), times[0] / time);
+    let rounds = measure(&mut versions);
+    let ours = shown(median(rounds.iter().map(|times| times[0])));
+    for (i, name) in (1..).zip(&names) {
+        let theirs = shown(median(rounds.iter().map(|times| times[i])));
+        let ratio = median(rounds.iter().map(|times| times[0] / times[i]));
+        println!("| {job} | {ours} | {name} | {theirs} | {ratio:.2} |");
     }
 }
