@@ -1,0 +1,31 @@
+/* Checks a test set for four nets and class 4, and prints the verdict.
+ *
+ * At the repository's root, after `rt staticlib exports`:
+ *
+ *     cc examples/c/check.c target/staticlib/libexports.a -o target/check && target/check
+ */
+
+#include "fontarelga.h"
+
+#include <inttypes.h>
+#include <stdio.h>
+
+int main(void)
+{
+    const uint64_t nets = 4, class_ = 4;
+    const uint64_t vectors[] = {0, 1, 2, 4, 8};
+    const size_t count = sizeof vectors / sizeof vectors[0];
+    uint64_t verdict[FONTARELGA_VERDICT_WORDS];
+
+    uint64_t refusal = fontarelga_check(nets, class_, vectors, count, verdict, FONTARELGA_VERDICT_WORDS);
+    if (refusal != 0) {
+        printf("refused %" PRIu64 "\n", refusal);
+        return 1;
+    }
+    if (verdict[0] == 0) {
+        printf("pass\n");
+    } else {
+        printf("pair %" PRIu64 " %" PRIu64 "\n", verdict[1], verdict[2]);
+    }
+    return 0;
+}

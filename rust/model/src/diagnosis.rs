@@ -1,0 +1,168 @@
+//! Reading back: the state that fits a response, and the findings.
+
+use crate::checker::{check, sets_of_class, Verdict};
+use crate::network::{all_states, bit, extended, is_state, meet_and_differ, reads, response, word_of};
+use crate::rows::{bad_net_count, bad_state, rows_of_responses, rows_of_set, Rows};
+
+/// A record of the findings.
+#[derive(Clone, Copy, Debug, PartialEq, Eq)]
+pub struct Finding {
+    pub kind: u64,
+    pub reach: u64,
+    pub partners: u64,
+}
+
+/// Those of the states that give exactly this response.
+pub fn fitting_among(states: &[Vec<u64>], vectors: &[u64], responses: &[u64]) -> Vec<Vec<u64>> {
+    states.iter().filter(|state| response(vectors, state) == responses).cloned().collect()
+}
+
+/// Every state of the class that gives exactly this response, from all states. For n up to 4.
+pub fn fitting_states(n: u64, k: u64, vectors: &[u64], responses: &[u64]) -> Vec<Vec<u64>> {
+    fitting_among(&all_states(n, k), vectors, responses)
+}
+
+/// The same for more nets, receiver by receiver: every set that reads as the receiver answered, joined to every front
+/// whose reaches it does not meet and differ from. Wants as many responses as vectors and no high bit.
+pub fn fitting_by_receivers(n: u64, k: u64, vectors: &[u64], responses: &[u64]) -> Vec<Vec<u64>> {
+    let sets = sets_of_class(n, k);
+    let mut fronts = vec![Vec::new()];
+    for receiver in 0..n {
+        let reads_so = |set: u64| vectors.iter().zip(responses).all(|(v, word)| reads(set, *v) == bit(*word, receiver));
+        let reaches: Vec<u64> = sets.iter().copied().filter(|set| reads_so(*set)).collect();
+        fronts = joined(&fronts, &reaches);
+    }
+    fronts
+}
+
+/// Every front with every reach after it that it can stand beside.
+fn joined(fronts: &[Vec<u64>], reaches: &[u64]) -> Vec<Vec<u64>> {
+    let mut longer = Vec::new();
+    for front in fronts {
+        for reach in reaches {
+            if !front.iter().any(|other| meet_and_differ(*reach, *other)) {
+                longer.push(extended(front, *reach));
+            }
+        }
+    }
+    longer
+}
+
+/// Class n, for any n: with vector 0 and every walking vector in the set, the answers spell out each reach.
+/// Wants a set that passes for class n.
+pub fn fitting_by_walking(n: u64, vectors: &[u64], responses: &[u64]) -> Vec<Vec<u64>> {
+    let answer_to = |vector: u64| responses[vectors.iter().position(|v| *v == vector).expect("a passed set")];
+    let reach_of = |receiver: u64| match bit(answer_to(0), receiver) {
+        true => 0,
+        false => word_of((0..n).map(|driver| bit(answer_to(1 << driver), receiver))),
+    };
+    let state: Vec<u64> = (0..n).map(reach_of).collect();
+    let fits = is_state(n, n, &state) && response(vectors, &state) == responses;
+    Vec::from_iter(fits.then_some(state))
+}
+
+/// The states of the class that fit, by the plainest of the three ways that the size allows.
+pub fn fitting(n: u64, k: u64, vectors: &[u64], responses: &[u64]) -> Vec<Vec<u64>> {
+    if n <= 3 {
+        fitting_states(n, k, vectors, responses)
+    } else if n <= 10 || k < n {
+        fitting_by_receivers(n, k, vectors, responses)
+    } else {
+        fitting_by_walking(n, vectors, responses)
+    }
+}
+
+/// Row 14. It may be asked of any input, so it says first what no state can give. Over 48 nets it is taken not to hold.
+fn no_state_fits(n: u64, k: u64, vectors: &[u64], responses: &[u64]) -> bool {
+    if n > 48 {
+        return false;
+    }
+    let shaped = rows_of_responses(n, vectors.len(), responses).admit().is_ok();
+    !shaped || fitting(n, k, vectors, responses).is_empty()
+}
+
+pub fn rows_of_diagnose<'a>(n: u64, k: u64, vectors: &'a [u64], responses: &'a [u64], room: usize) -> Rows<'a> {
+    rows_of_set(n, k, vectors)
+        .then(rows_of_responses(n, vectors.len(), responses))
+        .row(12, move || (room as u64) < n)
+        .row(13, move || check(n, k, vectors) != Ok(Verdict::Pass))
+        .row(14, move || no_state_fits(n, k, vectors, responses))
+}
+
+/// The call *diagnose*.
+pub fn diagnose(n: u64, k: u64, vectors: &[u64], responses: &[u64], room: usize) -> Result<Vec<u64>, u64> {
+    rows_of_diagnose(n, k, vectors, responses, room).admit()?;
+    Ok(only(fitting(n, k, vectors, responses)))
+}
+
+/// The one state of the list.
+pub fn only(mut states: Vec<Vec<u64>>) -> Vec<u64> {
+    assert_eq!(states.len(), 1, "a passed set leaves one state at most");
+    states.remove(0)
+}
+
+/// What is found on net i.
+pub fn finding(state: &[u64], i: usize) -> Finding {
+    let reach = state[i];
+    let open = !bit(reach, i as u64);
+    let partners = word_of((0..state.len()).map(|j| j != i && state[j] & reach != 0));
+    let kind = match (open, partners != 0) {
+        (false, false) => 0,
+        (true, false) => 1,
+        (false, true) => 2,
+        (true, true) => 3,
+    };
+    Finding { kind, reach, partners }
+}
+
+pub fn rows_of_findings(n: u64, state: &[u64], room: usize) -> Rows<'_> {
+    Rows::new()
+        .row(5, move || bad_net_count(n))
+        .row(11, move || bad_state(n, n, state))
+        .row(12, move || (room as u64) < n)
+}
+
+/// The call *findings*; room is in records.
+pub fn findings(n: u64, state: &[u64], room: usize) -> Result<Vec<Finding>, u64> {
+    rows_of_findings(n, state, room).admit()?;
+    Ok((0..state.len()).map(|i| finding(state, i)).collect())
+}
+
+#[cfg(test)]
+mod tests {
+    use super::*;
+    use crate::network::all_lists;
+
+    const WALKING: [u64; 5] = [0, 1, 2, 4, 8];
+
+    #[test]
+    fn the_papers_state_is_read_back() {
+        assert_eq!(diagnose(4, 4, &WALKING, &[4, 7, 7, 4, 12], 4), Ok(vec![3, 3, 0, 8]));
+        assert_eq!(diagnose(4, 4, &WALKING, &[4, 7, 7, 4, 4], 4), Err(14));
+    }
+
+    #[test]
+    fn the_papers_findings() {
+        let lines = findings(4, &[3, 3, 0, 8], 4).unwrap();
+        let plain: Vec<_> = lines.iter().map(|line| (line.kind, line.reach, line.partners)).collect();
+        assert_eq!(plain, [(2, 3, 2), (2, 3, 1), (1, 0, 0), (0, 8, 0)]);
+    }
+
+    #[test]
+    fn the_three_ways_to_find_a_state_agree() {
+        for k in 1..=3 {
+            let states = all_states(3, k);
+            for vectors in all_lists(8, 2) {
+                for responses in all_lists(8, 2) {
+                    let plain = fitting_among(&states, &vectors, &responses);
+                    assert_eq!(fitting_by_receivers(3, k, &vectors, &responses), plain);
+                }
+            }
+        }
+        let states = all_states(3, 3);
+        for responses in all_lists(8, 4) {
+            let plain = fitting_among(&states, &[0, 4, 1, 2], &responses);
+            assert_eq!(fitting_by_walking(3, &[0, 4, 1, 2], &responses), plain);
+        }
+    }
+}

@@ -1,0 +1,21 @@
+//! A brute-force model of document 01.
+//!
+//! It is written from the definitions alone and shares no code with the library or its wrappers. It enumerates: all
+//! driver sets, all wiring states, all answers. So it is slow and plain, and made for small boards.
+//!
+//! Each call has two functions. `rows_of_*` gives the rows of document 01's table that the call has, in order, each
+//! as a test of its own. The other gives the call's answer: the number of the first row that holds, else the full
+//! result. What a call is lent comes in as its room, the number of words that it has place for.
+
+pub mod checker;
+pub mod diagnosis;
+pub mod jobfile;
+pub mod network;
+pub mod rows;
+pub mod session;
+
+pub use checker::{check, Verdict};
+pub use diagnosis::{diagnose, findings, Finding};
+pub use jobfile::{read_job, write_job, Job};
+pub use network::respond;
+pub use session::{begin, first_answers, second_answers, to_drive, Record};

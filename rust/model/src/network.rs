@@ -1,0 +1,106 @@
+//! The network: what receivers read, and wiring states.
+
+use crate::rows::{bad_state, rows_of_set, Rows};
+
+/// Bit i of a word.
+pub fn bit(word: u64, i: u64) -> bool {
+    i < 64 && (word >> i) & 1 == 1
+}
+
+/// What a receiver with this reach reads on a vector.
+pub fn reads(reach: u64, vector: u64) -> bool {
+    let floats = reach == 0;
+    let driven = reach & vector != 0;
+    floats || driven
+}
+
+/// What a receiver with this reach reads on every vector, as a sequential word.
+pub fn read_along(reach: u64, vectors: &[u64]) -> u64 {
+    assert!(vectors.len() <= 64, "a sequential word has 64 bits");
+    word_of(vectors.iter().map(|vector| reads(reach, *vector)))
+}
+
+/// The word with these bits, bit 0 first.
+pub fn word_of(bits: impl Iterator<Item = bool>) -> u64 {
+    bits.enumerate().map(|(i, bit)| u64::from(bit) << i).sum()
+}
+
+/// The response of a state: a parallel word a vector.
+pub fn response(vectors: &[u64], state: &[u64]) -> Vec<u64> {
+    vectors.iter().map(|vector| word_of(state.iter().map(|reach| reads(*reach, *vector)))).collect()
+}
+
+/// Do two reaches break the rule on states: neither empty, a driver in common, and different?
+pub fn meet_and_differ(one: u64, other: u64) -> bool {
+    one != 0 && other != 0 && one & other != 0 && one != other
+}
+
+/// Is the list a wiring state of class k?
+pub fn is_state(n: u64, k: u64, state: &[u64]) -> bool {
+    state.len() as u64 == n
+        && state.iter().all(|reach| (0..64).all(|i| i < n || !bit(*reach, i)))
+        && state.iter().all(|reach| u64::from(reach.count_ones()) <= k)
+        && state.iter().all(|one| state.iter().all(|other| !meet_and_differ(*one, *other)))
+}
+
+/// All wiring states of class k, from all ways to give each of n receivers a set of drivers. For n up to 4.
+pub fn all_states(n: u64, k: u64) -> Vec<Vec<u64>> {
+    assert!(n <= 4, "too many assignments");
+    let mut assignments = vec![Vec::new()];
+    for _ in 0..n {
+        assignments = assignments.iter().flat_map(|front| (0..1 << n).map(|reach| extended(front, reach))).collect();
+    }
+    assignments.retain(|state| is_state(n, k, state));
+    assignments
+}
+
+/// A list and one word more.
+pub fn extended(front: &[u64], word: u64) -> Vec<u64> {
+    let mut list = front.to_vec();
+    list.push(word);
+    list
+}
+
+/// All lists of `length` words below `limit`.
+pub fn all_lists(limit: u64, length: usize) -> Vec<Vec<u64>> {
+    let mut lists = vec![Vec::new()];
+    for _ in 0..length {
+        lists = lists.iter().flat_map(|front| (0..limit).map(|word| extended(front, word))).collect();
+    }
+    lists
+}
+
+pub fn rows_of_respond<'a>(n: u64, k: u64, vectors: &'a [u64], state: &'a [u64], room: usize) -> Rows<'a> {
+    rows_of_set(n, k, vectors).row(11, move || bad_state(n, k, state)).row(12, move || room < vectors.len())
+}
+
+/// The call *response from a state*.
+pub fn respond(n: u64, k: u64, vectors: &[u64], state: &[u64], room: usize) -> Result<Vec<u64>, u64> {
+    rows_of_respond(n, k, vectors, state, room).admit()?;
+    Ok(response(vectors, state))
+}
+
+#[cfg(test)]
+mod tests {
+    use super::*;
+
+    #[test]
+    fn the_example_state_answers_as_the_paper_says() {
+        assert_eq!(response(&[0, 1, 2, 4, 8], &[3, 3, 0, 8]), [4, 7, 7, 4, 12]);
+        assert_eq!(response(&[11, 5, 6, 8], &[3, 3, 0, 8]), [15, 7, 7, 12]);
+    }
+
+    #[test]
+    fn an_empty_reach_reads_one() {
+        assert!(reads(0, 0));
+        assert!(!reads(1, 2));
+    }
+
+    #[test]
+    fn states_of_two_nets_counted_by_hand() {
+        // Each receiver has one of 0, 1, 2, 3. Of the 16 pairs, 3 beside 1 or 2, in either order, is no state.
+        assert_eq!(all_states(2, 2).len(), 12);
+        // Without 3, all 9 pairs of 0, 1, 2.
+        assert_eq!(all_states(2, 1).len(), 9);
+    }
+}

@@ -1,0 +1,201 @@
+//! The library's calls against plain Rust versions of the same jobs, measured in one run.
+//!
+//! Every job is first done by both sides and the results compared. A ratio below 1 means that the library is faster.
+
+mod plain;
+mod timing;
+
+use fontarelga::raw;
+use plain::checker::{hash, pairs};
+use std::hint::black_box;
+use timing::{print_head, print_lines};
+
+const N: u64 = 48;
+const SESSIONS: usize = 1000;
+
+/// A small generator (splitmix64).
+struct Generator(u64);
+
+impl Generator {
+    fn word(&mut self) -> u64 {
+        self.0 = self.0.wrapping_add(0x9E37_79B9_7F4A_7C15);
+        let mut z = self.0;
+        z = (z ^ (z >> 30)).wrapping_mul(0xBF58_476D_1CE4_E5B9);
+        z = (z ^ (z >> 27)).wrapping_mul(0x94D0_49BB_1331_11EB);
+        z ^ (z >> 31)
+    }
+
+    fn below(&mut self, limit: usize) -> usize {
+        (self.word() % limit as u64) as usize
+    }
+
+    /// A vector of N bits, a quarter of them 1.
+    fn sparse(&mut self) -> u64 {
+        self.word() & self.word() & (u64::MAX >> (64 - N))
+    }
+
+    /// A state of class k: drivers in groups of at most k; each receiver has its own driver's group, another, or none.
+    fn state(&mut self, k: u64) -> Vec<u64> {
+        let mut groups: Vec<u64> = Vec::new();
+        for driver in 0..N {
+            let place = self.below(2 * N as usize);
+            match groups.get_mut(place) {
+                Some(group) if u64::from(group.count_ones()) < k => *group |= 1 << driver,
+                _ => groups.push(1 << driver),
+            }
+        }
+        let own = |i: u64| groups.iter().copied().find(|group| group >> i & 1 == 1).expect("a group for each driver");
+        let reach = |i: u64, choice: usize| match choice {
+            0 => 0,
+            1 => groups[i as usize % groups.len()],
+            _ => own(i),
+        };
+        (0..N).map(|i| reach(i, self.below(10))).collect()
+    }
+}
+
+/// Vector 0 and the walking vectors.
+fn walking() -> Vec<u64> {
+    std::iter::once(0).chain((0..N).map(|i| 1 << i)).collect()
+}
+
+/// Measures the check of one set for one class.
+fn bench_check(set: &str, vectors: &[u64], k: u64) {
+    let (mut ours, mut theirs) = ([7; 3], [7; 3]);
+    assert_eq!(raw::check(N, k, vectors, &mut ours), plain::checker::check(pairs, N, k, vectors, &mut theirs));
+    assert_eq!(ours, theirs);
+    assert_eq!(plain::checker::check(hash, N, k, vectors, &mut theirs), 0);
+    assert_eq!(ours, theirs);
+    let verdict = if ours[0] == 0 { "pass" } else { "pair" };
+    let mut by_pairs = [0; 3];
+    let mut call = || {
+        black_box(raw::check(N, k, black_box(vectors), black_box(&mut ours)));
+    };
+    let mut call_hash = || {
+        black_box(plain::checker::check(hash, N, k, black_box(vectors), black_box(&mut theirs)));
+    };
+    let mut call_pairs = || {
+        black_box(plain::checker::check(pairs, N, k, black_box(vectors), black_box(&mut by_pairs)));
+    };
+    let job = format!("check, k = {k}, {set}: {verdict}");
+    if k == N {
+        print_lines(&job, &mut call, &mut [("rule", &mut call_hash)]);
+    } else {
+        print_lines(&job, &mut call, &mut [("pairs", &mut call_pairs), ("hash", &mut call_hash)]);
+    }
+}
+
+fn bench_diagnosis(k: u64, g: &mut Generator) {
+    let vectors = walking();
+    let state = g.state(k);
+    let responses: Vec<u64> = vectors.iter().map(|vector| plain::read(&state, *vector)).collect();
+    let (mut ours, mut theirs) = ([7; N as usize], [7; N as usize]);
+    assert_eq!(raw::diagnose(N, k, &vectors, &responses, &mut ours), 0);
+    assert_eq!(plain::diagnosis::diagnose(N, k, &vectors, &responses, &mut theirs), 0);
+    assert_eq!((&ours[..], ours), (&state[..], theirs));
+    let (vectors, responses) = (&vectors[..], &responses[..]);
+    let mut call = || {
+        black_box(raw::diagnose(N, k, black_box(vectors), black_box(responses), black_box(&mut ours)));
+    };
+    let mut call_plain = || {
+        let lent = black_box(&mut theirs);
+        black_box(plain::diagnosis::diagnose(N, k, black_box(vectors), black_box(responses), lent));
+    };
+    let name = if k == N { "plain" } else { "hash" };
+    print_lines(&format!("diagnosis, k = {k}, walking"), &mut call, &mut [(name, &mut call_plain)]);
+}
+
+/// The three calls of a session, ours or the plain ones.
+struct Calls {
+    begin: fn(&mut [u64], u64, &mut [u64]) -> u64,
+    first: fn(&mut [u64], &[u64], &mut [u64]) -> u64,
+    second: fn(&mut [u64], &[u64]) -> u64,
+}
+
+const OURS: Calls = Calls { begin: raw::begin, first: raw::first_answers, second: raw::second_answers };
+const PLAIN: Calls = Calls {
+    begin: plain::session::begin,
+    first: plain::session::first_answers,
+    second: plain::session::second_answers,
+};
+
+/// The answers that a board gives in both steps.
+struct Board {
+    first: Vec<u64>,
+    second: Vec<u64>,
+}
+
+fn board(state: &[u64]) -> Board {
+    let (mut session, mut first, mut second) = ([0; 59], [0; 8], [0; 49]);
+    let read = |vectors: &[u64]| vectors.iter().map(|vector| plain::read(state, *vector)).collect::<Vec<u64>>();
+    assert_eq!(plain::session::begin(&mut session, N, &mut first), 0);
+    let first = read(&first);
+    assert_eq!(plain::session::first_answers(&mut session, &first, &mut second), 0);
+    let count = second.iter().rposition(|vector| *vector != 0).map_or(0, |last| last + 1);
+    Board { first, second: read(&second[..count]) }
+}
+
+/// A whole session; gives its last record.
+fn run(calls: &Calls, board: &Board) -> [u64; 59] {
+    let (mut session, mut first, mut second) = ([0; 59], [0; 8], [0; 49]);
+    let mut numbers = (calls.begin)(&mut session, N, &mut first);
+    numbers |= (calls.first)(&mut session, &board.first, &mut second);
+    if session[0] == 2 {
+        numbers |= (calls.second)(&mut session, &board.second);
+    }
+    assert_eq!(numbers, 0);
+    session
+}
+
+fn bench_sessions(g: &mut Generator) {
+    let states: Vec<Vec<u64>> = (0..SESSIONS).map(|_| g.state(N)).collect();
+    let boards: Vec<Board> = states.iter().map(|state| board(state)).collect();
+    for (board, state) in boards.iter().zip(&states) {
+        let record = run(&OURS, board);
+        assert_eq!(record, run(&PLAIN, board));
+        assert_eq!(record[10..58], state[..]);
+    }
+    let run_all = |calls: &Calls| {
+        for board in &boards {
+            black_box(run(calls, black_box(board)));
+        }
+    };
+    print_lines("1,000 sessions", &mut || run_all(&OURS), &mut [("plain", &mut || run_all(&PLAIN))]);
+}
+
+fn bench_reader(g: &mut Generator) {
+    let mut words = || (0..64).map(|_| g.sparse()).collect::<Vec<u64>>();
+    let job = fontarelga::Job { nets: N, class: N, vectors: words(), responses: words() };
+    let file = job.write().expect("an admitted job");
+    let (mut ours, mut theirs) = (([7; 64], [7; 64], [7; 4]), ([7; 64], [7; 64], [7; 4]));
+    assert_eq!(raw::read_job(&file, &mut ours.0, &mut ours.1, &mut ours.2), 0);
+    assert_eq!(plain::job::read_job(&file, &mut theirs.0, &mut theirs.1, &mut theirs.2), 0);
+    assert_eq!(ours, theirs);
+    let mut call = || {
+        let lent = black_box(&mut ours);
+        black_box(raw::read_job(black_box(&file), &mut lent.0, &mut lent.1, &mut lent.2));
+    };
+    let mut call_plain = || {
+        let lent = black_box(&mut theirs);
+        black_box(plain::job::read_job(black_box(&file), &mut lent.0, &mut lent.1, &mut lent.2));
+    };
+    let name = format!("job reader, {} bytes", file.len());
+    print_lines(&name, &mut call, &mut [("plain", &mut call_plain)]);
+}
+
+fn main() {
+    let g = &mut Generator(2024);
+    let walking = walking();
+    let random: Vec<u64> = (0..20).map(|_| g.sparse()).collect();
+    print_head();
+    for k in [1, 2, 3, N] {
+        bench_check("walking", &walking, k);
+        bench_check("walking without the last", &walking[..N as usize], k);
+        bench_check("20 random", &random, k);
+    }
+    for k in [1, 2, 3, N] {
+        bench_diagnosis(k, g);
+    }
+    bench_sessions(g);
+    bench_reader(g);
+}

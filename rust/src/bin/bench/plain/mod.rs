@@ -1,0 +1,62 @@
+//! Plain Rust versions of the calls: the baselines. They take and are lent the same lists as the library's calls, and
+//! do the same work with the means of the standard library.
+
+pub mod checker;
+pub mod diagnosis;
+pub mod job;
+pub mod session;
+
+/// A bit at or above n in some word.
+pub fn has_high_bit(n: u64, words: &[u64]) -> bool {
+    words.iter().any(|word| word >> n != 0)
+}
+
+/// Rows 5 to 8.
+pub fn admit_set(n: u64, k: u64, vectors: &[u64]) -> Result<(), u64> {
+    if !(2..=48).contains(&n) {
+        return Err(5);
+    }
+    if !(1..=3).contains(&k) && k != n || k > n {
+        return Err(6);
+    }
+    if !(1..=64).contains(&vectors.len()) {
+        return Err(7);
+    }
+    if has_high_bit(n, vectors) {
+        return Err(8);
+    }
+    Ok(())
+}
+
+/// Rows 9 and 10.
+pub fn admit_responses(n: u64, asked: usize, responses: &[u64]) -> Result<(), u64> {
+    if responses.len() != asked {
+        return Err(9);
+    }
+    if has_high_bit(n, responses) {
+        return Err(10);
+    }
+    Ok(())
+}
+
+/// The number that a call returns.
+pub fn code(answer: Result<(), u64>) -> u64 {
+    answer.err().unwrap_or(0)
+}
+
+/// The sequential words of n nets along these parallel words.
+pub fn turned(n: u64, words: &[u64]) -> Vec<u64> {
+    let along = |i: u64| words.iter().enumerate().map(|(t, word)| (word >> i & 1) << t).sum();
+    (0..n).map(along).collect()
+}
+
+/// What the receivers of a state read on one vector.
+pub fn read(state: &[u64], vector: u64) -> u64 {
+    state.iter().enumerate().map(|(i, reach)| u64::from(*reach == 0 || reach & vector != 0) << i).sum()
+}
+
+/// No two reaches that are not empty meet and differ.
+pub fn reaches_agree(state: &[u64]) -> bool {
+    let differ = |a: &u64, b: &u64| a & b != 0 && a != b;
+    state.iter().enumerate().all(|(i, a)| state[..i].iter().all(|b| !differ(a, b)))
+}

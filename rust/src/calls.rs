@@ -1,0 +1,120 @@
+//! The calls on test sets, responses and states.
+
+use crate::interface as raw;
+use crate::{Refusal, MOST_NETS};
+
+/// The checker's answer.
+#[derive(Clone, Copy, Debug, PartialEq, Eq, Hash)]
+pub enum Verdict {
+    /// Whatever the response, at most one state of the class fits it.
+    Pass,
+    /// Two driver sets that the test set cannot tell apart: reach `a` or `b` at receiver 0, all others floating.
+    Pair { a: u64, b: u64 },
+}
+
+/// What is found on a net, by its kind.
+#[derive(Clone, Copy, Debug, PartialEq, Eq, Hash)]
+pub enum Kind {
+    /// Its own driver reaches it, and no driver reaches it and another receiver.
+    Sound = 0,
+    /// Its own driver does not reach it.
+    Open = 1,
+    /// A driver reaches it and another receiver.
+    Short = 2,
+    /// Open and short.
+    Both = 3,
+}
+
+impl Kind {
+    fn from_number(number: u64) -> Kind {
+        match number {
+            0 => Kind::Sound,
+            1 => Kind::Open,
+            2 => Kind::Short,
+            3 => Kind::Both,
+            _ => unreachable!("the library gives kinds 0 to 3"),
+        }
+    }
+}
+
+/// What is found on one net.
+#[derive(Clone, Copy, Debug, PartialEq, Eq, Hash)]
+pub struct Finding {
+    pub kind: Kind,
+    /// The drivers that reach its receiver.
+    pub reach: u64,
+    /// The other nets that one driver reaches together with this one.
+    pub partners: u64,
+}
+
+/// Can a test set tell all states of a class apart?
+///
+/// `nets` is n, 2 to 48. `class` is 1, 2, 3 or n: the most drivers that a reach may have. `vectors` has 1 to 64 words;
+/// bit i is what driver i drives.
+///
+/// Refused: 5, 6, 7, 8.
+///
+/// ```
+/// use fontarelga::{check, Verdict};
+/// assert_eq!(check(4, 4, &[0, 1, 2, 4, 8]), Ok(Verdict::Pass));
+/// assert_eq!(check(4, 4, &[1, 2, 4, 8]), Ok(Verdict::Pair { a: 0, b: 15 }));
+/// ```
+pub fn check(nets: u64, class: u64, vectors: &[u64]) -> Result<Verdict, Refusal> {
+    let mut verdict = [0; 3];
+    Refusal::from_code(raw::check(nets, class, vectors, &mut verdict))?;
+    Ok(match verdict {
+        [0, ..] => Verdict::Pass,
+        [_, a, b] => Verdict::Pair { a, b },
+    })
+}
+
+/// The response of a wiring state: a word a vector, bit i read by receiver i.
+///
+/// `state` has n words, the reaches of receivers 0 to n - 1; 0 is a receiver that floats.
+///
+/// Refused: 5, 6, 7, 8, 11.
+///
+/// ```
+/// let response = fontarelga::respond(4, 4, &[0, 1, 2, 4, 8], &[3, 3, 0, 8]);
+/// assert_eq!(response, Ok(vec![4, 7, 7, 4, 12]));
+/// ```
+pub fn respond(nets: u64, class: u64, vectors: &[u64], state: &[u64]) -> Result<Vec<u64>, Refusal> {
+    let mut response = vec![0; vectors.len()];
+    Refusal::from_code(raw::respond(nets, class, vectors, state, &mut response))?;
+    Ok(response)
+}
+
+/// The only wiring state of the class that gives exactly these responses: its n reaches.
+///
+/// `responses` has a word a vector.
+///
+/// Refused: 5, 6, 7, 8, 9, 10, 13, 14.
+///
+/// ```
+/// use fontarelga::{diagnose, Refusal};
+/// let vectors = [0, 1, 2, 4, 8];
+/// assert_eq!(diagnose(4, 4, &vectors, &[4, 7, 7, 4, 12]), Ok(vec![3, 3, 0, 8]));
+/// assert_eq!(diagnose(4, 4, &vectors, &[4, 7, 7, 4, 4]), Err(Refusal(14)));
+/// ```
+pub fn diagnose(nets: u64, class: u64, vectors: &[u64], responses: &[u64]) -> Result<Vec<u64>, Refusal> {
+    let mut state = [0; MOST_NETS];
+    Refusal::from_code(raw::diagnose(nets, class, vectors, responses, &mut state))?;
+    Ok(state[..nets as usize].to_vec())
+}
+
+/// What is found on each net of a wiring state, net 0 first.
+///
+/// Refused: 5, 11 (for class n).
+///
+/// ```
+/// use fontarelga::{findings, Finding, Kind};
+/// let found = findings(4, &[3, 3, 0, 8]).unwrap();
+/// assert_eq!(found[0], Finding { kind: Kind::Short, reach: 3, partners: 2 });
+/// assert_eq!(found[2], Finding { kind: Kind::Open, reach: 0, partners: 0 });
+/// ```
+pub fn findings(nets: u64, state: &[u64]) -> Result<Vec<Finding>, Refusal> {
+    let mut table = [0; 3 * MOST_NETS];
+    Refusal::from_code(raw::findings(nets, state, &mut table))?;
+    let record = |r: &[u64]| Finding { kind: Kind::from_number(r[0]), reach: r[1], partners: r[2] };
+    Ok(table.chunks(3).take(nets as usize).map(record).collect())
+}

@@ -1,0 +1,55 @@
+use std::error::Error;
+use std::fmt;
+
+/// A call was turned away: the number of the row that held, the first in the table's order.
+///
+/// ```
+/// let refusal = fontarelga::check(49, 1, &[1]).unwrap_err();
+/// assert_eq!(refusal.0, 5);
+/// assert_eq!(refusal.to_string(), "refused 5: net count: n below 2 or above 48");
+/// ```
+#[derive(Clone, Copy, Debug, PartialEq, Eq, Hash)]
+pub struct Refusal(pub u64);
+
+impl Refusal {
+    /// The table's words on the row: its place, and when it holds.
+    pub fn words(self) -> &'static str {
+        match self.0 {
+            1 => "file mark: first 4 bytes missing or different",
+            2 => "file contents: over 2,048 bytes, or count, table, kinds, offsets, lengths or end break the layout",
+            3 => "file bodies: nets body not 2 bytes, or another not a multiple of 8",
+            4 => "session step: the record does not wait for this call, or no accepted calls leave such a record",
+            5 => "net count: n below 2 or above 48",
+            6 => "class: k not 1, 2, 3 or n, or above n",
+            7 => "vectors: fewer than 1 or more than 64",
+            8 => "vectors: a bit at or above n",
+            9 => "responses: not as many as vectors",
+            10 => "responses: a bit at or above n",
+            11 => {
+                "wiring state: not n words, a bit at or above n, more than k drivers, \
+                 or two non-empty reaches that meet and differ"
+            }
+            12 => "lent list: shorter than the result",
+            13 => "separation: the checker does not pass the set",
+            14 => "fit: no state of the class fits",
+            99 => "a list of fixed length has another length",
+            _ => "no row of the table",
+        }
+    }
+
+    /// What a call's number says: 0 is accepted.
+    pub(crate) fn from_code(code: u64) -> Result<(), Refusal> {
+        match code {
+            0 => Ok(()),
+            number => Err(Refusal(number)),
+        }
+    }
+}
+
+impl fmt::Display for Refusal {
+    fn fmt(&self, f: &mut fmt::Formatter<'_>) -> fmt::Result {
+        write!(f, "refused {}: {}", self.0, self.words())
+    }
+}
+
+impl Error for Refusal {}

@@ -1,0 +1,125 @@
+use crate::interface as raw;
+use crate::{Refusal, MOST_NETS};
+
+/// How many words a session record has: step, nets, first answers, reaches, vectors spent.
+pub const RECORD_WORDS: usize = 59;
+/// The most vectors of step one.
+const MOST_FIRST: usize = 8;
+/// The most vectors of step two: vector 0 and one a net.
+const MOST_SECOND: usize = MOST_NETS + 1;
+
+const STEP: usize = 0;
+const NETS: usize = 1;
+const REACHES: usize = 10;
+const SPENT: usize = 58;
+
+/// What a session waits for.
+#[derive(Clone, Copy, Debug, PartialEq, Eq, Hash)]
+pub enum Waits {
+    /// The answers to the vectors of step one.
+    FirstAnswers,
+    /// The answers to the vectors of step two.
+    SecondAnswers,
+    /// Nothing: it is finished.
+    Nothing,
+}
+
+/// A session: finds any wiring state of class n in two steps, with few vectors.
+///
+/// It owns its record and the vectors of both steps. A refused call changes nothing.
+///
+/// ```
+/// use fontarelga::{Session, Waits};
+/// let mut session = Session::begin(4)?;
+/// assert_eq!(session.to_drive(), [11, 5, 6, 8]);
+/// session.first_answers(&[15, 7, 7, 12])?;
+/// assert_eq!(session.to_drive(), [0, 1, 2, 4]);
+/// session.second_answers(&[4, 7, 7, 4])?;
+/// assert_eq!(session.waits_for(), Waits::Nothing);
+/// assert_eq!(session.reaches(), Some(&[3, 3, 0, 8][..]));
+/// assert_eq!(session.spent(), Some(8));
+/// # Ok::<(), fontarelga::Refusal>(())
+/// ```
+#[derive(Clone, Debug, PartialEq, Eq)]
+pub struct Session {
+    record: [u64; RECORD_WORDS],
+    first: [u64; MOST_FIRST],
+    second: [u64; MOST_SECOND],
+}
+
+impl Session {
+    /// A session on n nets that waits for first answers.
+    ///
+    /// Refused: 5.
+    pub fn begin(nets: u64) -> Result<Session, Refusal> {
+        let mut session = Session { record: [0; RECORD_WORDS], first: [0; MOST_FIRST], second: [0; MOST_SECOND] };
+        session.begin_anew(nets)?;
+        Ok(session)
+    }
+
+    /// Begins anew, whatever the session waited for. What it was told before counts no more.
+    ///
+    /// Refused: 5.
+    pub fn begin_anew(&mut self, nets: u64) -> Result<(), Refusal> {
+        Refusal::from_code(raw::begin(&mut self.record, nets, &mut self.first))
+    }
+
+    /// Takes the answers to step one: a word a vector, in order. If a net is unclear, step two is to be driven;
+    /// otherwise the session is finished.
+    ///
+    /// Refused: 4, 9, 10.
+    pub fn first_answers(&mut self, answers: &[u64]) -> Result<(), Refusal> {
+        Refusal::from_code(raw::first_answers(&mut self.record, answers, &mut self.second))
+    }
+
+    /// Takes the answers to step two, and finishes with the only state that fits both steps.
+    ///
+    /// Refused: 4, 9, 10, 14.
+    pub fn second_answers(&mut self, answers: &[u64]) -> Result<(), Refusal> {
+        Refusal::from_code(raw::second_answers(&mut self.record, answers))
+    }
+
+    /// What the session waits for.
+    pub fn waits_for(&self) -> Waits {
+        match self.record[STEP] {
+            1 => Waits::FirstAnswers,
+            2 => Waits::SecondAnswers,
+            _ => Waits::Nothing,
+        }
+    }
+
+    /// The vectors to drive next; none if the session is finished.
+    pub fn to_drive(&self) -> &[u64] {
+        let count = raw::to_drive(&self.record, &self.first, &self.second) as usize;
+        match self.waits_for() {
+            Waits::FirstAnswers => &self.first[..count],
+            Waits::SecondAnswers => &self.second[..count],
+            Waits::Nothing => &[],
+        }
+    }
+
+    /// The number of nets.
+    pub fn nets(&self) -> u64 {
+        self.record[NETS]
+    }
+
+    /// The wiring state found, a reach a net, once the session is finished.
+    pub fn reaches(&self) -> Option<&[u64]> {
+        let nets = self.nets() as usize;
+        self.finished().then(|| &self.record[REACHES..REACHES + nets])
+    }
+
+    /// How many vectors were spent, once the session is finished.
+    pub fn spent(&self) -> Option<u64> {
+        self.finished().then(|| self.record[SPENT])
+    }
+
+    /// The 59 words of the record.
+    pub fn record(&self) -> &[u64; RECORD_WORDS] {
+        &self.record
+    }
+
+    fn finished(&self) -> bool {
+        self.waits_for() == Waits::Nothing
+    }
+}

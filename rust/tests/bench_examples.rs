@@ -1,0 +1,106 @@
+//! Document 01's bench examples, by the wrappers.
+
+use fontarelga::*;
+
+fn pair(a: u64, b: u64) -> Result<Verdict, Refusal> {
+    Ok(Verdict::Pair { a, b })
+}
+
+#[test]
+fn checker() {
+    assert_eq!(check(4, 4, &[0, 1, 2, 4, 8]), Ok(Verdict::Pass));
+    assert_eq!(check(4, 4, &[1, 2, 4, 8]), pair(0, 15));
+    assert_eq!(check(4, 4, &[0, 1, 2, 4]), pair(7, 15));
+    assert_eq!(check(4, 1, &[8, 6, 5]), Ok(Verdict::Pass));
+    assert_eq!(check(4, 2, &[8, 6, 5]), pair(3, 4));
+    assert_eq!(check(4, 1, &[3, 5, 12, 10]), Ok(Verdict::Pass));
+    assert_eq!(check(4, 2, &[3, 5, 12, 10]), pair(0, 6));
+    assert_eq!(check(2, 2, &[1, 2, 0]), Ok(Verdict::Pass));
+}
+
+/// Source document 004, table II. At class 3 nets 0, 1 and 6 together read all ones; the pair shown is another.
+#[test]
+fn table_two() {
+    let vectors = [34, 9, 49, 6, 76, 86, 96];
+    assert_eq!(check(7, 2, &vectors), Ok(Verdict::Pass));
+    assert_eq!(respond(7, 3, &vectors, &[0b100_0011, 0, 0, 0, 0, 0, 0]), Ok(vec![127; 7]));
+    assert_eq!(check(7, 3, &vectors), pair(7, 11));
+}
+
+#[test]
+fn reading_back() {
+    let vectors = [0, 1, 2, 4, 8];
+    assert_eq!(respond(4, 4, &vectors, &[3, 3, 0, 8]), Ok(vec![4, 7, 7, 4, 12]));
+    assert_eq!(diagnose(4, 4, &vectors, &[4, 7, 7, 4, 12]), Ok(vec![3, 3, 0, 8]));
+    assert_eq!(diagnose(4, 4, &vectors, &[4, 7, 7, 4, 4]), Err(Refusal(14)));
+}
+
+#[test]
+fn findings_of_the_listing() {
+    let expected = [(Kind::Short, 3, 2), (Kind::Short, 3, 1), (Kind::Open, 0, 0), (Kind::Sound, 8, 0)];
+    let expected = expected.map(|(kind, reach, partners)| Finding { kind, reach, partners });
+    assert_eq!(findings(4, &[3, 3, 0, 8]), Ok(expected.to_vec()));
+    let both = Finding { kind: Kind::Both, reach: 2, partners: 2 };
+    assert_eq!(findings(2, &[2, 2]).unwrap()[0], both);
+}
+
+#[test]
+fn session_of_four_nets() {
+    let mut session = Session::begin(4).unwrap();
+    assert_eq!((session.waits_for(), session.to_drive()), (Waits::FirstAnswers, &[11, 5, 6, 8][..]));
+    session.first_answers(&[15, 7, 7, 12]).unwrap();
+    assert_eq!((session.waits_for(), session.to_drive()), (Waits::SecondAnswers, &[0, 1, 2, 4][..]));
+    assert_eq!((session.reaches(), session.spent()), (None, None));
+    session.second_answers(&[4, 7, 7, 4]).unwrap();
+    assert_eq!((session.waits_for(), session.to_drive()), (Waits::Nothing, &[][..]));
+    assert_eq!((session.reaches(), session.spent()), (Some(&[3, 3, 0, 8][..]), Some(8)));
+}
+
+#[test]
+fn sessions_of_two_nets() {
+    let mut session = Session::begin(2).unwrap();
+    session.first_answers(&[1, 2]).unwrap();
+    assert_eq!((session.reaches(), session.spent()), (Some(&[1, 2][..]), Some(2)));
+    session.begin_anew(2).unwrap();
+    session.first_answers(&[3, 3]).unwrap();
+    session.second_answers(&[3, 3, 3]).unwrap();
+    assert_eq!((session.reaches(), session.spent()), (Some(&[0, 0][..]), Some(5)));
+}
+
+#[test]
+fn a_refused_call_leaves_the_session() {
+    let mut session = Session::begin(4).unwrap();
+    let begun = session.clone();
+    assert_eq!(session.second_answers(&[0]), Err(Refusal(4)));
+    assert_eq!(session.first_answers(&[0]), Err(Refusal(9)));
+    assert_eq!(session.begin_anew(49), Err(Refusal(5)));
+    assert_eq!(session, begun);
+}
+
+#[test]
+fn refusals() {
+    assert_eq!(check(1, 1, &[0]), Err(Refusal(5)));
+    assert_eq!(check(49, 1, &[0]), Err(Refusal(5)));
+    assert_eq!(check(5, 4, &[0]), Err(Refusal(6)));
+    assert_eq!(check(4, 4, &[0; 65]), Err(Refusal(7)));
+    assert_eq!(check(4, 4, &[16]), Err(Refusal(8)));
+    assert_eq!(respond(2, 2, &[0], &[3, 1]), Err(Refusal(11)));
+    assert_eq!(findings(2, &[3, 1]), Err(Refusal(11)));
+}
+
+/// The job of the report in document 01, through a file.
+#[test]
+fn job_of_the_listing() {
+    let job = Job { nets: 4, class: 4, vectors: vec![0, 1, 2, 4, 8], responses: vec![4, 7, 7, 4, 12] };
+    let file = job.write().unwrap();
+    assert_eq!(&file[..5], b"BSJ1\x03");
+    assert_eq!(Job::read(&file), Ok(job));
+}
+
+#[test]
+fn every_refusal_has_words() {
+    let numbers = (1..=14).chain([99]);
+    let words: std::collections::HashSet<_> = numbers.map(|number| Refusal(number).words()).collect();
+    assert_eq!(words.len(), 15);
+    assert!(!words.contains(Refusal(0).words()));
+}

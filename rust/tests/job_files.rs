@@ -1,0 +1,220 @@
+//! Job files: written and read back, damaged in every byte, cut at every length, and with sums past 2^32.
+
+mod support;
+
+use model::jobfile::{bytes_of, laid_out};
+use model::{read_job, write_job, Job};
+use support::boards::{low_bits, state};
+use support::calls::*;
+use support::generator::Generator;
+
+/// Reads with lists long enough for any job, and compares.
+fn read_agrees(file: &[u8]) -> Result<Job, u64> {
+    let answer = read_job(file, 70, 70);
+    read_job_gives(file, 70, 70, &answer);
+    answer
+}
+
+fn small_files() -> [Vec<u8>; 3] {
+    [
+        bytes_of(4, 4, &[0, 1, 2, 4, 8], &[4, 7, 7, 4, 12]),
+        bytes_of(2, 1, &[1, 3], &[]),
+        bytes_of(48, 3, &[1 << 47], &[(1 << 48) - 1]),
+    ]
+}
+
+/// A job that is admitted: any words below 2^n, with responses or without.
+fn random_job(g: &mut Generator) -> Job {
+    let n = 2 + g.below(47) as u64;
+    let classes = [1, 2, 3.min(n), n];
+    let count = 1 + g.below(64);
+    let words = |g: &mut Generator| (0..count).map(|_| g.word() & low_bits(n)).collect::<Vec<u64>>();
+    let vectors = words(g);
+    let responses = if g.once_in(3) { vec![] } else { words(g) };
+    Job { n, k: *g.pick(&classes), vectors, responses }
+}
+
+#[test]
+fn written_files_are_read_back() {
+    let g = &mut Generator::new(7);
+    for _ in 0..2000 {
+        let job = random_job(g);
+        let file = bytes_of(job.n, job.k, &job.vectors, &job.responses);
+        let longer = g.below(3);
+        write_job_gives(job.n, job.k, &job.vectors, &job.responses, file.len() + longer, &Ok(file.clone()));
+        read_job_gives(&file, job.vectors.len() + longer, job.responses.len() + longer, &Ok(job.clone()));
+        write_job_gives(job.n, job.k, &job.vectors, &job.responses, file.len() - 1, &Err(12));
+        read_job_gives(&file, job.vectors.len() - 1, 64, &Err(12));
+        if !job.responses.is_empty() {
+            read_job_gives(&file, 64, job.responses.len() - 1, &Err(12));
+        }
+    }
+}
+
+/// Whatever is lent and asked, writer and model agree.
+#[test]
+fn jobs_that_are_seldom_admitted() {
+    let g = &mut Generator::new(8);
+    let mut refused = 0;
+    for _ in 0..20_000 {
+        let n = g.below(52) as u64;
+        let k = *g.pick(&[0, 1, 2, 3, 4, n, n + 1]);
+        let bits = low_bits(*g.pick(&[n, n, n + 1, 60]));
+        let count = *g.pick(&[0, 1, 2, 3, 5, 64, 65]);
+        let vectors: Vec<u64> = (0..count).map(|_| g.word() & bits).collect();
+        let responses: Vec<u64> = (0..*g.pick(&[0, count, count, count + 1])).map(|_| g.word() & bits).collect();
+        let room = *g.pick(&[0, 20, 30, 100, 1058, 2048]);
+        let answer = write_job(n, k, &vectors, &responses, room);
+        refused += usize::from(answer.is_err());
+        write_job_gives(n, k, &vectors, &responses, room, &answer);
+        let _ = read_agrees(&bytes_of(n, k, &vectors, &responses));
+    }
+    assert!((1..20_000).contains(&refused));
+}
+
+#[test]
+fn every_byte_damaged() {
+    let (mut cases, mut refused) = (0, 0);
+    for file in small_files() {
+        for place in 0..file.len() {
+            for value in 0..=255 {
+                let mut damaged = file.clone();
+                damaged[place] = value;
+                cases += 1;
+                refused += usize::from(read_agrees(&damaged).is_err());
+            }
+        }
+    }
+    println!("files with a byte damaged: {cases}, refused: {refused}");
+    assert!(refused > 0 && refused < cases);
+}
+
+#[test]
+fn two_bytes_damaged() {
+    let g = &mut Generator::new(9);
+    for file in small_files() {
+        for _ in 0..20_000 {
+            let mut damaged = file.clone();
+            for _ in 0..2 {
+                let place = g.below(damaged.len());
+                damaged[place] = *g.pick(&[0, 1, 2, 3, 4, 8, 16, 23, 32, 255]);
+            }
+            let _ = read_agrees(&damaged);
+        }
+    }
+}
+
+#[test]
+fn cut_and_lengthened() {
+    for file in small_files() {
+        for length in 0..file.len() {
+            assert!(read_agrees(&file[..length]).is_err());
+        }
+        for more in 1..20 {
+            assert_eq!(read_agrees(&[&file[..], &vec![0; more]].concat()), Err(2));
+        }
+    }
+}
+
+/// Bodies of every small length in a right layout.
+#[test]
+fn bodies_of_every_length() {
+    for nets in 0..5 {
+        for vectors in 0..20 {
+            let _ = read_agrees(&laid_out(&[vec![2; nets], vec![1; vectors]]));
+            for responses in 0..20 {
+                let _ = read_agrees(&laid_out(&[vec![2; nets], vec![0; vectors], vec![0; responses]]));
+            }
+        }
+    }
+    assert_eq!(read_agrees(&laid_out(&[vec![2, 2], vec![0; 8], vec![]])), Err(9));
+    assert_eq!(read_agrees(&laid_out(&[vec![2, 2, 2], vec![0; 8]])), Err(3));
+    assert_eq!(read_agrees(&laid_out(&[vec![2, 2]])), Err(2));
+    assert_eq!(read_agrees(&laid_out(&[vec![2, 2], vec![0; 8], vec![0; 8], vec![]])), Err(2));
+}
+
+#[test]
+fn files_of_about_2048_bytes() {
+    let with_total = |total: usize| laid_out(&[vec![2, 2], vec![0; total - 25]]);
+    assert_eq!(read_agrees(&with_total(2041)), Err(7));
+    assert_eq!(read_agrees(&with_total(2048)), Err(3));
+    assert_eq!(read_agrees(&with_total(2049)), Err(2));
+    // Whole words and 2,048 bytes: only a nets body of another length leaves that.
+    assert_eq!(read_agrees(&laid_out(&[vec![2; 9], vec![0; 2016]])), Err(3));
+    assert_eq!(read_agrees(&[b"BSJ2", &with_total(2049)[4..]].concat()), Err(1));
+    assert_eq!(read_agrees(&vec![b'B'; 5000]), Err(1));
+    let full = bytes_of(48, 48, &[1; 64], &[2; 64]);
+    assert_eq!((full.len(), read_agrees(&full).is_ok()), (1058, true));
+}
+
+/// Puts a number into entry `entry` of the table: its offset (field 0) or its length (field 1).
+fn put(file: &mut [u8], entry: usize, field: usize, number: u32) {
+    let place = 5 + 9 * entry + 1 + 4 * field;
+    file[place..place + 4].copy_from_slice(&number.to_le_bytes());
+}
+
+fn taken(file: &[u8], entry: usize, field: usize) -> u32 {
+    let place = 5 + 9 * entry + 1 + 4 * field;
+    u32::from_le_bytes(file[place..place + 4].try_into().unwrap())
+}
+
+/// A body longer by `more` than it is and the next one shorter, all modulo 2^32: where the next one is not so long, the
+/// sums go past 2^32, and come back to the right places if they wrap.
+#[test]
+fn sums_past_2_to_the_32() {
+    let file = &small_files()[0];
+    for entry in 0..2 {
+        for more in [8, 16, 40, 41, 48, 100, 1 << 31, u32::MAX - 99] {
+            let next = taken(file, entry + 1, 1);
+            let mut moved = file.clone();
+            put(&mut moved, entry, 1, taken(file, entry, 1).wrapping_add(more));
+            put(&mut moved, entry + 1, 0, taken(file, entry + 1, 0).wrapping_add(more));
+            put(&mut moved, entry + 1, 1, next.wrapping_sub(more));
+            let wraps = more > next;
+            assert_eq!(read_agrees(&moved) == Err(2), wraps, "{entry} {more}");
+        }
+    }
+}
+
+#[test]
+fn offsets_and_lengths_near_the_ends_of_their_range() {
+    let file = &small_files()[0];
+    for entry in 0..3 {
+        for field in 0..2 {
+            for number in [0, 1, u32::MAX, u32::MAX - 7, u32::MAX - 40, 1 << 31, 0xFFFF, 0x1_0000] {
+                let mut changed = file.clone();
+                put(&mut changed, entry, field, number);
+                assert_eq!(read_agrees(&changed), Err(2), "{entry} {field} {number}");
+            }
+        }
+    }
+}
+
+/// Any bytes after the mark, and any bytes at all.
+#[test]
+fn any_bytes() {
+    let g = &mut Generator::new(10);
+    for _ in 0..20_000 {
+        let length = g.below(80);
+        let mut file: Vec<u8> = (0..length).map(|_| *g.pick(&[0, 1, 2, 3, 8, 23, 25, 32, 34, 255])).collect();
+        if g.below(10) > 0 {
+            file.splice(..file.len().min(4), *b"BSJ1");
+        }
+        let _ = read_agrees(&file);
+    }
+}
+
+/// A whole job of a board goes through a file unchanged, by the wrappers.
+#[test]
+fn a_board_goes_through_a_file() {
+    let g = &mut Generator::new(11);
+    let vectors: Vec<u64> = std::iter::once(0).chain((0..48).map(|i| 1 << i)).collect();
+    for _ in 0..50 {
+        let board = state(g, 48, 48);
+        let responses = fontarelga::respond(48, 48, &vectors, &board).unwrap();
+        let job = fontarelga::Job { nets: 48, class: 48, vectors: vectors.clone(), responses };
+        let read = fontarelga::Job::read(&job.write().unwrap()).unwrap();
+        assert_eq!(read, job);
+        assert_eq!(fontarelga::diagnose(48, 48, &read.vectors, &read.responses), Ok(board));
+    }
+}

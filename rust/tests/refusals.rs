@@ -1,0 +1,416 @@
+//! The table "Where a call is turned away": every row of every call, and every two rows of a call at once.
+//!
+//! For each call there is an input that is accepted, and for each row some ways to make it hold. Every way is tried
+//! alone, and every two together. The model says which rows then hold; the library must return the first of them, and
+//! leave all lists as they were.
+
+mod support;
+
+use model::checker::rows_of_check;
+use model::diagnosis::{rows_of_diagnose, rows_of_findings};
+use model::jobfile::{laid_out, reader_rows_holding, rows_of_write_job};
+use model::network::{respond, rows_of_respond};
+use model::session::{rows_of_begin, rows_of_first_answers, rows_of_second_answers};
+use model::{check, diagnose, findings, read_job, write_job, Record};
+use std::collections::BTreeSet;
+use support::calls::*;
+use support::session::{session_call_gives, Call};
+
+const HIGH: u64 = 1 << 63;
+
+/// A way to make a row hold.
+type Way<I> = (u64, fn(&mut I));
+
+/// A call's table: its rows in order, an accepted input, and ways to make each row hold.
+struct Table<I> {
+    rows: &'static [u64],
+    accepted: I,
+    ways: Vec<Way<I>>,
+}
+
+impl<I: Clone> Table<I> {
+    /// `holding` gives the rows that hold; `make` makes the call and compares it with the refusal that it is given.
+    fn try_all(&self, holding: impl Fn(&I) -> Vec<u64>, make: impl Fn(&I, Option<u64>)) {
+        let tried = |input: &I| {
+            let rows = holding(input);
+            make(input, rows.first().copied());
+            rows
+        };
+        assert!(tried(&self.accepted).is_empty());
+        for (row, way) in &self.ways {
+            assert!(tried(&changed(&self.accepted, &[*way])).contains(row), "row {row} does not hold");
+        }
+        let mut together = BTreeSet::new();
+        for (row, way) in &self.ways {
+            for (other, other_way) in &self.ways {
+                let rows = tried(&changed(&self.accepted, &[*way, *other_way]));
+                if rows.contains(row) && rows.contains(other) {
+                    together.insert((rows[0], *row));
+                    together.insert((rows[0], *other));
+                }
+            }
+        }
+        self.assert_all_tried(&together);
+        println!("rows {:?}: {} inputs", self.rows, 1 + self.ways.len() + self.ways.len().pow(2));
+    }
+
+    /// Every row was returned, and every two rows held at once with no earlier one. There are no two rows of a call that
+    /// cannot.
+    fn assert_all_tried(&self, together: &BTreeSet<(u64, u64)>) {
+        for (i, row) in self.rows.iter().enumerate() {
+            assert!(together.contains(&(*row, *row)), "row {row} was never the first");
+            for later in &self.rows[i + 1..] {
+                assert!(together.contains(&(*row, *later)), "rows {row} and {later} were not tried at once");
+            }
+        }
+    }
+}
+
+fn changed<I: Clone>(input: &I, ways: &[fn(&mut I)]) -> I {
+    let mut input = input.clone();
+    ways.iter().for_each(|way| way(&mut input));
+    input
+}
+
+/// The answer as it must be: the model's, which must be the first of the rows that hold.
+fn by_rows<T>(answer: Result<T, u64>, first: Option<u64>) -> Result<T, u64> {
+    assert_eq!(answer.as_ref().err().copied(), first);
+    answer
+}
+
+/// What the calls on test sets take and are lent.
+#[derive(Clone)]
+struct Set {
+    n: u64,
+    k: u64,
+    vectors: Vec<u64>,
+    responses: Vec<u64>,
+    state: Vec<u64>,
+    room: usize,
+}
+
+/// Three nets, class 3, nets 0 and 1 tied and net 2 floating.
+fn accepted_set() -> Set {
+    Set { n: 3, k: 3, vectors: vec![0, 1, 2, 4], responses: vec![4, 7, 7, 4], state: vec![3, 3, 0], room: 4 }
+}
+
+/// Ways for rows 5 to 8.
+fn set_ways() -> Vec<Way<Set>> {
+    vec![
+        (5, |i| i.n = 0),
+        (5, |i| i.n = 1),
+        (5, |i| i.n = 49),
+        (5, |i| i.n = 64),
+        (5, |i| i.n = u64::MAX),
+        (6, |i| i.k = 0),
+        (6, |i| i.k = 4),
+        (6, |i| i.k = 49),
+        (6, |i| i.k = u64::MAX),
+        (6, |i| (i.n, i.k) = (2, 3)),
+        (6, |i| (i.n, i.k) = (5, 4)),
+        (7, |i| (i.vectors, i.responses) = (vec![], vec![])),
+        (7, |i| {
+            i.vectors.resize(65, 0);
+            i.responses.resize(65, 4);
+        }),
+        (8, |i| i.vectors.iter_mut().for_each(|word| *word |= 8)),
+        (8, |i| i.vectors.iter_mut().for_each(|word| *word |= HIGH)),
+        (8, |i| *i.vectors.last_mut().unwrap_or(&mut 0) |= HIGH),
+    ]
+}
+
+/// Ways for rows 9 and 10.
+fn response_ways() -> Vec<Way<Set>> {
+    vec![
+        (9, |i| i.responses.truncate(3)),
+        (9, |i| i.responses.push(0)),
+        (10, |i| i.responses.iter_mut().for_each(|word| *word |= 8)),
+        (10, |i| *i.responses.last_mut().unwrap_or(&mut 0) |= HIGH),
+    ]
+}
+
+/// Ways for row 11: each clause of it.
+fn state_ways() -> Vec<Way<Set>> {
+    vec![
+        (11, |i| i.state.truncate(2)),
+        (11, |i| i.state.push(0)),
+        (11, |i| i.state[0] = 8),
+        (11, |i| *i.state.last_mut().unwrap() = HIGH),
+        (11, |i| i.state = vec![1, 3, 0]),
+        (11, |i| i.state = vec![6, 0, 3]),
+    ]
+}
+
+#[test]
+fn checker() {
+    let table = Table { rows: &[5, 6, 7, 8], accepted: accepted_set(), ways: set_ways() };
+    table.try_all(
+        |i| rows_of_check(i.n, i.k, &i.vectors).holding(),
+        |i, first| check_gives(i.n, i.k, &i.vectors, &by_rows(check(i.n, i.k, &i.vectors), first)),
+    );
+}
+
+#[test]
+fn response_from_a_state() {
+    let more_drivers: Way<Set> = (11, |i| (i.k, i.state) = (1, vec![3, 3, 0]));
+    let room: Vec<Way<Set>> = vec![(12, |i| i.room = 3), (12, |i| i.room = 0)];
+    let table = Table {
+        rows: &[5, 6, 7, 8, 11, 12],
+        accepted: accepted_set(),
+        ways: [set_ways(), state_ways(), vec![more_drivers], room].concat(),
+    };
+    table.try_all(
+        |i| rows_of_respond(i.n, i.k, &i.vectors, &i.state, i.room).holding(),
+        |i, first| {
+            let answer = by_rows(respond(i.n, i.k, &i.vectors, &i.state, i.room), first);
+            respond_gives(i.n, i.k, &i.vectors, &i.state, i.room, &answer)
+        },
+    );
+}
+
+#[test]
+fn diagnosis() {
+    let own: Vec<Way<Set>> = vec![
+        (12, |i| i.room = 2),
+        (12, |i| i.room = 0),
+        // Without vector 0, and without a walking vector.
+        (13, |i| i.vectors = vec![1, 1, 2, 4]),
+        (13, |i| i.vectors = vec![0, 1, 2, 2]),
+        (13, |i| {
+            i.k = 2;
+            i.vectors.fill(0);
+        }),
+        // Reaches that meet and differ, and a receiver that reads 1 on vector 0 and 0 on another.
+        (14, |i| i.responses = vec![4, 5, 7, 4]),
+        (14, |i| i.responses.iter_mut().skip(1).for_each(|word| *word &= 3)),
+    ];
+    let table = Table {
+        rows: &[5, 6, 7, 8, 9, 10, 12, 13, 14],
+        accepted: accepted_set(),
+        ways: [set_ways(), response_ways(), own].concat(),
+    };
+    table.try_all(
+        |i| rows_of_diagnose(i.n, i.k, &i.vectors, &i.responses, i.room).holding(),
+        |i, first| {
+            let answer = by_rows(diagnose(i.n, i.k, &i.vectors, &i.responses, i.room), first);
+            diagnose_gives(i.n, i.k, &i.vectors, &i.responses, i.room, &answer)
+        },
+    );
+}
+
+/// The room of the findings is counted in words, three a record.
+#[test]
+fn findings_of_a_state() {
+    let mut ways = state_ways();
+    ways.extend::<[Way<Set>; 6]>([
+        (5, |i| i.n = 1),
+        (5, |i| i.n = 49),
+        (5, |i| i.n = u64::MAX),
+        (12, |i| i.room = 8),
+        (12, |i| i.room = 1),
+        (12, |i| i.room = 0),
+    ]);
+    let accepted = Set { room: 10, ..accepted_set() };
+    let table = Table { rows: &[5, 11, 12], accepted, ways };
+    table.try_all(
+        |i| rows_of_findings(i.n, &i.state, i.room / 3).holding(),
+        |i, first| {
+            let answer = by_rows(findings(i.n, &i.state, i.room / 3), first);
+            findings_gives(i.n, &i.state, i.room, &answer)
+        },
+    );
+}
+
+/// Room of the writer's file is in bytes; the accepted job needs 98 of them.
+#[test]
+fn job_writer() {
+    let room: Vec<Way<Set>> = vec![(12, |i| i.room = 97), (12, |i| i.room = 0)];
+    let table = Table {
+        rows: &[5, 6, 7, 8, 9, 10, 12],
+        accepted: Set { room: 98, ..accepted_set() },
+        ways: [set_ways(), response_ways(), room].concat(),
+    };
+    table.try_all(
+        |i| rows_of_write_job(i.n, i.k, &i.vectors, &i.responses, i.room).holding(),
+        |i, first| {
+            let answer = by_rows(write_job(i.n, i.k, &i.vectors, &i.responses, i.room), first);
+            write_job_gives(i.n, i.k, &i.vectors, &i.responses, i.room, &answer)
+        },
+    );
+}
+
+/// A job file by its parts, and the room of the two lists.
+#[derive(Clone)]
+struct Parts {
+    mark: Vec<u8>,
+    nets: Vec<u8>,
+    vectors: Vec<u8>,
+    responses: Vec<u8>,
+    /// Put in place of the number of entries, and after the end.
+    count: Option<u8>,
+    rest: Vec<u8>,
+    rooms: (usize, usize),
+}
+
+impl Parts {
+    fn file(&self) -> Vec<u8> {
+        let mut file = laid_out(&[self.nets.clone(), self.vectors.clone(), self.responses.clone()]);
+        file.splice(..4, self.mark.clone());
+        if let Some(count) = self.count {
+            file[self.mark.len()] = count;
+        }
+        file.extend(&self.rest);
+        file
+    }
+}
+
+fn words(list: &[u64]) -> Vec<u8> {
+    list.iter().flat_map(|word| word.to_le_bytes()).collect()
+}
+
+fn accepted_parts() -> Parts {
+    Parts {
+        mark: b"BSJ1".to_vec(),
+        nets: vec![3, 3],
+        vectors: words(&[0, 1, 2, 4]),
+        responses: words(&[4, 7, 7, 4]),
+        count: None,
+        rest: vec![],
+        rooms: (4, 4),
+    }
+}
+
+#[test]
+fn job_reader() {
+    let ways: Vec<Way<Parts>> = vec![
+        (1, |i| i.mark = b"BSJ2".to_vec()),
+        (1, |i| i.mark = b"bSJ1".to_vec()),
+        (2, |i| i.count = Some(2)),
+        (2, |i| i.count = Some(4)),
+        (2, |i| i.rest.push(0)),
+        // Right layout, but over 2,048 bytes: rows on what the file says can hold too.
+        (2, |i| i.responses.extend([0; 2048])),
+        (3, |i| i.nets.push(0)),
+        (3, |i| i.nets.truncate(1)),
+        (3, |i| i.vectors.push(0)),
+        (3, |i| i.responses.push(0)),
+        (5, |i| i.nets[0] = 0),
+        (5, |i| i.nets[0] = 1),
+        (5, |i| i.nets[0] = 49),
+        (5, |i| i.nets[0] = 255),
+        (6, |i| i.nets = vec![i.nets[0], 0]),
+        (6, |i| i.nets = vec![i.nets[0], 4]),
+        (7, |i| i.vectors.clear()),
+        (7, |i| i.vectors.resize(65 * 8, 0)),
+        (8, |i| *i.vectors.get_mut(0).unwrap_or(&mut 0) |= 8),
+        (8, |i| *i.vectors.get_mut(7).unwrap_or(&mut 0) |= 128),
+        (9, |i| i.responses.truncate(8)),
+        (9, |i| i.responses.extend([0; 8])),
+        (9, |i| i.responses.clear()),
+        (10, |i| *i.responses.get_mut(0).unwrap_or(&mut 0) |= 8),
+        (10, |i| *i.responses.get_mut(7).unwrap_or(&mut 0) |= 128),
+        (12, |i| i.rooms.0 = 3),
+        (12, |i| i.rooms.1 = 3),
+        (12, |i| i.rooms = (0, 0)),
+    ];
+    let table = Table { rows: &[1, 2, 3, 5, 6, 7, 8, 9, 10, 12], accepted: accepted_parts(), ways };
+    table.try_all(
+        |i| reader_rows_holding(&i.file(), i.rooms.0, i.rooms.1),
+        |i, first| {
+            let (file, rooms) = (i.file(), i.rooms);
+            read_job_gives(&file, rooms.0, rooms.1, &by_rows(read_job(&file, rooms.0, rooms.1), first))
+        },
+    );
+}
+
+/// What a session call takes and is lent.
+#[derive(Clone)]
+struct Step {
+    record: Record,
+    n: u64,
+    answers: Vec<u64>,
+    room: usize,
+}
+
+fn make(step: &Step, call: Call, first: Option<u64>) {
+    let answer = by_rows(call.answer(&step.record), first);
+    session_call_gives(&step.record.words(), &call, &answer);
+}
+
+fn begun() -> Record {
+    model::begin(4, 4).unwrap().0
+}
+
+#[test]
+fn begin() {
+    let ways: Vec<Way<Step>> = vec![
+        (5, |i| i.n = 0),
+        (5, |i| i.n = 1),
+        (5, |i| i.n = 49),
+        (5, |i| i.n = u64::MAX),
+        (12, |i| i.room = 3),
+        (12, |i| i.room = 0),
+    ];
+    let mut junk = begun();
+    junk.spent = 77;
+    let accepted = Step { record: junk, n: 4, answers: vec![], room: 4 };
+    let table = Table { rows: &[5, 12], accepted, ways };
+    table.try_all(
+        |i| rows_of_begin(i.n, i.room).holding(),
+        |i, first| make(i, Call::Begin { n: i.n, room: i.room }, first),
+    );
+}
+
+/// Ways for row 4: each unused field, and the net count.
+fn record_ways() -> Vec<Way<Step>> {
+    vec![
+        (4, |i| i.record.step = 0),
+        (4, |i| i.record.step = 3),
+        (4, |i| i.record.step ^= 3),
+        (4, |i| i.record.spent = 1),
+        (4, |i| i.record.reaches[0] = 1),
+        (4, |i| i.record.reaches[47] = 1),
+        (4, |i| i.record.answers[7] = 1),
+        (4, |i| i.record.nets = 1),
+        (4, |i| i.record.nets = 49),
+    ]
+}
+
+/// Ways for rows 9 and 10.
+fn answer_ways() -> Vec<Way<Step>> {
+    vec![
+        (9, |i| i.answers.truncate(3)),
+        (9, |i| i.answers.push(0)),
+        (9, |i| i.answers.clear()),
+        (10, |i| *i.answers.get_mut(0).unwrap_or(&mut 0) |= 16),
+        (10, |i| *i.answers.last_mut().unwrap_or(&mut 0) |= HIGH),
+    ]
+}
+
+#[test]
+fn first_answers() {
+    let room: Vec<Way<Step>> = vec![(12, |i| i.room = 3), (12, |i| i.room = 0)];
+    let accepted = Step { record: begun(), n: 0, answers: vec![15, 7, 7, 12], room: 4 };
+    let table = Table { rows: &[4, 9, 10, 12], accepted, ways: [record_ways(), answer_ways(), room].concat() };
+    table.try_all(
+        |i| rows_of_first_answers(&i.record, &i.answers, i.room).holding(),
+        |i, first| make(i, Call::First { answers: i.answers.clone(), room: i.room }, first),
+    );
+}
+
+#[test]
+fn second_answers() {
+    let unfit: Vec<Way<Step>> = vec![
+        // A clear net that reads 1; reaches that meet and differ; first answers that no state gives.
+        (14, |i| *i.answers.get_mut(1).unwrap_or(&mut 0) |= 8),
+        (14, |i| *i.answers.get_mut(1).unwrap_or(&mut 0) &= !2),
+        (14, |i| i.record.answers[3] = 4),
+    ];
+    let record = model::first_answers(&begun(), &[15, 7, 7, 12], 4).unwrap().0;
+    let accepted = Step { record, n: 0, answers: vec![4, 7, 7, 4], room: 0 };
+    let table = Table { rows: &[4, 9, 10, 14], accepted, ways: [record_ways(), answer_ways(), unfit].concat() };
+    table.try_all(
+        |i| rows_of_second_answers(&i.record, &i.answers).holding(),
+        |i, first| make(i, Call::Second { answers: i.answers.clone() }, first),
+    );
+}

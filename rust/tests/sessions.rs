@@ -1,0 +1,328 @@
+//! Sessions: every list of a few calls on two nets, every state of up to four, damaged records and damaged answers.
+
+mod support;
+
+use fontarelga::raw;
+use model::network::{all_lists, all_states, response};
+use model::session::{finished, left_waiting, FINISHED, FIRST, SECOND, WORDS};
+use model::Record;
+use std::collections::HashMap;
+use std::rc::Rc;
+use support::boards;
+use support::generator::Generator;
+use support::session::*;
+
+/// The most words that a call of the walk is lent.
+const LIST: usize = 6;
+/// What such a list holds before a call.
+const FILLING: [u64; LIST] = [71, 72, 73, 74, 75, 76];
+
+/// A call with what it must leave: number, record and list.
+struct Expected {
+    number: u64,
+    record: [u64; WORDS],
+    list: [u64; LIST],
+}
+
+fn expected(record: &Record, call: &Call) -> Expected {
+    let mut list = FILLING;
+    match call.answer(record) {
+        Err(number) => Expected { number, record: record.words(), list },
+        Ok((left, written)) => {
+            list[..written.len()].copy_from_slice(&written);
+            Expected { number: 0, record: left.words(), list }
+        }
+    }
+}
+
+/// A walk along every list of calls. What the model says of a record is worked out once.
+struct Walk {
+    calls: Vec<Call>,
+    known: HashMap<[u64; WORDS], Rc<Vec<Expected>>>,
+    made: usize,
+    accepted: usize,
+}
+
+impl Walk {
+    fn of(calls: Vec<Call>) -> Walk {
+        Walk { calls, known: HashMap::new(), made: 0, accepted: 0 }
+    }
+
+    fn expected(&mut self, words: &[u64; WORDS]) -> Rc<Vec<Expected>> {
+        if let Some(known) = self.known.get(words) {
+            return known.clone();
+        }
+        part_to_drive_agrees(words);
+        let record = Record::from_words(words);
+        let all = Rc::new(self.calls.iter().map(|call| expected(&record, call)).collect::<Vec<_>>());
+        self.known.insert(*words, all.clone());
+        all
+    }
+
+    /// Every list of `depth` calls from this record. Each call gets the record as the library left it.
+    fn from(&mut self, record: &[u64; WORDS], depth: usize) {
+        let all = self.expected(record);
+        for (i, expected) in all.iter().enumerate() {
+            let (mut left, mut list) = (*record, FILLING);
+            let room = self.calls[i].room();
+            let number = self.calls[i].make(&mut left, &mut list[..room]);
+            let agrees = number == expected.number && left == expected.record && list == expected.list;
+            assert!(agrees, "{record:?}\n{:?}\ngave {number} {left:?} {list:?}", self.calls[i]);
+            self.made += 1;
+            self.accepted += usize::from(number == 0);
+            if depth > 1 {
+                self.from(&left, depth - 1);
+            }
+        }
+    }
+}
+
+/// Begins: accepted with room to spare, and refused by 12 and 5.
+fn begins() -> Vec<Call> {
+    [(2, 3), (2, 1), (1, 3), (49, 6)].map(|(n, room)| Call::Begin { n, room }).to_vec()
+}
+
+/// First answers: every two words below 4, right for some state or not; room exact, short and not needed; too few, too
+/// many, high bits.
+fn firsts() -> Vec<Call> {
+    let mut calls: Vec<Call> = all_lists(4, 2).into_iter().map(|answers| Call::First { answers, room: 4 }).collect();
+    let others: [(&[u64], usize); 8] = [
+        (&[1, 2], 0),
+        (&[3, 3], 3),
+        (&[3, 3], 2),
+        (&[3], 4),
+        (&[1, 2, 0], 4),
+        (&[4, 1], 4),
+        (&[1, 1 << 63], 4),
+        (&[4], 0),
+    ];
+    calls.extend(others.map(|(answers, room)| Call::First { answers: answers.to_vec(), room }));
+    calls
+}
+
+/// Second answers that some state gives after some first answers.
+fn right_seconds() -> Vec<Vec<u64>> {
+    let mut lists: Vec<Vec<u64>> = Vec::new();
+    for state in all_states(2, 2) {
+        for second in [vec![0, 1, 2], vec![0, 1], vec![0, 2]] {
+            lists.push(response(&second, &state));
+        }
+    }
+    lists.sort();
+    lists.dedup();
+    lists
+}
+
+/// Second answers that are refused after any first ones: none, too few, too many, high bits.
+fn odd_seconds() -> Vec<Vec<u64>> {
+    vec![vec![], vec![3], vec![0, 1, 2, 0], vec![4, 1, 2], vec![0, 1 << 63], vec![4]]
+}
+
+fn seconds(lists: Vec<Vec<u64>>) -> Vec<Call> {
+    lists.into_iter().map(|answers| Call::Second { answers }).collect()
+}
+
+/// The record that accepted calls on two nets leave.
+fn after(first: &[u64], second: Option<&[u64]>) -> Record {
+    let (begun, _) = model::begin(2, 2).unwrap();
+    let (mut record, _) = model::first_answers(&begun, first, 3).unwrap();
+    if let Some(answers) = second {
+        record = model::second_answers(&record, answers).unwrap();
+    }
+    record
+}
+
+/// Records to start from: clean, junk, left by calls, and nearly so.
+fn starting_records() -> Vec<[u64; WORDS]> {
+    let mut g = Generator::new(59);
+    let begun = model::begin(2, 2).unwrap().0;
+    let waiting = after(&[3, 3], None);
+    vec![
+        [0; WORDS],
+        [u64::MAX; WORDS],
+        std::array::from_fn(|_| g.word() % 4),
+        begun.words(),
+        Record { spent: 1, ..begun.clone() }.words(),
+        waiting.words(),
+        Record { spent: 5, ..waiting.clone() }.words(),
+        // Answers that leave no net unclear finish a session, so no call leaves this one waiting.
+        Record { answers: [1, 2, 0, 0, 0, 0, 0, 0], ..waiting }.words(),
+        after(&[3, 3], Some(&[3, 3, 3])).words(),
+    ]
+}
+
+/// Walks from each record, and gives the number of calls made and accepted.
+fn walk(calls: Vec<Call>, depth: usize, records: &[[u64; WORDS]]) -> (usize, usize) {
+    let mut walk = Walk::of(calls);
+    records.iter().for_each(|record| walk.from(record, depth));
+    (walk.made, walk.accepted)
+}
+
+#[test]
+fn every_list_of_4_calls_on_2_nets() {
+    let calls = [begins(), firsts(), seconds(right_seconds()), seconds(odd_seconds())].concat();
+    let alphabet = calls.len();
+    let (made, accepted) = walk(calls, 4, &starting_records()[..3]);
+    println!("lists of up to 4 of {alphabet} calls: {made} calls, {accepted} accepted");
+    assert!(accepted > 0 && accepted < made);
+}
+
+/// The same with every list of second answers, wrong ones included, and from more records.
+#[test]
+fn every_list_of_3_calls_on_2_nets() {
+    let every_second = [all_lists(4, 2), all_lists(4, 3), odd_seconds()].concat();
+    let calls = [begins(), firsts(), seconds(every_second)].concat();
+    let alphabet = calls.len();
+    let (made, accepted) = walk(calls, 3, &starting_records());
+    println!("lists of up to 3 of {alphabet} calls: {made} calls, {accepted} accepted");
+    assert!(accepted > 0 && accepted < made);
+}
+
+/// A session with these answers to step one and two, each call compared with the model. Gives the last record.
+fn run(n: u64, answer_first: &[u64], answer_second: impl FnOnce(&[u64]) -> Vec<u64>) -> Result<Record, u64> {
+    let mut record = [0xBAD; WORDS];
+    let mut make = |call: Call| -> Result<Left, u64> {
+        let answer = call.answer(&Record::from_words(&record));
+        session_call_gives(&record, &call, &answer);
+        let (left, written) = answer?;
+        record = left.words();
+        part_to_drive_agrees(&record);
+        Ok((left, written))
+    };
+    make(Call::Begin { n, room: 9 })?;
+    let (left, second) = make(Call::First { answers: answer_first.to_vec(), room: 50 })?;
+    if left.step == FINISHED {
+        return Ok(left);
+    }
+    Ok(make(Call::Second { answers: answer_second(&second) })?.0)
+}
+
+/// A board that stays the same through both steps is the one reported, with p or p + F + 1 vectors spent.
+fn assert_reported(n: u64, state: &[u64]) {
+    let first = model::session::first_vectors(n);
+    let answers = response(&first, state);
+    let unclear = model::session::unclear_nets(n, &answers).len();
+    let record = run(n, &answers, |second| response(second, state)).expect("a state is never refused");
+    let spent = if unclear == 0 { first.len() } else { first.len() + unclear + 1 };
+    assert_eq!(record, finished(n, state, spent), "{n} {state:?}");
+}
+
+#[test]
+fn every_state_of_up_to_4_nets_is_reported() {
+    let mut boards = 0;
+    for n in 2..=4 {
+        for state in all_states(n, n) {
+            assert_reported(n, &state);
+            boards += 1;
+        }
+    }
+    println!("sessions over every state of 2 to 4 nets: {boards}");
+    assert!(boards > 1000);
+}
+
+#[test]
+fn random_boards_of_2_to_48_nets_are_reported() {
+    let g = &mut Generator::new(48);
+    for case in 0..940 {
+        let n = 2 + case % 47;
+        assert_reported(n, &boards::state(g, n, n));
+    }
+    (2..=48).for_each(|n| assert_reported(n, &(0..n).map(|i| 1 << i).collect::<Vec<_>>()));
+}
+
+/// Answers of a board with a bit turned in the first step, in the second, in both; and any words.
+#[test]
+fn damaged_answers() {
+    let g = &mut Generator::new(14);
+    let (mut cases, mut unfit) = (0, 0);
+    for n in [3, 4, 5, 6, 9, 17, 33, 48] {
+        for case in 0..300 {
+            let state = boards::state(g, n, n);
+            let mut first = response(&model::session::first_vectors(n), &state);
+            if case % 2 == 0 {
+                first = g.one_bit_turned(&first, n);
+            }
+            let outcome = run(n, &first, |second| match case % 5 {
+                0 => second.iter().map(|_| g.word() & boards::low_bits(n)).collect(),
+                1 | 2 => g.one_bit_turned(&response(second, &state), n),
+                _ => response(second, &state),
+            });
+            cases += 1;
+            unfit += usize::from(outcome == Err(14));
+        }
+    }
+    println!("sessions with damaged answers: {cases}, refused with 14: {unfit}");
+    assert!(unfit > cases / 10 && unfit < cases);
+}
+
+/// Records left by calls, on few and many nets, with answers that suit each.
+fn left_records() -> Vec<(Record, Vec<u64>, Vec<u64>)> {
+    let mut records = Vec::new();
+    for n in [2, 3, 4, 6, 7, 10, 48] {
+        let (begun, first) = model::begin(n, 8).unwrap();
+        let mut state: Vec<u64> = (0..n).map(|i| 1 << i).collect();
+        state[0] = 0;
+        let answers = response(&first, &state);
+        let (waiting, second) = model::first_answers(&begun, &answers, 49).unwrap();
+        let answers_2 = response(&second, &state);
+        let done = model::second_answers(&waiting, &answers_2).unwrap();
+        records.extend([begun, waiting, done].map(|record| (record, answers.clone(), answers_2.clone())));
+    }
+    records
+}
+
+/// Row 4 is exact: a record that differs in any word from one left by calls is left by other calls, or turned away.
+#[test]
+fn records_with_any_word_changed() {
+    let mut turned_away = 0;
+    let mut cases = 0;
+    for (record, first, second) in left_records() {
+        let words = record.words();
+        for place in 0..WORDS {
+            let old = words[place];
+            for new in [
+                0,
+                1,
+                2,
+                3,
+                4,
+                5,
+                47,
+                48,
+                49,
+                60,
+                71,
+                old ^ 1,
+                old ^ 2,
+                old.wrapping_add(1),
+                1 << 47,
+                1 << 63,
+                u64::MAX,
+            ] {
+                let mut changed = words;
+                changed[place] = new;
+                let record = Record::from_words(&changed);
+                let calls = [
+                    Call::Begin { n: 3, room: 4 },
+                    Call::First { answers: first.clone(), room: 49 },
+                    Call::Second { answers: second.clone() },
+                ];
+                calls.iter().for_each(|call| session_call_gives(&changed, call, &call.answer(&record)));
+                part_to_drive_agrees(&changed);
+                cases += 1;
+                turned_away += usize::from(matches!(record.step, FIRST | SECOND) && !left_waiting(&record));
+            }
+        }
+    }
+    println!("records with a word changed: {cases}, at step 1 or 2 and left by no calls: {turned_away}");
+    assert!(turned_away > 1000);
+}
+
+#[test]
+fn the_part_to_drive_of_a_session_of_another_length_is_empty() {
+    let begun = model::begin(4, 4).unwrap().0.words();
+    assert_eq!(raw::to_drive(&begun, &[0; 8], &[0; 49]), 4);
+    assert_eq!(raw::to_drive(&begun[..58], &[0; 8], &[0; 49]), 0);
+    assert_eq!(raw::to_drive(&[&begun[..], &[0]].concat(), &[0; 8], &[0; 49]), 0);
+    assert_eq!(raw::to_drive(&[], &[0; 8], &[0; 49]), 0);
+}

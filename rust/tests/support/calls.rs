@@ -1,0 +1,102 @@
+//! Each call made on lent lists, and compared with the answer that it should give: number, words written, all else as
+//! it was.
+
+use super::lent::{Given, Lent};
+use fontarelga::raw;
+use model::{Finding, Job, Verdict};
+
+/// The number that a call with this answer returns.
+pub fn code<T>(answer: &Result<T, u64>) -> u64 {
+    match answer {
+        Ok(_) => 0,
+        Err(number) => *number,
+    }
+}
+
+/// What an answer's words are; none after a refusal.
+fn written<T: Clone>(answer: &Result<Vec<T>, u64>) -> Vec<T> {
+    answer.clone().unwrap_or_default()
+}
+
+/// The three words of a verdict.
+pub fn verdict_words(verdict: &Verdict) -> Vec<u64> {
+    match verdict {
+        Verdict::Pass => vec![0, 0, 0],
+        Verdict::Pair(a, b) => vec![1, *a, *b],
+    }
+}
+
+pub fn check_gives(n: u64, k: u64, vectors: &[u64], answer: &Result<Verdict, u64>) {
+    let what = ("check", n, k, vectors);
+    let given = Given::of(vectors);
+    let mut verdict = Lent::words(3);
+    let number = raw::check(n, k, given.give(), verdict.lend());
+    assert_eq!(number, code(answer), "{what:?}");
+    verdict.assert_holds(&written(&answer.as_ref().map(verdict_words).map_err(|e| *e)), &what);
+    given.assert_unchanged();
+}
+
+pub fn respond_gives(n: u64, k: u64, vectors: &[u64], state: &[u64], room: usize, answer: &Result<Vec<u64>, u64>) {
+    let what = ("respond", n, k, vectors, state, room);
+    let given = [Given::of(vectors), Given::of(state)];
+    let mut response = Lent::words(room);
+    let number = raw::respond(n, k, given[0].give(), given[1].give(), response.lend());
+    assert_eq!(number, code(answer), "{what:?}");
+    response.assert_holds(&written(answer), &what);
+    given.iter().for_each(Given::assert_unchanged);
+}
+
+pub fn diagnose_gives(n: u64, k: u64, vectors: &[u64], responses: &[u64], room: usize, answer: &Result<Vec<u64>, u64>) {
+    let what = ("diagnose", n, k, vectors, responses, room);
+    let given = [Given::of(vectors), Given::of(responses)];
+    let mut state = Lent::words(room);
+    let number = raw::diagnose(n, k, given[0].give(), given[1].give(), state.lend());
+    assert_eq!(number, code(answer), "{what:?}");
+    state.assert_holds(&written(answer), &what);
+    given.iter().for_each(Given::assert_unchanged);
+}
+
+/// The words of a table's records.
+pub fn table_words(records: &[Finding]) -> Vec<u64> {
+    records.iter().flat_map(|record| [record.kind, record.reach, record.partners]).collect()
+}
+
+/// The table is lent with `room` words, which is room for a third as many records.
+pub fn findings_gives(n: u64, state: &[u64], room: usize, answer: &Result<Vec<Finding>, u64>) {
+    let what = ("findings", n, state, room);
+    let given = Given::of(state);
+    let mut table = Lent::words(room);
+    let number = raw::findings(n, given.give(), table.lend());
+    assert_eq!(number, code(answer), "{what:?}");
+    table.assert_holds(&written(&answer.as_ref().map(|records| table_words(records)).map_err(|e| *e)), &what);
+    given.assert_unchanged();
+}
+
+pub fn read_job_gives(file: &[u8], vector_room: usize, response_room: usize, answer: &Result<Job, u64>) {
+    let what = ("read", file, vector_room, response_room);
+    let given = Given::of(file);
+    let (mut vectors, mut responses, mut job) = (Lent::words(vector_room), Lent::words(response_room), Lent::words(4));
+    let number = raw::read_job(given.give(), vectors.lend(), responses.lend(), job.lend());
+    assert_eq!(number, code(answer), "{what:?}");
+    match answer {
+        Ok(read) => {
+            vectors.assert_holds(&read.vectors, &what);
+            responses.assert_holds(&read.responses, &what);
+            let counts = [read.n, read.k, read.vectors.len() as u64, read.responses.len() as u64];
+            job.assert_holds(&counts, &what);
+        }
+        Err(_) => [&vectors, &responses, &job].iter().for_each(|list| list.assert_holds(&[], &what)),
+    }
+    given.assert_unchanged();
+}
+
+pub fn write_job_gives(n: u64, k: u64, vectors: &[u64], responses: &[u64], room: usize, answer: &Result<Vec<u8>, u64>) {
+    let what = ("write", n, k, vectors, responses, room);
+    let given = [Given::of(vectors), Given::of(responses)];
+    let (mut file, mut size) = (Lent::bytes(room), Lent::words(1));
+    let number = raw::write_job(n, k, given[0].give(), given[1].give(), file.lend(), size.lend());
+    assert_eq!(number, code(answer), "{what:?}");
+    file.assert_holds(&written(answer), &what);
+    size.assert_holds(&Vec::from_iter(answer.as_ref().ok().map(|bytes| bytes.len() as u64)), &what);
+    given.iter().for_each(Given::assert_unchanged);
+}
