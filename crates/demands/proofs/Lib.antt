@@ -3,14 +3,15 @@ pub mod Diagnosing
 pub mod Findings
 pub mod Checking
 pub mod Refuting
-pub mod Tables
 pub mod Telling
 pub mod JobFilesExact
 pub mod Sessions
 pub mod DemandThree
 pub mod DemandOne
 pub mod Reporting
+pub mod DrivesAlike
 pub mod SessionsAlike
 pub mod RefutingSessions
 pub mod RefutingFindings
 pub mod RefutingCalls
+pub mod Tables

@@ -17,6 +17,8 @@ use Rattle.demands.proofs.Findings.{findings-determined-program}
 use Rattle.demands.proofs.Checking.{check-determined-program}
 use Rattle.demands.proofs.SessionsAlike.{sessions-determined}
 use Rattle.demands.proofs.JobFilesExact.{writer-determined, reader-determined}
+use Rattle.demands.proofs.DrivesAlike.{drive-determined}
+use Rattle.demands.proofs.Reporting.{report-determined}
 
 -- demand 3's theorem at the end of the starred session
 abbrev ended-history : History
@@ -121,4 +123,6 @@ determined = record {
   session = sessions-determined;
   writer = writer-determined;
   reader = reader-determined;
+  drive = drive-determined;
+  report = report-determined;
 }

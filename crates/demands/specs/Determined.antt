@@ -13,6 +13,9 @@ use Rattle.demands.specs.FindingsCall.{FindingsProgram, Finds}
 use Rattle.demands.specs.JobFiles.{WriterProgram, Writes, ReaderProgram, Reads}
 use Rattle.demands.specs.SessionCalls.{Call, begin, SessionProgram, History, none, waits-first, waits-second, finished-first, finished-second, LeftBy}
 use Rattle.demands.specs.Demand3.{CheckProgram, Sessions}
+use Rattle.demands.specs.SessionRecords.{DriveProgram, Drives}
+use Rattle.demands.specs.Reports.{ReportProgram, Reports}
+use Rattle.demands.specs.Programs.{our-sessions}
 
 -- refused by the first row that holds, or the verdict of document 01's rule
 abbrev pub ChecksByRule : CheckProgram → Type 0
@@ -47,4 +50,6 @@ pub record Determined : Type 0 where
   pub session : (p q : SessionProgram) → Sessions p → Sessions q → SessionsDetermined p q
   pub writer : (p q : WriterProgram) → Writes p → Writes q → (net : Network) (k : ℕ) (vectors responses lent : List ℕ)
       → p net k vectors responses lent ≡ q net k vectors responses lent
+  pub drive : (p q : DriveProgram) → Drives our-sessions p → Drives our-sessions q → (session : Session) (one two : List ℕ) → p session one two ≡ q session one two
+  pub report : (p q : ReportProgram) → Reports p → Reports q → (file : List ℕ) → p file ≡ q file
   pub reader : (p q : ReaderProgram) → Reads p → Reads q → (file vectors responses : List ℕ) → p file vectors responses ≡ q file vectors responses

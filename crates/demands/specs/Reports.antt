@@ -21,10 +21,11 @@ ReportProgram = List ℕ → List ℕ
 -- what follows line one
 pub data Follows (job : JobContent) : List ℕ → Type 0 where
   nothing : job .responses ≡ [] → Follows job []
-  a-line-a-net : job .responses ≢ [] → (state : List ℕ) → Fits (job .network) (job .class) (job .vectors) (job .responses) state
-      → Follows job (net-lines (job .network) state 0 (job .network .nets))
   not-passed : job .responses ≢ [] → Row13 (job .network) (job .class) (job .vectors) → Follows job (refused-line 13)
-  no-state : job .responses ≢ [] → Row14 (job .network) (job .class) (job .vectors) (job .responses) → Follows job (refused-line 14)
+  no-state : job .responses ≢ [] → ¬ (Row13 (job .network) (job .class) (job .vectors)) → Row14 (job .network) (job .class) (job .vectors) (job .responses)
+      → Follows job (refused-line 14)
+  a-line-a-net : job .responses ≢ [] → ¬ (Row13 (job .network) (job .class) (job .vectors)) → (state : List ℕ)
+      → Fits (job .network) (job .class) (job .vectors) (job .responses) state → Follows job (net-lines (job .network) state 0 (job .network .nets))
 
 -- line one, with the verdict of the checker's rule, and what follows it
 pub record LineOne (job : JobContent) (text : List ℕ) : Type 0 where
