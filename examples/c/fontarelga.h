@@ -4,7 +4,7 @@
  *
  * A call returns 0 if it is accepted, else the number of the first row of the table of refusals that holds. After a
  * refusal every list is as it was. A result goes to the front of a list; a longer list keeps its tail. A list of fixed
- * length (verdict, session, job, size) that has another length is refused with FONTARELGA_FIXED_LENGTH, before any row.
+ * length (verdict, session, job, size) that has another length is refused with FONTARELGA_WRONG_LENGTH, before any row.
  *
  * A list is a pointer and a length in elements. Any numbers, any bytes and any lengths are ordinary inputs. The caller
  * owes pointers that are not null, also for length 0, words aligned to 8 bytes, and that a list which is written
@@ -22,7 +22,7 @@
 extern "C" {
 #endif
 
-#define FONTARELGA_FIXED_LENGTH 99
+#define FONTARELGA_WRONG_LENGTH 99
 #define FONTARELGA_VERDICT_WORDS 3
 #define FONTARELGA_SESSION_WORDS 59
 #define FONTARELGA_JOB_WORDS 4

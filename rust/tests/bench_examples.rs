@@ -18,7 +18,7 @@ fn checker() {
     assert_eq!(check(2, 2, &[1, 2, 0]), Ok(Verdict::Pass));
 }
 
-/// Source document 004, table II. At class 3 nets 0, 1 and 6 together read all ones; the pair shown is another.
+/// Source document 004, table II, the set for two shorts. At class 3 nets 0, 1 and 6 together read all ones; the pair shown is another.
 #[test]
 fn table_two() {
     let vectors = [34, 9, 49, 6, 76, 86, 96];

@@ -280,9 +280,9 @@ fn accepted_parts() -> Parts {
     }
 }
 
-#[test]
-fn job_reader() {
-    let ways: Vec<Way<Parts>> = vec![
+/// Ways to break a job file, each with the row that it makes hold.
+fn reader_ways() -> Vec<Way<Parts>> {
+    vec![
         (1, |i| i.mark = b"BSJ2".to_vec()),
         (1, |i| i.mark = b"bSJ1".to_vec()),
         (2, |i| i.count = Some(2)),
@@ -312,8 +312,12 @@ fn job_reader() {
         (12, |i| i.rooms.0 = 3),
         (12, |i| i.rooms.1 = 3),
         (12, |i| i.rooms = (0, 0)),
-    ];
-    let table = Table { rows: &[1, 2, 3, 5, 6, 7, 8, 9, 10, 12], accepted: accepted_parts(), ways };
+    ]
+}
+
+#[test]
+fn job_reader() {
+    let table = Table { rows: &[1, 2, 3, 5, 6, 7, 8, 9, 10, 12], accepted: accepted_parts(), ways: reader_ways() };
     table.try_all(
         |i| reader_rows_holding(&i.file(), i.rooms.0, i.rooms.1),
         |i, first| {

@@ -271,6 +271,11 @@ fn left_records() -> Vec<(Record, Vec<u64>, Vec<u64>)> {
     records
 }
 
+/// Numbers that a step, a net count or a word may be mistaken for, and the neighbours of the old one.
+fn values_near(old: u64) -> [u64; 17] {
+    [0, 1, 2, 3, 4, 5, 47, 48, 49, 60, 71, old ^ 1, old ^ 2, old.wrapping_add(1), 1 << 47, 1 << 63, u64::MAX]
+}
+
 /// Row 4 is exact: a record that differs in any word from one left by calls is left by other calls, or turned away.
 #[test]
 fn records_with_any_word_changed() {
@@ -280,25 +285,7 @@ fn records_with_any_word_changed() {
         let words = record.words();
         for place in 0..WORDS {
             let old = words[place];
-            for new in [
-                0,
-                1,
-                2,
-                3,
-                4,
-                5,
-                47,
-                48,
-                49,
-                60,
-                71,
-                old ^ 1,
-                old ^ 2,
-                old.wrapping_add(1),
-                1 << 47,
-                1 << 63,
-                u64::MAX,
-            ] {
+            for new in values_near(old) {
                 let mut changed = words;
                 changed[place] = new;
                 let record = Record::from_words(&changed);

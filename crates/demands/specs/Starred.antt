@@ -27,7 +27,7 @@ respond n vectors state = response-answer (record { nets = n }) n vectors state 
 abbrev pub diagnose : ℕ → (vectors responses : List ℕ) → Answer (List ℕ)
 diagnose n vectors responses = diagnosis-answer (record { nets = n }) n vectors responses n
 
--- source document 004, table II
+-- source document 004, table II: the set for two shorts
 abbrev pub table-II : List ℕ
 table-II = 34 ∷ 9 ∷ 49 ∷ 6 ∷ 76 ∷ 86 ∷ 96 ∷ []
 
@@ -83,7 +83,7 @@ pub record Starred : Type 0 where
   -- with complement
   pub complement-1 : check 4 1 (3 ∷ 5 ∷ 12 ∷ 10 ∷ []) ≡ full Pass
   pub complement-2 : check 4 2 (3 ∷ 5 ∷ 12 ∷ 10 ∷ []) ≡ full (Pair 0 6)
-  -- the published set for two shorts, and for three
+  -- that set, for class 2 and for class 3
   pub published-2 : check 7 2 table-II ≡ full Pass
   pub published-3 : check 7 3 table-II ≡ full (Pair 7 11)
   -- the state 3 3 0 8: its response, and its answers to a session's two steps

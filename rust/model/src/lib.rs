@@ -1,7 +1,8 @@
 //! A brute-force model of document 01.
 //!
-//! It is written from the definitions alone and shares no code with the library or its wrappers. It enumerates: all
-//! driver sets, all wiring states, all answers. So it is slow and plain, and made for small boards.
+//! It shares no code with the library or its wrappers. It enumerates: all driver sets, all wiring states, all answers. So
+//! it is slow and plain, and made for small boards. For class n above 10 nets it decodes the answers and tries the result;
+//! that way is compared with enumeration on small boards.
 //!
 //! Each call has two functions. `rows_of_*` gives the rows of document 01's table that the call has, in order, each
 //! as a test of its own. The other gives the call's answer: the number of the first row that holds, else the full
