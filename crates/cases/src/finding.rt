@@ -1,7 +1,7 @@
 // The call *findings* with a blank table of 48 records lent. A line gives n, then the reaches; with a net after n it asks for that net's record alone.
 ghost use Prim.Native.Nat.{_≤_};
-ghost use lib.ListN.{length};
 use crate::read;
+use crate::read::END;
 use crate::read::MOST;
 use crate::show;
 use diagnosis::Finding;
@@ -84,104 +84,39 @@ fn one_net(net: Network, i: u64, state: &[u64]) {
     show::entry(b", partners", finding.partners);
 }
 
-// Tries the line at an index of the text, and gives the index after it.
-fn try_line(text: &[u8], at: usize) -> usize
-    requires { ⌜ at ≤ length (now text) ⌝ }
-    ensures { λ r. ⌜ r ≤ length (now (text .entry)) ⌝ }
-{
+// Shows the call and its result, or net i's record of the result.
+fn try_findings(nets: u64, state: &[u64]) {
+    show::entry(b"findings", nets);
+    show::text(b":");
+    show::words(state, b" reaches");
+    show::text(b"; lent 48 ->");
+    whole_table(Network { nets: nets }, state);
+}
+
+fn try_finding(nets: u64, i: u64, state: &[u64]) {
+    show::entry(b"finding", nets);
+    show::entry(b" net", i);
+    show::text(b":");
+    show::words(state, b" reaches");
+    show::text(b" ->");
+    one_net(Network { nets: nets }, i, state);
+}
+
+// Tries a line: n, or n and a net, and after the colon the reaches.
+pub fn try_line(line: &[u8]) {
     let mut head = [0u64; MOST];
     let mut words = [0u64; MOST];
-    let start = read::list_at(text, at, &mut head);
-    if start.count == 0 {
-        return start.end;
-    }
-    let reaches = read::list_at(text, start.end, &mut words);
+    let start = read::list_at(line, 0, &mut head);
+    let reaches = read::list_at(line, start.end, &mut words);
     let count = reaches.count;
-    let net = Network { nets: head[0] };
-    if start.count == 1 {
-        show::entry(b"findings", head[0]);
-        show::text(b":");
-        show::words(&words[0..count], b" reaches");
-        show::text(b"; lent 48 ->");
-        whole_table(net, &words[0..count]);
-    } else {
-        show::entry(b"finding", head[0]);
-        show::entry(b" net", head[1]);
-        show::text(b":");
-        show::words(&words[0..count], b" reaches");
-        show::text(b" ->");
-        one_net(net, head[1], &words[0..count]);
+    let marked = (start.mark == b':') & (reaches.mark == END);
+    if marked & (start.count == 1) {
+        try_findings(head[0], &words[0..count]);
+        return;
     }
-    show::text(b"\n");
-    reaches.end
-}
-
-// Tries the lines of a text one by one.
-fn try_each(text: &[u8]) {
-    let mut at = 0;
-    while at < text.len() {
-        let next = try_line(text, at);
-        if next <= at {
-            return;
-        }
-        at = next;
+    if marked & (start.count == 2) {
+        try_finding(head[0], head[1], &words[0..count]);
+        return;
     }
-}
-
-// The state of the worked example; an open hidden behind a short; a crossed pair; two floating receivers; a sound board.
-pub fn findings() {
-    try_each(
-        b"
-        4 0: 3 3 0 8
-        4 1: 3 3 0 8
-        4 2: 3 3 0 8
-        4 3: 3 3 0 8
-        2 0: 2 2
-        2 1: 2 2
-        2 0: 2 1
-        2 1: 2 1
-        2 0: 0 0
-        2 1: 0 0
-        2 0: 1 2
-        3 0: 1 6 6
-        3 1: 1 6 6
-        3 2: 1 6 6
-        ",
-    );
-}
-
-// The same boards whole; all nets in one short, by every driver and by one; the most nets.
-pub fn tables() {
-    try_each(
-        b"
-        4: 3 3 0 8
-        2: 2 2
-        2: 2 1
-        2: 0 0
-        2: 1 2
-        3: 1 6 6
-        3: 7 7 7
-        3: 4 4 4
-        48: 0 0 0 0 0 0 0 0 0 0 0 0 0 0 0 0 0 0 0 0 0 0 0 0 0 0 0 0 0 0 0 0 0 0 0 0 0 0 0 0 0 0 0 0 0 0 0 140737488355328
-        ",
-    );
-}
-
-// Rows 5 and 11, and row 5 before 11: what is no wiring state, by its count, by a bit at n and by reaches that meet and differ.
-pub fn refused() {
-    try_each(
-        b"
-        0:
-        1: 1
-        49: 0
-        18446744073709551615: 0
-        2: 1
-        2: 1 2 0
-        2: 1 4
-        2: 9223372036854775808 2
-        2: 3 1
-        3: 1 2 5
-        1: 3 1
-        ",
-    );
+    show::unreadable();
 }

@@ -6,9 +6,16 @@ ghost use lib.ListN.{length};
 // The most words of a list: one more than a set of vectors may have.
 pub const MOST: usize = 65;
 
-// How many words a list has, and the index past its end in the text.
+// The mark of a list that the text's end ended.
+pub const END: u8 = b'\n';
+
+// The mark of a list that has too many words, or a number too large.
+const TOO_MUCH: u8 = b'?';
+
+// How many words a list has, the byte that ended it, and the index past that byte in the text.
 pub struct List {
     pub count: usize,
+    pub mark: u8,
     pub end: usize,
 }
 
@@ -20,15 +27,17 @@ fn digit(byte: u8) -> u64 {
     (byte - b'0') as u64
 }
 
-// A number with one more digit; the number itself if that is too large.
-fn with_digit(n: u64, last: u64) -> u64 {
-    if (18446744073709551615 - last) / 10 < n {
-        return n;
+fn ended(count: usize, mark: u8, end: usize) -> List
+    ensures { λ r. ⌜ (r .count ≡ count) × (r .end ≡ end) ⌝ }
+{
+    List {
+        count: count,
+        mark: mark,
+        end: end,
     }
-    n * 10 + last
 }
 
-// Reads the list from index `from` on, up to a colon, a semicolon or the end of the line, into words that are all 0.
+// Reads the list from index `from` on, up to a byte that is no digit and no space, into words that are all 0.
 pub fn list_at(text: &[u8], from: usize, words: &mut [u64; MOST]) -> List
     requires { ⌜ (from ≤ length (now text)) × (length (now words) ≡ 65) ⌝ }
     ensures { λ r. ⌜ (r .count ≤ 65) × (r .end ≤ length (now (text .entry))) × (length (now (words .exit)) ≡ 65) ⌝ }
@@ -41,23 +50,22 @@ pub fn list_at(text: &[u8], from: usize, words: &mut [u64; MOST]) -> List
         let next = digit(byte);
         i += 1;
         if next < 10 {
-            if count < MOST {
-                words[count] = with_digit(words[count], next);
-                begun = 1;
+            if count == MOST {
+                return ended(count, TOO_MUCH, i);
             }
+            let word = words[count];
+            if (18446744073709551615 - next) / 10 < word {
+                return ended(count, TOO_MUCH, i);
+            }
+            words[count] = word * 10 + next;
+            begun = 1;
         } else {
             count += begun;
             begun = 0;
-            if (byte == b'\n') | (byte == b':') | (byte == b';') {
-                return List {
-                    count: count,
-                    end: i,
-                };
+            if byte != b' ' {
+                return ended(count, byte, i);
             }
         }
     }
-    List {
-        count: count + begun,
-        end: i,
-    }
+    ended(count + begun, END, i)
 }

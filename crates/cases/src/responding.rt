@@ -1,7 +1,7 @@
 // The calls that fill a lent list: *response from a state* and *diagnosis*.
 ghost use Prim.Native.Nat.{_≤_};
-ghost use lib.ListN.{length};
 use crate::read;
+use crate::read::END;
 use crate::read::MOST;
 use crate::show;
 use diagnosis::Diagnosed;
@@ -67,34 +67,22 @@ fn try_call(back: bool, nets: u64, class: u64, vectors: &[u64], words: &[u64], r
     show::entry(b"; lent", room as u64);
     show::text(b" ->");
     lend(back, Network { nets: nets }, class, vectors, words, room);
-    show::text(b"\n");
 }
 
-// A length of at most 64.
-pub fn room_of(n: u64) -> usize
-    ensures { λ r. ⌜ r ≤ 64 ⌝ }
-{
-    if 64 < n {
-        return 64;
-    }
-    n as usize
-}
-
-// The case whose line starts at index `at`, if the line has one: n, k and the length of the lent list; after the colon the vectors;
-// after the semicolon the reaches, or the responses. Returns the index past it.
-fn try_line(back: bool, text: &[u8], at: usize) -> usize
-    requires { ⌜ at ≤ length (now text) ⌝ }
-    ensures { λ r. ⌜ r ≤ length (now (text .entry)) ⌝ }
-{
+// Tries a line: n, k and the length of the lent list, at most 64; after the colon the vectors; after the semicolon the reaches, or the responses.
+pub fn try_line(back: bool, line: &[u8]) {
     let mut head = [0u64; MOST];
     let mut words = [0u64; MOST];
     let mut others = [0u64; MOST];
-    let start = read::list_at(text, at, &mut head);
-    if start.count == 0 {
-        return start.end;
+    let start = read::list_at(line, 0, &mut head);
+    let vectors = read::list_at(line, start.end, &mut words);
+    let last = read::list_at(line, vectors.end, &mut others);
+    let marked = (start.mark == b':') & (vectors.mark == b';') & (last.mark == END);
+    let room = head[2];
+    if (start.count != 3) | !marked || 64 < room {
+        show::unreadable();
+        return;
     }
-    let vectors = read::list_at(text, start.end, &mut words);
-    let last = read::list_at(text, vectors.end, &mut others);
     let v = vectors.count;
     let o = last.count;
     try_call(
@@ -103,19 +91,6 @@ fn try_line(back: bool, text: &[u8], at: usize) -> usize
         head[1],
         &words[0..v],
         &others[0..o],
-        room_of(head[2]),
+        room as usize,
     );
-    last.end
-}
-
-// The cases of a table, one after the other.
-pub fn try_each(back: bool, text: &[u8]) {
-    let mut at = 0;
-    while at < text.len() {
-        let next = try_line(back, text, at);
-        if next <= at {
-            return;
-        }
-        at = next;
-    }
 }

@@ -1,5 +1,5 @@
-// The calls on a session's record. A line of a table is one of these:
-//     1 n room                    begin; `room` is the length of the list lent
+// The calls on a session's record. A line is one of these:
+//     1 n room                    begin; `room` is the length of the list lent, at most 64
 //     2 room: answers             first answers
 //     3: answers                  second answers
 //     4: words; words             the vectors to drive next, of these two lists
@@ -8,20 +8,14 @@ ghost use mathlib.Core.Path.{_≡_};
 ghost use Prim.Native.Nat.{_≤_};
 ghost use lib.ListN.{length};
 use crate::read;
+use crate::read::END;
 use crate::read::MOST;
 use crate::responding::MARKER;
 use crate::responding::refused;
-use crate::responding::room_of;
 use crate::responding::wrote;
 use crate::show;
 use network::Network;
 use session::Session;
-
-// The record after a line, and the index past it in the text.
-struct Tried {
-    session: Session,
-    end: usize,
-}
 
 // A record with these numbers, in every entry of its lists too.
 fn filled(step: u64, nets: u64, first: u64, reach: u64, spent: u64) -> Session {
@@ -32,6 +26,11 @@ fn filled(step: u64, nets: u64, first: u64, reach: u64, spent: u64) -> Session {
         reaches: [reach; 48],
         spent: spent,
     }
+}
+
+// A record that is no call's.
+pub fn junk() -> Session {
+    filled(7, 9, 5, 3, 4)
 }
 
 // The record, shown and filled.
@@ -173,83 +172,56 @@ fn try_drive<'a>(before: Session, first: &'a [u64], second: &'a [u64]) {
 }
 
 // A line with no colon: *begin*, or a record that is filled.
-fn try_numbers(before: Session, head: &[u64; MOST]) -> Session
+fn try_numbers(before: Session, head: &[u64; MOST], count: usize) -> Session
     requires { ⌜ length (now head) ≡ 65 ⌝ }
 {
-    if head[0] == 1 {
-        return try_begin(before, head[1], room_of(head[2]));
+    let room = head[2];
+    if (count == 3) & (head[0] == 1) && room <= 64 {
+        return try_begin(before, head[1], room as usize);
     }
-    try_record(head[1], head[2], head[3], head[4], head[5])
+    if (count == 6) & (head[0] == 5) {
+        return try_record(head[1], head[2], head[3], head[4], head[5]);
+    }
+    show::unreadable();
+    before
 }
 
-// A line with a colon, from the index past it on: first answers, second answers, or two lists to drive of.
-fn try_lists(before: Session, kind: u64, room: u64, text: &[u8], at: usize) -> Tried
-    requires { ⌜ at ≤ length (now text) ⌝ }
-    ensures { λ r. ⌜ r .end ≤ length (now (text .entry)) ⌝ }
+// A line with a colon, from the index past it on: first answers, second answers, or two lists to drive of. `count` is that of the numbers before it.
+fn try_lists(before: Session, head: &[u64; MOST], count: usize, line: &[u8], at: usize) -> Session
+    requires { ⌜ (length (now head) ≡ 65) × (at ≤ length (now line)) ⌝ }
 {
     let mut words = [0u64; MOST];
     let mut others = [0u64; MOST];
-    let list = read::list_at(text, at, &mut words);
-    let count = list.count;
-    if kind == 2 {
-        return Tried {
-            session: try_first(before, &words[0..count], room_of(room)),
-            end: list.end,
-        };
-    }
-    if kind == 3 {
-        return Tried {
-            session: try_second(before, &words[0..count]),
-            end: list.end,
-        };
-    }
-    let second = read::list_at(text, list.end, &mut others);
+    let list = read::list_at(line, at, &mut words);
+    let second = read::list_at(line, list.end, &mut others);
+    let most = list.count;
     let more = second.count;
-    try_drive(before, &words[0..count], &others[0..more]);
-    Tried {
-        session: before,
-        end: second.end,
+    let room = head[1];
+    let single = list.mark == END;
+    if single & (count == 2) & (head[0] == 2) && room <= 64 {
+        return try_first(before, &words[0..most], room as usize);
     }
+    if single & (count == 1) & (head[0] == 3) {
+        return try_second(before, &words[0..most]);
+    }
+    if (list.mark == b';') & (second.mark == END) & (count == 1) & (head[0] == 4) {
+        try_drive(before, &words[0..most], &others[0..more]);
+        return before;
+    }
+    show::unreadable();
+    before
 }
 
-// The line that starts at index `at`, if it is not empty: the record after it, and the index past it.
-fn try_line(before: Session, text: &[u8], at: usize) -> Tried
-    requires { ⌜ at ≤ length (now text) ⌝ }
-    ensures { λ r. ⌜ r .end ≤ length (now (text .entry)) ⌝ }
-{
+// Tries a line, and returns the record after it.
+pub fn try_line(before: Session, line: &[u8]) -> Session {
     let mut head = [0u64; MOST];
-    let start = read::list_at(text, at, &mut head);
-    if start.count == 0 {
-        return Tried {
-            session: before,
-            end: start.end,
-        };
+    let start = read::list_at(line, 0, &mut head);
+    if start.mark == b':' {
+        return try_lists(before, &head, start.count, line, start.end);
     }
-    let kind = head[0];
-    if (kind == 1) | (kind == 5) {
-        let after = try_numbers(before, &head);
-        show::text(b"\n");
-        return Tried {
-            session: after,
-            end: start.end,
-        };
+    if start.mark == END {
+        return try_numbers(before, &head, start.count);
     }
-    let tried = try_lists(before, kind, head[1], text, start.end);
-    show::text(b"\n");
-    tried
-}
-
-// The lines of a table, one after the other, on one record, which is junk at first.
-pub fn try_each(text: &[u8]) {
-    show::text(b"session\n");
-    let mut session = filled(7, 9, 5, 3, 4);
-    let mut at = 0;
-    while at < text.len() {
-        let tried = try_line(session, text, at);
-        if tried.end <= at {
-            return;
-        }
-        at = tried.end;
-        session = tried.session;
-    }
+    show::unreadable();
+    before
 }

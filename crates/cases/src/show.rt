@@ -7,6 +7,11 @@ pub fn text(bytes: &[u8]) {
     io::write_all(1, bytes);
 }
 
+// A line of the input that has not the form of its call.
+pub fn unreadable() {
+    text(b"unreadable line");
+}
+
 // A number with a space before it.
 pub fn number(n: u64) {
     text(b" ");

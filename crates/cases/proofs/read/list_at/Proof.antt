@@ -23,17 +23,35 @@ digit-requires c κs = search needs
 add-i : tie.Need-add-i Inv-loop μ-loop
 add-i c = search needs
 
-mul-with-digit : tie.Need-mul-with-digit Inv-loop μ-loop
-mul-with-digit c = search needs
+ended-requires : tie.Need-ended-requires Inv-loop μ-loop
+ended-requires c κs = search needs
 
-element-copy-out-with-digit : tie.Need-element-copy-out-with-digit Inv-loop μ-loop
-element-copy-out-with-digit c = search needs
+returns : tie.Need-returns Inv-loop μ-loop
+returns c = search needs
 
-with-digit-requires : tie.Need-with-digit-requires Inv-loop μ-loop
-with-digit-requires c κs = search needs
+mul-word : tie.Need-mul-word Inv-loop μ-loop
+mul-word c = search needs
+
+element-copy-out-word : tie.Need-element-copy-out-word Inv-loop μ-loop
+element-copy-out-word c = search needs
+
+sub-if3 : tie.Need-sub-if3 Inv-loop μ-loop
+sub-if3 c = search needs
+
+ended-requires-2 : tie.Need-ended-requires-2 Inv-loop μ-loop
+ended-requires-2 c κs = search needs
+
+returns-2 : tie.Need-returns-2 Inv-loop μ-loop
+returns-2 c = search needs
 
 mul-words : tie.Need-mul-words Inv-loop μ-loop
 mul-words c = search needs
+
+add-words : tie.Need-add-words Inv-loop μ-loop
+add-words c = search needs
+
+mul-words-2 : tie.Need-mul-words-2 Inv-loop μ-loop
+mul-words-2 c = search needs
 
 element-write-words : tie.Need-element-write-words Inv-loop μ-loop
 element-write-words c = search needs
@@ -44,29 +62,29 @@ loop-less c = search needs
 loop-again : tie.Need-loop-again Inv-loop μ-loop
 loop-again c = search needs
 
+add-count : tie.Need-add-count Inv-loop μ-loop
+add-count c = search needs
+
+ended-requires-3 : tie.Need-ended-requires-3 Inv-loop μ-loop
+ended-requires-3 c κs = search needs
+
+returns-3 : tie.Need-returns-3 Inv-loop μ-loop
+returns-3 c = search needs
+
 loop-less-2 : tie.Need-loop-less-2 Inv-loop μ-loop
 loop-less-2 c = search needs
 
 loop-again-2 : tie.Need-loop-again-2 Inv-loop μ-loop
 loop-again-2 c = search needs
 
-add-count : tie.Need-add-count Inv-loop μ-loop
-add-count c = search needs
+add-ended : tie.Need-add-ended Inv-loop μ-loop
+add-ended c = search needs
 
-returns : tie.Need-returns Inv-loop μ-loop
-returns c = search needs
+ended-requires-4 : tie.Need-ended-requires-4 Inv-loop μ-loop
+ended-requires-4 c κs = search needs
 
-loop-less-3 : tie.Need-loop-less-3 Inv-loop μ-loop
-loop-less-3 c = search needs
-
-loop-again-3 : tie.Need-loop-again-3 Inv-loop μ-loop
-loop-again-3 c = search needs
-
-add-t27 : tie.Need-add-t27 Inv-loop μ-loop
-add-t27 c = search needs
-
-returns-2 : tie.Need-returns-2 Inv-loop μ-loop
-returns-2 c = search needs
+returns-4 : tie.Need-returns-4 Inv-loop μ-loop
+returns-4 c = search needs
 
 pub list-at-spec : {M : Type 1} → statement M
 list-at-spec =
@@ -78,18 +96,24 @@ list-at-spec =
     shared-slice-read-byte
     digit-requires
     add-i
-    mul-with-digit
-    element-copy-out-with-digit
-    with-digit-requires
+    ended-requires
+    returns
+    mul-word
+    element-copy-out-word
+    sub-if3
+    ended-requires-2
+    returns-2
     mul-words
+    add-words
+    mul-words-2
     element-write-words
     loop-less
     loop-again
+    add-count
+    ended-requires-3
+    returns-3
     loop-less-2
     loop-again-2
-    add-count
-    returns
-    loop-less-3
-    loop-again-3
-    add-t27
-    returns-2)
+    add-ended
+    ended-requires-4
+    returns-4)
