@@ -58,7 +58,7 @@ vectors-driven session = session-vectors (session .network) (held-answers sessio
 abbrev pub all-answers : Session → List ℕ → List ℕ
 all-answers session answers = held-answers session ++ answers
 
--- the call's answer, computed: nothing is written
+-- the call's answer, computed; nothing is written
 unfoldable pub second-answer : Session → List ℕ → Answer (List ℕ)
 second-answer session answers =
     by-tests

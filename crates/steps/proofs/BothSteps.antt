@@ -208,7 +208,7 @@ module _ (net : Network) (answers : List ℕ) where
   unclear-place j l e = (length (passing is-unclear j), count-grows-past is-unclear j (net .nets) l (ap not e), entry-of is-unclear (net .nets) j l (ap not e))
 
   -- where none is unclear, each is clear
-  pub all-clear : length (unclear net answers) ≡ 0 → (i : ℕ) → i < net .nets → is-clear net answers i ≡ true
+  all-clear : length (unclear net answers) ≡ 0 → (i : ℕ) → i < net .nets → is-clear net answers i ≡ true
   all-clear none i l =
       ⊎-elim (λ e. e) (λ e. let r = unclear-place i l e in absurd (not-suc-le-zero {n = 0} (omega (arith, none, r .1)))) (cases (is-clear net answers i))
 

@@ -20,7 +20,7 @@ shifted-one i h = shl-exact 1 i 64 (lit< tt) (omega arith) ∙ one-mul (2 ^ i)
 
 -- ---- a word by its bits
 
-pub word-below : (bs : List Bool) → word bs < 2 ^ length bs
+word-below : (bs : List Bool) → word bs < 2 ^ length bs
 unfolding word
 word-below [] = omega arith
 word-below (b ∷ bs) = rw (pow-suc 2 (length bs)) (omega (arith, word-below bs, bit-value-below-two b))
