@@ -21,6 +21,10 @@ use Rattle.checker.specs.declared.Verdict.{Verdict}
 use Rattle.checker.specs.declared.Verdict.the-variants.{Pass, Pair}
 use Rattle.checker.specs.Rule.{Among, FullRule, Confused, BoundedRule, Rule, smaller-alike, pair-with, pair-at, bounded-verdict, pair-without, full-verdict, verdict}
 
+-- a pair is not a pass
+pub pair-not-pass : {A : Type 0} {a b : ℕ} → Pair a b ≡ Pass → A
+pair-not-pass e = let z : _≡_ {A = ℕ} 0 1 = cc in absurd (omega arith)
+
 -- ---- k below n
 
 module _ (net : Network) (k : ℕ) (vectors : List ℕ) where
@@ -57,7 +61,7 @@ module _ (net : Network) (k : ℕ) (vectors : List ℕ) where
       go (Found x) r = refl
       go Missing (nowhere none) = contrary (passes-smaller a b h) (none a zero-le (h .smaller))
 
-  pub bounded-rule : BoundedRule net k vectors (bounded-verdict net k vectors)
+  bounded-rule : BoundedRule net k vectors (bounded-verdict net k vectors)
   unfolding bounded-verdict confused-test is-found
   bounded-rule = go (least (2 ^ (net .nets)) 0 confused-test) (least-below confused-test (2 ^ (net .nets)))
     where
@@ -74,7 +78,7 @@ module _ (net : Network) (k : ℕ) (vectors : List ℕ) where
       go (Found b) (first x y z none) = at b y z none (smaller-alike net k vectors b) (smaller-is b) (and-right (few-drivers net k b) _ z)
       go Missing (nowhere none) = λ a b h. contrary (passes-confused a b h) (none b zero-le (h .second-set .inside))
 
-  pub bounded-determined : (u v : Verdict) → BoundedRule net k vectors u → BoundedRule net k vectors v → u ≡ v
+  bounded-determined : (u v : Verdict) → BoundedRule net k vectors u → BoundedRule net k vectors v → u ≡ v
   bounded-determined Pass Pass p q = refl
   bounded-determined Pass (Pair a b) p q = absurd (p a b (q .0))
   bounded-determined (Pair a b) Pass p q = absurd (q a b (p .0))
@@ -102,7 +106,7 @@ module _ (net : Network) (vectors : List ℕ) where
   absent : (word : ℕ) → among word vectors ≡ false → ¬ (Among word vectors)
   absent word e = decides-among word vectors .1 e
 
-  pub full-rule : FullRule net vectors (full-verdict net vectors)
+  full-rule : FullRule net vectors (full-verdict net vectors)
   unfolding full-verdict lacks
   full-rule = go (among (extra-vector net) vectors) refl
     where
@@ -119,7 +123,7 @@ module _ (net : Network) (vectors : List ℕ) where
       go true e = by-net e (least (net .nets) 0 lacks) (least-below lacks (net .nets))
       go false e = inl (absent (extra-vector net) e, refl, refl)
 
-  pub full-determined : (u v : Verdict) → FullRule net vectors u → FullRule net vectors v → u ≡ v
+  full-determined : (u v : Verdict) → FullRule net vectors u → FullRule net vectors v → u ≡ v
   full-determined Pass Pass p q = refl
   full-determined Pass (Pair a b) p (inl (none, x, y)) = absurd (none (p .0))
   full-determined Pass (Pair a b) p (inr (some, (i, l, none, smaller, x, y))) = absurd (none (p .1 i l))

@@ -13,19 +13,19 @@ use Rattle.checker.specs.Rule.{pair-without, full-verdict}
 
 module _ (net : Network) (vectors : List ℕ) where
   -- the walking vectors of the nets below i are there
-  abbrev pub Walked : ℕ → Type 0
-  Walked i = (z : ℕ) → z < i → not (among (walking-vector net z) vectors) ≡ false
+  abbrev pub WalkingBelow : ℕ → Type 0
+  WalkingBelow i = (z : ℕ) → z < i → not (among (walking-vector net z) vectors) ≡ false
 
   pub no-extra : among (extra-vector net) vectors ≡ false → full-verdict net vectors ≡ Pair 0 (all-drivers net)
   unfolding full-verdict
   no-extra e = rw e
 
-  pub no-walking : (i : ℕ) → i < net .nets → among (extra-vector net) vectors ≡ true → Walked i → among (walking-vector net i) vectors ≡ false
+  pub no-walking : (i : ℕ) → i < net .nets → among (extra-vector net) vectors ≡ true → WalkingBelow i → among (walking-vector net i) vectors ≡ false
       → full-verdict net vectors ≡ Pair (all-but net i) (all-drivers net)
   unfolding full-verdict
   no-walking i l e h f = rw e (ap (pair-without net) (least-found (λ z. not (among (walking-vector net z) vectors)) (net .nets) i l h (ap not f)))
 
-  pub all-there : (i : ℕ) → net .nets ≤ i → among (extra-vector net) vectors ≡ true → Walked i → full-verdict net vectors ≡ Pass
+  pub all-there : (i : ℕ) → net .nets ≤ i → among (extra-vector net) vectors ≡ true → WalkingBelow i → full-verdict net vectors ≡ Pass
   unfolding full-verdict
   all-there i l e h =
       rw e (ap (pair-without net) (least-missing (λ z. not (among (walking-vector net z) vectors)) (net .nets) (λ z m. h z (omega arith))))

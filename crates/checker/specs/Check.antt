@@ -10,6 +10,7 @@ use Rattle.checker.specs.declared.Checked.{Checked}
 use Rattle.checker.specs.declared.Checked.the-variants.{Pass, Pair, Refused}
 use Rattle.checker.specs.Rule.{verdict}
 
+-- the call's answer, computed
 unfoldable pub check-answer : Network → ℕ → List ℕ → Answer Verdict
 check-answer net k vectors = by-tests (set-tests net k vectors) (verdict net k vectors)
 

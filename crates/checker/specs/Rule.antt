@@ -74,6 +74,7 @@ abbrev pub pair-at : Search → (ℕ → Search) → Verdict
 pair-at (Found b) smaller = pair-with (smaller b) b
 pair-at Missing smaller = Pass
 
+-- k below n
 unfoldable pub bounded-verdict : Network → ℕ → List ℕ → Verdict
 bounded-verdict net k vectors =
     pair-at (least (2 ^ (net .nets)) 0 (λ b. few-drivers net k b && is-found (smaller-alike net k vectors b))) (smaller-alike net k vectors)
@@ -82,10 +83,12 @@ abbrev pub pair-without : Network → Search → Verdict
 pair-without net (Found i) = Pair (all-but net i) (all-drivers net)
 pair-without net Missing = Pass
 
+-- k = n
 unfoldable pub full-verdict : Network → List ℕ → Verdict
 full-verdict net vectors =
     let by-net = pair-without net (least (net .nets) 0 (λ i. not (among (walking-vector net i) vectors))) in
     cond (among (extra-vector net) vectors) by-net (Pair 0 (all-drivers net))
 
+-- the verdict, k = n first
 unfoldable pub verdict : Network → ℕ → List ℕ → Verdict
 verdict net k vectors = let bounded = bounded-verdict net k vectors in cond (eqb k (net .nets)) (full-verdict net vectors) bounded

@@ -1,8 +1,7 @@
 -- A program whose verdict is document 01's rule keeps demand 3's first half; ours is one, and there is no other.
-use mathlib.Core.Path.{_≡_, refl}
+use mathlib.Core.Path.{_≡_, refl, sym}
 use mathlib.Core.List.{List}
 use Prim.Native.Nat.{ℕ}
-use native.Mathlib.Omega.{arith}
 use Rattle.words.specs.Answers.{NoneHolds}
 use Rattle.words.proofs.Answers.{table-implies}
 use Rattle.network.specs.declared.Network.{Network}
@@ -16,6 +15,7 @@ use Rattle.checker.specs.Rule.{Rule, shown-state}
 use Rattle.checker.specs.Check.{check-answer}
 use Rattle.checker.proofs.Separation.{SetsAlike, Shows, rule-shows, apart-one-fits, shown-is-state, shown-differ, shown-alike}
 use Rattle.checker.proofs.Checking.{check-by-table, check-determined}
+use Rattle.checker.proofs.Verdicts.{pair-not-pass}
 use Rattle.demands.specs.Demand3.{CheckProgram, ShownPair, Judged, Checks}
 use Rattle.demands.specs.Determined.{ChecksByRule}
 
@@ -39,12 +39,12 @@ module _ (net : Network) (k : ℕ) (vectors : List ℕ) (none : NoneHolds (SetRo
   judged : (v : Verdict) → Shows net k vectors v → Judged net k vectors v
   judged Pass h = record {
     passes = (λ _. apart-one-fits net k vectors h, λ _. refl);
-    shows = λ a b e. absurd (let z : _≡_ {A = ℕ} 0 1 = cc in omega arith);
+    shows = λ a b e. pair-not-pass (sym e);
   }
   judged (Pair a b) h =
       let both = shown-pair a b h in record {
         passes = (
-          λ e. absurd (let z : _≡_ {A = ℕ} 0 1 = cc in omega arith),
+          λ e. pair-not-pass e,
           λ one. absurd (pair-not-one net k vectors a b both one),
         );
         shows = λ c d e. let p : a ≡ c = cc in let q : b ≡ d = cc in rw (p, q) at both;

@@ -59,15 +59,15 @@ fills {A} rows result lent did f =
 -- ---- the sessions that a record stands in
 
 -- the session that a record tells, if it is not finished
-abbrev session-of : Session → History
-session-of session =
+abbrev history-of : Session → History
+history-of session =
     let net = session .network in
     let answers = held-answers session in
     cond (eqb (session .step) 1) (waits-first net (first-vectors net)) (waits-second net (first-vectors net) answers (second-vectors net answers))
 
-told-session : (h : History) (session : Session) → h ≢ none → Tells h session → session .step ≢ 3 → h ≡ session-of session
+told-session : (h : History) (session : Session) → h ≢ none → Tells h session → session .step ≢ 3 → h ≡ history-of session
 told-session none session begun t d = absurd (begun refl)
-told-session (waits-first net v1) session begun t d = ap (waits-first net) (t .wrote) ∙ sym (ap session-of (t .is))
+told-session (waits-first net v1) session begun t d = ap (waits-first net) (t .wrote) ∙ sym (ap history-of (t .is))
 told-session (waits-second net v1 r1 v2) session begun t d = rw (t .is, t .wrote, t .wrote-second, held-of net r1 (t .sized))
 told-session (finished-first net v1 r1 v2) session begun t d = absurd (d (t .step-three))
 told-session (finished-second net v1 r1 v2 r2) session begun t d = absurd (d (t .step-three))
@@ -138,11 +138,11 @@ advances session (second answers) =
     (λ h y. subst (ByRowsOf session call rows) (sym (y .4)) (λ l. (λ e. omega arith, l, call-by-table session call .in-session (waits-second (y .0) (y .1) (y .2) (y .3)) l)))
 
 -- a list of calls and one more
-one-more : (h : History) (start : Session) (calls : List Call) (call : Call) → let session = record-after our-sessions start calls in
+call-appended : (h : History) (start : Session) (calls : List Call) (call : Call) → let session = record-after our-sessions start calls in
     (record-after our-sessions start (calls ++ call ∷ []) ≡ our-sessions session call .session)
     × (history-from our-sessions h start (calls ++ call ∷ []) ≡ extended (history-from our-sessions h start calls) call (our-sessions session call))
-one-more h start [] call = (refl, refl)
-one-more h start (c ∷ calls) call = one-more (extended h c (our-sessions start c)) (our-sessions start c .session) calls call
+call-appended h start [] call = (refl, refl)
+call-appended h start (c ∷ calls) call = call-appended (extended h c (our-sessions start c)) (our-sessions start c .session) calls call
 
 -- an accepted call leaves no record outside a session
 after-begun : (net : Network) (v1 r1 v2 nets : List ℕ) → after-first net v1 r1 v2 nets ≢ none
@@ -161,9 +161,9 @@ goes-on : (h : History) (session : Session) (call : Call) (written : List ℕ) �
 goes-on h session call written y e start calls leaves in-session = record {
   start = start;
   calls = calls ++ call ∷ [];
-  leaves = one-more none start calls call .0 ∙ ap (λ (s : Session). our-sessions s call .session) leaves;
+  leaves = call-appended none start calls call .0 ∙ ap (λ (s : Session). our-sessions s call .session) leaves;
   in-session =
-      one-more none start calls call .1
+      call-appended none start calls call .1
       ∙ ap₂ (λ (x : History) (s : Session). extended x call (our-sessions s call)) in-session leaves
       ∙ goes-through session call written e .1 h
       ∙ ap (accepted h call) (front-written written (lent call));

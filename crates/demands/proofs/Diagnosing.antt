@@ -3,10 +3,9 @@ use mathlib.Core.Path.{_≡_, refl, sym, ap, _∙_, subst}
 use mathlib.Core.Logic.{_⊎_, inl, inr, _↔_}
 use mathlib.Core.List.{List, [], _∷_}
 use Prim.Native.Nat.{ℕ}
-use native.Mathlib.Omega.{arith}
 use lib.ListN.{length, take}
 use Rattle.words.specs.Answers.{Answer, refused, full, ByTable, NoneHolds, lent-after, count-of}
-use Rattle.words.proofs.Answers.{table-full, table-skip, front-written, fills-determined}
+use Rattle.words.proofs.Answers.{table-full, table-skip, front-written, fills-determined, refused-not-full}
 use Rattle.network.specs.declared.Network.{Network}
 use Rattle.network.specs.States.{Fits}
 use Rattle.network.proofs.Rows.{admitted-set}
@@ -27,7 +26,7 @@ module _ (net : Network) (k : ℕ) (vectors responses lent : List ℕ) where
   right : (a : Answer (List ℕ)) → ByTable (DiagnosisRows net k vectors responses (length lent)) (Fits net k vectors responses) a
       → (count : ℕ) → count-of a ≡ full count → Fits net k vectors responses (take (net .nets) (lent-after a lent))
   unfolding count-of
-  right (refused number) t count e = absurd (let z : _≡_ {A = ℕ} 0 1 = cc in omega arith)
+  right (refused number) t count e = refused-not-full refl e
   right (full state) t count e =
       let fits = table-full (Fits net k vectors responses) (DiagnosisRows net k vectors responses (length lent)) state t in
       subst (Fits net k vectors responses) (sym (begins-with state fits)) fits
@@ -74,7 +73,7 @@ module _ (net : Network) (k : ℕ) (vectors responses lent : List ℕ) where
             × ((s : List ℕ) × (diagnosis-answer net k vectors responses (length lent) ≡ full s) × Fits net k vectors responses s))
             → (count-of (diagnosis-answer net k vectors responses (length lent)) ≡ refused 14) ↔ (¬ ((state : List ℕ) × Fits net k vectors responses state))
         go (inl (no!, e)) = (λ _. no!, λ _. ap count-of e)
-        go (inr (some, (s, e, fits))) = (λ q. absurd (let f : full (length s) ≡ refused 14 = sym (ap count-of e) ∙ q in let z : _≡_ {A = ℕ} 0 1 = cc in omega arith), λ h. absurd (some h))
+        go (inr (some, (s, e, fits))) = (λ q. refused-not-full q (ap count-of e), λ h. absurd (some h))
 
 pub diagnoses : Diagnoses our-diagnosis
 diagnoses net k vectors responses lent = record {

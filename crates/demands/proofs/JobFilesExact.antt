@@ -1,11 +1,10 @@
 -- Our reader and our writer keep the promises on job files, and no other programs do.
 use Prim.Native.Nat.{ℕ, _≤_}
-use native.Mathlib.Omega.{arith}
 use mathlib.Core.Path.{_≡_, refl, sym, ap, ap₂, _∙_}
 use mathlib.Core.List.{List}
 use lib.ListN.{length, take}
-use Rattle.words.specs.Answers.{Answer, refused, full, lent-after, count-of}
-use Rattle.words.proofs.Answers.{front-written, fills-determined}
+use Rattle.words.specs.Answers.{Answer, full, lent-after, count-of}
+use Rattle.words.proofs.Answers.{front-written, fills-determined, counted-full}
 use Rattle.network.specs.declared.Network.{Network}
 use Rattle.jobfile.specs.declared.Job.{Job}
 use Rattle.jobfile.specs.Bytes.{AllBytes}
@@ -14,6 +13,7 @@ use Rattle.jobfile.specs.Reader.{JobContent, read-answer, vectors-read, respons
 use Rattle.jobfile.proofs.WriterLaws.{write-by-table, write-determined}
 use Rattle.jobfile.proofs.ReaderLaws.{read-by-table, read-determined}
 use Rattle.jobfile.proofs.Exactness as law
+use Rattle.jobfile.proofs.ReaderAnswers.{read-counted-full}
 use Rattle.demands.specs.JobFiles.{WriterProgram, Writes, ReaderProgram, Reads, file-written, Exact}
 use Rattle.demands.specs.Programs.{our-reader, our-writer}
 
@@ -34,17 +34,6 @@ reads-files file vectors responses = record {
   second-list = refl;
 }
 
--- an answer that counts is full of as many
-counted-words : (a : Answer (List ℕ)) (count : ℕ) → count-of a ≡ full count → (words : List ℕ) × (a ≡ full words) × (length words ≡ count)
-unfolding count-of
-counted-words (refused number) count e = absurd (let z : _≡_ {A = ℕ} 0 1 = cc in omega arith)
-counted-words (full words) count e = (words, refl, cc)
-
-counted-job : (a : Answer JobContent) (job : Job) → counted a ≡ full job
-    → (c : JobContent) × (a ≡ full c) × (record { network = c .network; class = c .class; vectors = length (c .vectors); responses = length (c .responses) } ≡ job)
-counted-job (refused number) job e = absurd (let z : _≡_ {A = ℕ} 0 1 = cc in omega arith)
-counted-job (full c) job e = (c, refl, cc)
-
 written-is-read : (net : Network) (k : ℕ) (vectors responses lent first second : List ℕ) (count : ℕ) → our-writer net k vectors responses lent .returned ≡ full count
     → length vectors ≤ length first → length responses ≤ length second
     → let did = our-reader (file-written (our-writer net k vectors responses lent) count) first second in
@@ -52,7 +41,7 @@ written-is-read : (net : Network) (k : ℕ) (vectors responses lent first second
     × (take (length vectors) (did .vectors) ≡ vectors)
     × (take (length responses) (did .responses) ≡ responses)
 written-is-read net k vectors responses lent first second count e l m =
-    let w = counted-words (write-answer net k vectors responses (length lent)) count e in
+    let w = counted-full (write-answer net k vectors responses (length lent)) count e in
     let file : List ℕ = w .0 in
     let same : file-written (our-writer net k vectors responses lent) count ≡ file =
     ap (λ (a : Answer (List ℕ)). take count (lent-after a lent)) (w .1) ∙ ap (λ (n : ℕ). take n (lent-after (full file) lent)) (sym (w .2)) ∙ front-written file lent in
@@ -71,7 +60,7 @@ read-is-written : (file first second lent : List ℕ) (job : Job) → AllBytes f
     (wrote .returned ≡ full (length file)) × (file-written wrote (length file) ≡ file)
 unfolding count-of
 read-is-written file first second lent job bytes e l =
-    let r = counted-job (read-answer file (length first) (length second)) job e in
+    let r = read-counted-full (read-answer file (length first) (length second)) job e in
     let c : JobContent = r .0 in
     let vectors-same : take (job .vectors) (our-reader file first second .vectors) ≡ c .vectors =
     ap (λ (a : Answer JobContent). take (job .vectors) (lent-after (vectors-read a) first)) (r .1)

@@ -14,6 +14,7 @@ use Rattle.diagnosis.specs.Open.{open-diagnosis}
 use Rattle.checker.specs.declared.Verdict.{Verdict}
 use Rattle.checker.specs.declared.Verdict.the-variants.{Pass, Pair}
 use Rattle.checker.specs.Check.{check-answer}
+use Rattle.checker.proofs.Verdicts.{pair-not-pass}
 use Rattle.demands.specs.Demand2.{ResponseProgram, Responds, DiagnosisProgram, Diagnoses}
 use Rattle.demands.specs.Demand3.{CheckProgram, Judged, Checks}
 use Rattle.demands.specs.Refuted.{passes-all-sets, shows-one-pair, refuses-every-set, writes-nothing, drops-tail, writes-when-refused, refuses-every-state, says-14, reads-nothing-back, accepts-conflicts, refuses-every-response, Refuted}
@@ -57,12 +58,9 @@ ours-shows : check-answer two 2 too-few ≡ full (Pair 0 3)
 unfolding open-diagnosis
 ours-shows = refl
 
-pass-or-pair : (a b : ℕ) → Pair a b ≡ Pass → ⊥
-pass-or-pair a b e = let z : _≡_ {A = ℕ} 0 1 = cc in omega arith
-
 passes-all : ¬ (Checks passes-all-sets)
 passes-all h =
-    pass-or-pair 0 3 (says check-answer checks too-few (Pair 0 3) ours-shows .passes .1 (says passes-all-sets h too-few Pass refl .passes .0 refl))
+    pair-not-pass (says check-answer checks too-few (Pair 0 3) ours-shows .passes .1 (says passes-all-sets h too-few Pass refl .passes .0 refl))
 
 one-pair : (a b : ℕ) → ¬ (Checks (shows-one-pair a b))
 one-pair a b h =

@@ -10,7 +10,7 @@ use lib.Dec.{leb}
 use lib.ListN.{length, take}
 use borrow.Author.Tests.{eq-eqb, le-ltb, leb-true, leb-false}
 use Rattle.words.specs.Answers.{Answer, refused, full, ByTable, NoneHolds, by-tests, lent-after}
-use Rattle.words.proofs.Tests.{cases}
+use Rattle.words.proofs.Tests.{cases, test-fails}
 use Rattle.words.proofs.Answers.{front-written, table-full, table-not-refused}
 use Rattle.network.specs.declared.Network.{Network}
 use Rattle.network.specs.Reading.{response}
@@ -30,7 +30,7 @@ use Rattle.demands.specs.SessionCalls.{Call, begin, first, second, lent,
 use Rattle.demands.specs.Demand3.{BeginRows, SecondRows, IsBegin, CallByTable, Ended, Sessions}
 use Rattle.demands.specs.SessionRecords.{RowFour, Front, Drives}
 use Rattle.demands.specs.Programs.{our-answer, our-new, our-sessions}
-use Rattle.demands.proofs.Telling.{WaitsFirst, WaitsSecond, Stopped, Tells, off, awaits, not-first, first-refused, second-refused, begin-by-table, told-by-table, call-tells, record-tells}
+use Rattle.demands.proofs.Telling.{WaitsFirst, WaitsSecond, Stopped, Tells, awaits, not-first, first-refused, second-refused, begin-by-table, told-by-table, call-tells, record-tells, is-begun}
 
 -- ---- calls that go through
 
@@ -65,12 +65,6 @@ left-tells h session l =
     subst (λ (x : History). Tells x session) (l .in-session)
     (subst (λ (s : Session). Tells (history our-sessions (l .start) (l .calls)) s) (l .leaves) (record-tells (l .start) (l .calls)))
 
-waits-not-none : (net : Network) (v1 : List ℕ) → waits-first net v1 ≢ none
-waits-not-none net v1 e = let z : _≡_ {A = ℕ} 0 1 = cc in omega arith
-
-waits-second-not-none : (net : Network) (v1 r1 v2 : List ℕ) → waits-second net v1 r1 v2 ≢ none
-waits-second-not-none net v1 r1 v2 e = let z : _≡_ {A = ℕ} 0 1 = cc in omega arith
-
 first-left : (session : Session) → awaits-first session ≡ true → LeftBy our-sessions (waits-first (session .network) (first-vectors (session .network))) session
 first-left session e =
     let net = session .network in
@@ -81,7 +75,7 @@ first-left session e =
       calls = begin net vectors ∷ [];
       leaves = through .0 ∙ sym (told .0);
       in-session = through .1 none ∙ ap (waits-first net) (front-written vectors vectors);
-      begun = waits-not-none net vectors;
+      begun = is-begun (waits-first net vectors) (λ z. omega arith);
     }
 
 -- some net is unclear
@@ -139,13 +133,13 @@ module _ (session : Session) (e : awaits-second session ≡ true) where
         ∙ through-two .1 (waits-first held-net vectors-one)
         ∙ ap (λ (ws : List ℕ). after-first held-net vectors-one held ws (unclear held-net held)) (front-written vectors-two vectors-two)
         ∙ after-some held-net vectors-one held vectors-two (unclear held-net held) (told-second .some-unclear);
-    begun = waits-second-not-none held-net vectors-one held vectors-two;
+    begun = is-begun (waits-second held-net vectors-one held vectors-two) (λ z. omega arith);
   }
 
 awaits-of-first : (h : History) (session : Session) (answers list : List ℕ) → Tells h session → Awaits h (first answers list) → awaits-first session ≡ true
 awaits-of-first h session answers list t (net, v1, q) =
     let w : WaitsFirst net v1 session = subst (λ (x : History). Tells x session) q t in
-    ap awaits-first (w .is) ∙ awaits-first-of net (off (decides-row-5 net) (w .nets))
+    ap awaits-first (w .is) ∙ awaits-first-of net (test-fails (decides-row-5 net) (w .nets))
 
 awaits-of-second : (h : History) (session : Session) (answers : List ℕ) → Tells h session → Awaits h (second answers) → awaits-second session ≡ true
 awaits-of-second h session answers t (net, v1, r1, v2, q) =
@@ -218,7 +212,7 @@ module _ (net : Network) (v1 r1 v2 state : List ℕ) (session : Session) (t : Wa
   call = second answers-two
 
   accepts : our-answer session call ≡ full []
-  accepts = go (our-answer session call) (told-by-table (waits-second net v1 r1 v2) session call (waits-second-not-none net v1 r1 v2) t)
+  accepts = go (our-answer session call) (told-by-table (waits-second net v1 r1 v2) session call (is-begun (waits-second net v1 r1 v2) (λ z. omega arith)) t)
     where
       go : (a : Answer (List ℕ)) → ByTable (SecondRows (waits-second net v1 r1 v2) answers-two) (λ (words : List ℕ). words ≡ []) a → a ≡ full []
       go (refused number) b = absurd (table-not-refused (λ (words : List ℕ). words ≡ []) (SecondRows (waits-second net v1 r1 v2) answers-two) number no-row b)

@@ -9,8 +9,8 @@ use lib.ListN.{length, length-append, replicate}
 use lib.Seq.{drop-append-seam, take-append-seam}
 use borrow.Author.Tests.{eqb-true, not-false}
 use Rattle.words.specs.Answers.{Answer, refused, full, ByTable, NoneHolds, by-tests, Decides, Decided, lent-after}
-use Rattle.words.proofs.Tests.{cases, contrary}
-use Rattle.words.proofs.Answers.{tests-by-table, table-full, let-through, front-written}
+use Rattle.words.proofs.Tests.{cases, contrary, test-fails}
+use Rattle.words.proofs.Answers.{tests-by-table, table-full, let-through, front-written, refused-not-full}
 use Rattle.network.specs.declared.Network.{Network}
 use Rattle.network.specs.Reading.{response}
 use Rattle.network.specs.Rows.{Row5, Row9, HighBit, bad-net-count, bad-response-count, has-high-bit, no-room}
@@ -57,10 +57,6 @@ Tells (finished-second net v1 r1 v2 r2) session = Stopped (finished-second net v
 
 -- ---- tests and rows
 
--- a test that passed or not, from what it decides
-pub off : {test : Bool} {holds : Type 0} → Decides test holds → ¬ holds → test ≡ false
-off {test} d no! = ⊎-elim (λ e. absurd (no! (d .0 e))) (λ e. e) (cases test)
-
 -- tests that let a call through: its result
 through : {A : Type 0} (rows : List (ℕ × Type 0)) (tests : List (ℕ × Bool)) (x y : A) → Decided rows tests → by-tests tests x ≡ full y → y ≡ x
 through {A} rows tests x y d e =
@@ -101,7 +97,7 @@ second-refused session answers e = rw e
 first-passed : (net : Network) (answers list : List ℕ) → ¬ (Row5 net)
     → our-answer (awaiting-first net) (first answers list) ≡ by-tests (first-tests net answers list) (second-vectors net answers)
 unfolding first-answer by-tests
-first-passed net answers list nets = rw (awaits-first-of net (off (decides-row-5 net) nets))
+first-passed net answers list nets = rw (awaits-first-of net (test-fails (decides-row-5 net) nets))
 
 -- ---- second answers
 
@@ -117,7 +113,7 @@ module _ (net : Network) (r1 : List ℕ) (nets : ¬ (Row5 net)) (sized : length 
   pub awaits : awaits-second (awaiting-second net r1) ≡ true
   awaits =
       let b = nets-admitted net nets in
-      awaits-second-of net r1 (off (decides-row-5 net) nets) sized (length-bounds net (b .0) (b .1) .1) (off (decides-high-bit net r1) narrow) some
+      awaits-second-of net r1 (test-fails (decides-row-5 net) nets) sized (length-bounds net (b .0) (b .1) .1) (test-fails (decides-high-bit net r1) narrow) some
 
   second-passed : (answers : List ℕ) → our-answer (awaiting-second net r1) (second answers) ≡ by-tests (second-tests net r1 answers) []
   unfolding second-answer by-tests
@@ -148,7 +144,7 @@ module _ (net : Network) (r1 : List ℕ) (nets : ¬ (Row5 net)) (sized : length 
     decides-row-14 = (λ e w. contrary e (fits-read (w .0) (w .1) .0), λ e no!. no! (read, read-fits e))
 
   as-many : (answers : List ℕ) → ¬ (Row9 (length (second-vectors net r1)) (length answers)) → length answers ≡ length (second-vectors net r1)
-  as-many answers h = eqb-true _ _ (not-false _ (off (decides-row-9 (length (second-vectors net r1)) (length answers)) h))
+  as-many answers h = eqb-true _ _ (not-false _ (test-fails (decides-row-9 (length (second-vectors net r1)) (length answers)) h))
 
   second-decided : (answers : List ℕ) → Decided (SecondRows (waits-second net (first-vectors net) r1 (second-vectors net r1)) answers) (second-tests net r1 answers)
   second-decided answers = (
@@ -233,10 +229,10 @@ told-by-table (finished-second net v1 r1 v2 r2) session (second answers) begun t
 -- ---- an accepted call
 
 -- what a finished record reports
-reports : (h : History) (net : Network) (r1 state : List ℕ) (spent : ℕ) → length state ≡ net .nets → OnlyFit h state → spent ≡ length (vectors-spent h)
+finished-reports : (h : History) (net : Network) (r1 state : List ℕ) (spent : ℕ) → length state ≡ net .nets → OnlyFit h state → spent ≡ length (vectors-spent h)
     → (length (unclear net r1) ≡ 0 → spent ≡ word-length net) → (length (unclear net r1) ≢ 0 → spent ≡ word-length net + length (unclear net r1) + 1)
     → Stopped h net r1 (finished net state spent)
-reports h net r1 state spent size only count clear unclear! = record {
+finished-reports h net r1 state spent size only count clear unclear! = record {
   step-three = refl;
   reported = record {
     network-held = refl;
@@ -262,7 +258,7 @@ first-in net v1 answers list words nets wrote e = go (unclear net answers) refl
     second-wrote = through (FirstRows (waits-first net (first-vectors net)) answers list) (first-tests net answers list) (second-vectors net answers) words (first-decided net answers list) past
 
     sized : length answers ≡ word-length net
-    sized = eqb-true _ _ (not-false _ (off (decides-row-9 (length (first-vectors net)) (length answers)) (free .0))) ∙ first-size net
+    sized = eqb-true _ _ (not-false _ (test-fails (decides-row-9 (length (first-vectors net)) (length answers)) (free .0))) ∙ first-size net
 
     nets-low : 2 ≤ net .nets
     nets-low = nets-admitted net nets .0
@@ -276,7 +272,7 @@ first-in net v1 answers list words nets wrote e = go (unclear net answers) refl
         let nothing : second-vectors net answers ≡ [] = second-none net answers clear in
         let spent : length (session-vectors net answers) ≡ word-length net = length-append (first-vectors net) (second-vectors net answers) ∙ rw (nothing, first-size net) (omega arith) in
         let fits = all-clear-fits net (words-apart net nets-low nets-high) answers clear sized (no-high-bit net answers (free .1 .0)) in
-        reports (finished-first net v1 answers words) net answers (fault-free-state net) (length (session-vectors net answers)) (fits .of-class .size)
+        finished-reports (finished-first net v1 answers words) net answers (fault-free-state net) (length (session-vectors net answers)) (fits .of-class .size)
         (record {
           fits = (fits .of-class, ap (response net (fault-free-state net)) wrote ∙ fits .gives);
           only = λ other f. all-clear-only net (words-apart net nets-low nets-high) answers clear other (record { of-class = f .0; gives = ap (response net other) (sym wrote) ∙ f .1 });
@@ -312,7 +308,7 @@ second-in net v1 r1 v2 answers words w e = rw (held-of net r1 (w .sized)) told
     state = read net r1 (w .nets) (w .sized) (w .narrow) (w .some) answers same (free .1 .0)
 
     found : no-state-fits net (net .nets) (session-vectors net r1) (r1 ++ answers) ≡ false
-    found = off (decides-row-14 net r1 (w .nets) (w .sized) (w .narrow) (w .some) answers same (free .1 .0)) (free .1 .1 .0)
+    found = test-fails (decides-row-14 net r1 (w .nets) (w .sized) (w .narrow) (w .some) answers same (free .1 .0)) (free .1 .1 .0)
 
     one : OnlyFit (both net r1 (w .nets) (w .sized) (w .narrow) (w .some) answers) state
     one = record {
@@ -325,7 +321,7 @@ second-in net v1 r1 v2 answers words w e = rw (held-of net r1 (w .sized)) told
 
     told : Stopped (finished-second net v1 r1 v2 answers) net r1 (finished net state (length (session-vectors net r1)))
     told =
-        reports (finished-second net v1 r1 v2 answers) net r1 state (length (session-vectors net r1)) (one .fits .0 .size)
+        finished-reports (finished-second net v1 r1 v2 answers) net r1 state (length (session-vectors net r1)) (one .fits .0 .size)
         (subst (λ (h : History). OnlyFit h state) (ap₂ (λ (x y : List ℕ). finished-second net x r1 y answers) (sym (w .wrote)) (sym (w .wrote-second))) one)
         (rw (w .wrote, w .wrote-second)) (λ c. absurd (w .some c)) (λ _. spent)
 
@@ -337,9 +333,6 @@ begin-in session net list words e = record {
   is = refl;
 }
 
-pub not-both : {A : Type 0} {number : ℕ} {x : A} {a : Answer A} → a ≡ refused number → a ≡ full x → ⊥
-not-both {number = number} {x = x} p q = let e : refused number ≡ full x = sym p ∙ q in let z : _≡_ {A = ℕ} 0 1 = cc in omega arith
-
 accepted-tells : (h : History) (session : Session) (call : Call) (words : List ℕ) → our-answer session call ≡ full words → Tells h session
     → Tells (accepted h call words) (our-new session call)
 accepted-tells h session (begin net list) words e t = begin-in session net list words e
@@ -349,22 +342,22 @@ accepted-tells (waits-first net v1) session (first answers list) words e t =
     (λ (s : Session). our-answer s (first answers list) ≡ full words → Tells (accepted (waits-first net v1) (first answers list) words) (our-new s (first answers list)))
     (sym (t .is)) (first-in net v1 answers list words (t .nets) (t .wrote)) e
 accepted-tells (waits-second net v1 r1 v2) session (first answers list) words e t =
-    absurd (not-both (away-first (waits-second net v1 r1 v2) session answers list (is-begun (waits-second net v1 r1 v2) (λ z. omega arith)) t (λ q. omega arith)) e)
+    refused-not-full (away-first (waits-second net v1 r1 v2) session answers list (is-begun (waits-second net v1 r1 v2) (λ z. omega arith)) t (λ q. omega arith)) e
 accepted-tells (finished-first net v1 r1 v2) session (first answers list) words e t =
-    absurd (not-both (away-first (finished-first net v1 r1 v2) session answers list (is-begun (finished-first net v1 r1 v2) (λ z. omega arith)) t (λ q. omega arith)) e)
+    refused-not-full (away-first (finished-first net v1 r1 v2) session answers list (is-begun (finished-first net v1 r1 v2) (λ z. omega arith)) t (λ q. omega arith)) e
 accepted-tells (finished-second net v1 r1 v2 r2) session (first answers list) words e t =
-    absurd (not-both (away-first (finished-second net v1 r1 v2 r2) session answers list (is-begun (finished-second net v1 r1 v2 r2) (λ z. omega arith)) t (λ q. omega arith)) e)
+    refused-not-full (away-first (finished-second net v1 r1 v2 r2) session answers list (is-begun (finished-second net v1 r1 v2 r2) (λ z. omega arith)) t (λ q. omega arith)) e
 accepted-tells none session (second answers) words e t = tt
 accepted-tells (waits-first net v1) session (second answers) words e t =
-    absurd (not-both (away-second (waits-first net v1) session answers (is-begun (waits-first net v1) (λ z. omega arith)) t (λ q. omega arith)) e)
+    refused-not-full (away-second (waits-first net v1) session answers (is-begun (waits-first net v1) (λ z. omega arith)) t (λ q. omega arith)) e
 accepted-tells (waits-second net v1 r1 v2) session (second answers) words e t =
     subst
     (λ (s : Session). our-answer s (second answers) ≡ full words → Stopped (finished-second net v1 r1 v2 answers) net r1 (our-new s (second answers)))
     (sym (t .is)) (second-in net v1 r1 v2 answers words (subst (λ (s : Session). WaitsSecond net v1 r1 v2 s) (t .is) t)) e
 accepted-tells (finished-first net v1 r1 v2) session (second answers) words e t =
-    absurd (not-both (away-second (finished-first net v1 r1 v2) session answers (is-begun (finished-first net v1 r1 v2) (λ z. omega arith)) t (λ q. omega arith)) e)
+    refused-not-full (away-second (finished-first net v1 r1 v2) session answers (is-begun (finished-first net v1 r1 v2) (λ z. omega arith)) t (λ q. omega arith)) e
 accepted-tells (finished-second net v1 r1 v2 r2) session (second answers) words e t =
-    absurd (not-both (away-second (finished-second net v1 r1 v2 r2) session answers (is-begun (finished-second net v1 r1 v2 r2) (λ z. omega arith)) t (λ q. omega arith)) e)
+    refused-not-full (away-second (finished-second net v1 r1 v2 r2) session answers (is-begun (finished-second net v1 r1 v2 r2) (λ z. omega arith)) t (λ q. omega arith)) e
 
 -- ---- every call keeps it
 

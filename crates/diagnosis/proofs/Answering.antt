@@ -4,12 +4,11 @@ use mathlib.Core.Bool.{true, false, true≢false, false≢true}
 use mathlib.Core.Logic.{⊎-elim}
 use mathlib.Core.List.{List, _++_}
 use Prim.Native.Nat.{ℕ}
-use native.Mathlib.Omega.{arith}
 use lib.ListN.{length}
 use lib.Dec.{eqb}
 use borrow.Author.Tests.{eqb-true, eqb-false}
 use Rattle.words.specs.Answers.{Answer, ByTable, NoneHolds, Decides, Decided}
-use Rattle.words.proofs.Tests.{cases}
+use Rattle.words.proofs.Tests.{cases, test-fails}
 use Rattle.words.proofs.Answers.{decided-append, tests-by-table, table-determined}
 use Rattle.network.specs.declared.Network.{Network}
 use Rattle.network.specs.States.{Fits}
@@ -18,9 +17,9 @@ use Rattle.network.proofs.Rows.{decides-set, decides-row-9, decides-high-bit, d
 use Rattle.checker.specs.declared.Verdict.{Verdict}
 use Rattle.checker.specs.declared.Verdict.the-variants.{Pass, Pair}
 use Rattle.checker.specs.Rule.{Rule, verdict}
-use Rattle.checker.proofs.Verdicts.{verdict-rule, rule-determined}
+use Rattle.checker.proofs.Verdicts.{verdict-rule, rule-determined, pair-not-pass}
 use Rattle.checker.proofs.Separation.{SetsApart, rule-shows, apart-one-fits}
-use Rattle.diagnosis.specs.ReadBack.{read-back, no-state-fits}
+use Rattle.diagnosis.specs.ReadBack.{read-back}
 use Rattle.diagnosis.specs.Diagnosis.{Row13, OwnRows, DiagnosisRows, not-passed, own-tests, diagnosis-answer}
 use Rattle.diagnosis.proofs.ReadingBack.{read-back-fits, decides-no-state-fits}
 
@@ -44,13 +43,12 @@ module _ (net : Network) (k : ℕ) (vectors : List ℕ) where
     where
       go : (v : Verdict) → v ≡ Pass → not-passed v ≡ true → ⊥
       go Pass q e = false≢true e
-      go (Pair a b) q e = let z : _≡_ {A = ℕ} 0 1 = cc in omega arith
+      go (Pair a b) q e = pair-not-pass q
 
   -- where row 13 does not hold, the sets of the class are told apart
   pub passed-apart : AdmittedSet net k vectors → ¬ (Row13 net k vectors) → SetsApart net k vectors
   passed-apart s h =
-      rule-shows net k vectors Pass (s .two) (s .narrow)
-      (⊎-elim (λ e. absurd (h (decides-row-13 .0 e))) passes-rule (cases (not-passed (verdict net k vectors))))
+      rule-shows net k vectors Pass (s .two) (s .narrow) (passes-rule (test-fails decides-row-13 h))
 
 module _ (net : Network) (k : ℕ) (vectors responses : List ℕ) (room : ℕ) where
   decides-own : NoneHolds (SetRows net k vectors) → Decided (OwnRows net k vectors responses room) (own-tests net k vectors responses room)
@@ -94,7 +92,7 @@ module _ (net : Network) (k : ℕ) (vectors responses : List ℕ) (room : ℕ) w
           let narrow = no-high-bit net responses ten in
           let apart = passed-apart net k vectors (admitted-set net k vectors (a, (b, (c, (d, tt))))) thirteen in
           read-back-fits net k vectors responses size narrow
-          (⊎-elim (λ e. absurd (fourteen (decides-no-state-fits net k vectors responses size narrow apart .0 e))) (λ e. e) (cases (no-state-fits net k vectors responses)))
+          (test-fails (decides-no-state-fits net k vectors responses size narrow apart) fourteen)
 
   pub diagnosis-determined : (a b : Answer (List ℕ)) → ByTable (DiagnosisRows net k vectors responses room) (Fits net k vectors responses) a
       → ByTable (DiagnosisRows net k vectors responses room) (Fits net k vectors responses) b → a ≡ b

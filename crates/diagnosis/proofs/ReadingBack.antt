@@ -16,7 +16,7 @@ use Rattle.words.specs.Answers.{Decides}
 use Rattle.words.specs.Bits.{has, at}
 use Rattle.words.specs.Searching.{is-found, or-zero, any}
 use Rattle.words.specs.Turning.{column}
-use Rattle.words.proofs.Tests.{cases, contrary, and-left, and-right, and-both, neither}
+use Rattle.words.proofs.Tests.{cases, contrary, and-left, and-right, and-both, neither, test-passes}
 use Rattle.words.proofs.Searching.{Least, first, nowhere, least-below, any-none, any-false}
 use Rattle.words.proofs.Bits.{words-equal}
 use Rattle.words.proofs.Columns.{length-tabulate, tabulate-at, column-below, has-column}
@@ -68,7 +68,7 @@ module _ (net : Network) (vectors responses : List ℕ) (size : length responses
               let d = decides-reads net (at state i) (at vectors t) in
               let same : reads net (at state i) (at vectors t) ≡ has (at responses t) i = answered-so (at state i) i (h i m) t l in (
                 λ e. d .0 (same ∙ e),
-                λ r. sym same ∙ ⊎-elim (λ e. e) (λ e. absurd (d .1 e r)) (cases (reads net (at state i) (at vectors t))),
+                λ r. sym same ∙ test-passes d r,
               );
         });
   }

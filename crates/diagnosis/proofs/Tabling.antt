@@ -1,6 +1,5 @@
 -- The call *findings* answers as its rows and its result say, and nothing is left open. And the table as a loop fills it.
 use mathlib.Core.Path.{_≡_, refl, sym, ap, _∙_, subst}
-use mathlib.Core.Logic.{⊎-elim}
 use mathlib.Core.List.{List, [], _++_, map}
 use Prim.Native.Nat.{ℕ, zero, suc, _+_, _-_, _≤_, _<_}
 use native.Mathlib.Omega.{arith}
@@ -10,11 +9,11 @@ use Rattle.words.specs.Answers.{Answer, refused, full, ByTable, NoneHolds, Deci
 use Rattle.words.specs.Bits.{at}
 use Rattle.words.specs.Turning.{tabulate}
 use Rattle.words.proofs.Answers.{tests-by-table, table-determined, table-skip, let-through, counted-refused, counted-full}
-use Rattle.words.proofs.Tests.{cases}
+use Rattle.words.proofs.Tests.{test-fails}
 use Rattle.words.proofs.Making.{map-at, map-fill, map-filled}
 use Rattle.words.proofs.Columns.{length-tabulate, tabulate-at}
 use Rattle.network.specs.declared.Network.{Network}
-use Rattle.network.specs.States.{State, not-a-state}
+use Rattle.network.specs.States.{State}
 use Rattle.network.proofs.States.{test→state, decides-not-a-state}
 use Rattle.network.proofs.Rows.{decides-row-5, decides-row-12, nets-admitted}
 use Rattle.diagnosis.specs.declared.Finding.{Finding}
@@ -69,7 +68,7 @@ module _ (net : Network) (state : List ℕ) (room : ℕ) where
   through : findings-answer net state room ≡ full (findings net state) → NoneHolds (FindingsRows net state room) → Accepted net state room
   through answer (five, (eleven, (twelve, _))) =
       let is-state : State net (net .nets) state =
-      ⊎-elim (λ e. absurd (eleven (decides-not-a-state net (net .nets) state .0 e))) (test→state net (net .nets) state) (cases (not-a-state net (net .nets) state)) in
+      test→state net (net .nets) state (test-fails (decides-not-a-state net (net .nets) state) eleven) in
       let size = is-state .size in
       record { few = nets-admitted net five .1; is-state = is-state; fits = omega (arith, twelve, size); answer = answer }
 

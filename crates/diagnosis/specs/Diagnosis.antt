@@ -52,6 +52,7 @@ own-tests net k vectors responses room =
 unfoldable pub fit-answer : Network → ℕ → (vectors responses : List ℕ) → Answer (List ℕ)
 fit-answer net k vectors responses = by-tests ((14, no-state-fits net k vectors responses) ∷ []) (read-back net k vectors responses)
 
+-- the call's answer, computed
 unfoldable pub diagnosis-answer : Network → ℕ → (vectors responses : List ℕ) → ℕ → Answer (List ℕ)
 diagnosis-answer net k vectors responses room =
     by-tests (set-tests net k vectors ++ own-tests net k vectors responses room) (read-back net k vectors responses)

@@ -28,6 +28,7 @@ kind true false = 1
 kind false true = 2
 kind true true = 3
 
+-- document 01's record of net i
 unfoldable pub finding : Network → List ℕ → ℕ → Finding
 finding net state i =
     let joined = partners net state i in

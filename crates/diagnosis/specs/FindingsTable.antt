@@ -27,6 +27,7 @@ findings-tests net state room = (5, bad-net-count net) ∷ (11, not-a-state net 
 unfoldable pub findings : Network → List ℕ → List Finding
 findings net state = map (finding net state) (tabulate (length state) (λ i. i))
 
+-- the call's answer, computed
 unfoldable pub findings-answer : Network → (state : List ℕ) → ℕ → Answer (List Finding)
 findings-answer net state room = by-tests (findings-tests net state room) (findings net state)
 

@@ -1,4 +1,5 @@
-// What is found on the nets of a wiring state. `finding_of` is a helper between crates: the state is one of the network's.
+// What is found on the nets of a wiring state. `finding_of` and `table_refusal` are helpers between crates; `finding_of` asks that the
+// state is one of the network's.
 ghost use mathlib.Core.Path.{_≡_};
 ghost use Prim.Native.Nat.{_<_, _≤_};
 ghost use lib.ListN.{length};

@@ -1,3 +1,3 @@
-pub mod Owing
+pub mod CallLaws
 pub mod Words
 pub mod Tabling

@@ -10,8 +10,8 @@ use Rattle.diagnosis.specs.declared.Finding.{Finding}
 use Rattle.diagnosis.specs.Findings.{finding}
 use Rattle.diagnosis.specs.FindingsTable.{findings}
 use Rattle.diagnosis.proofs.Tabling.{findings-size, findings-is}
-use Rattle.jobfile.specs.Bytes.{written}
-use Rattle.jobfile.proofs.ByteLaws.{written-none, written-more}
+use Rattle.words.specs.Writing.{written}
+use Rattle.words.proofs.Writing.{written-none, written-more}
 use Rattle.exports.specs.Exported.{finding-words}
 
 abbrev three : Finding → List ℕ

@@ -8,8 +8,8 @@ use lib.Seq.{take-all, drop-drop, drop-cons}
 use Rattle.words.specs.Bits.{at}
 use Rattle.words.specs.Answers.{full, lent-after}
 use Rattle.session.specs.declared.Session.{Session}
-use Rattle.jobfile.specs.Bytes.{written}
-use Rattle.jobfile.proofs.ByteLaws.{written-next, written-front}
+use Rattle.words.specs.Writing.{written}
+use Rattle.words.proofs.Writing.{written-next, written-front}
 use Rattle.exports.specs.Exported.{session-words, session-of, session-size}
 
 -- words put into the part of a list from a place on

@@ -98,8 +98,8 @@ first-exported session answers room = of-length session-size session (first-answ
 abbrev pub second-exported : (session answers : List ℕ) → Answer (List ℕ)
 second-exported session answers = of-length session-size session (second-answer (session-of session) answers)
 
-abbrev pub read-exported : (file job : List ℕ) (first second : ℕ) → Answer JobContent
-read-exported file job first second = of-length 4 job (read-answer file first second)
+abbrev pub read-exported : (file job : List ℕ) (vectors-room responses-room : ℕ) → Answer JobContent
+read-exported file job vectors-room responses-room = of-length 4 job (read-answer file vectors-room responses-room)
 
 abbrev pub write-exported : (nets class : ℕ) (vectors responses : List ℕ) → ℕ → (size : List ℕ) → Answer (List ℕ)
 write-exported nets class vectors responses room size = of-length 1 size (write-answer (network-of nets) class vectors responses room)

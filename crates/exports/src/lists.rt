@@ -4,7 +4,7 @@ ghost use Prim.Native.Nat.{_+_, _≤_};
 ghost use mathlib.Core.List.{[], _∷_};
 ghost use lib.ListN.{length};
 ghost use Rattle.words.specs.Answers.{full, «lent-after»};
-ghost use Rattle.jobfile.specs.Bytes.{written};
+ghost use Rattle.words.specs.Writing.{written};
 use jobfile::Job;
 
 // Words from a place on; the rest of `out` is kept.

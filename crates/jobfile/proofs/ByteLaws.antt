@@ -1,14 +1,15 @@
--- Numbers as bytes there and back, and bytes put into a file.
+-- Numbers as bytes there and back, and the loops that put them into a file.
 use mathlib.Core.Path.{_≡_, refl, sym, ap, ap₂, _∙_}
-use mathlib.Core.List.{List, [], _∷_, _++_, append-assoc, append-nil}
+use mathlib.Core.List.{List, [], _∷_, _++_, append-assoc}
 use Prim.Native.Nat.{ℕ, zero, suc, _+_, _*_, _-_, _/_, _%_, _^_, _≤_, _<_, suc-le-suc}
 use native.Mathlib.Nat.{pow-suc, not-suc-le-zero}
 use native.Mathlib.Omega.{arith}
-use lib.ListN.{length, take, drop, set, length-append, length-drop, take-append-drop, drop-of-length-le}
-use lib.Seq.{length-take-le, take-at, drop-drop, drop-append-add, drop-cons, set-split}
+use lib.ListN.{length, drop, set, length-append, drop-of-length-le}
+use lib.Seq.{drop-cons}
 use Rattle.words.specs.Bits.{at}
-use Rattle.words.specs.Answers.{lent-after, full}
-use Rattle.jobfile.specs.Bytes.{number-of, bytes-of, word-bytes, written, AllBytes}
+use Rattle.words.specs.Writing.{written}
+use Rattle.words.proofs.Writing.{written-none, written-one, written-more}
+use Rattle.jobfile.specs.Bytes.{number-of, bytes-of, word-bytes, AllBytes}
 
 -- ---- a number and its bytes
 
@@ -57,64 +58,6 @@ unfolding word-bytes
 word-bytes-append [] more = refl
 word-bytes-append (word ∷ words) more =
     ap (λ (l : List ℕ). bytes-of 8 word ++ l) (word-bytes-append words more) ∙ sym (append-assoc (bytes-of 8 word) (word-bytes words) (word-bytes more))
-
--- ---- bytes put into a file
-
-module _ (file : List ℕ) (offset : ℕ) where
-  pub written-none : written file offset [] ≡ file
-  unfolding written
-  written-none =
-      let e : offset + 0 ≡ offset = omega arith in
-      ap₂ (λ (front : List ℕ) (n : ℕ). front ++ drop n file) (append-nil (take offset file)) e ∙ take-append-drop offset file
-
-  pub written-one : (byte : ℕ) → offset < length file → set file offset byte ≡ written file offset (byte ∷ [])
-  unfolding written
-  written-one byte l =
-      let e : suc offset ≡ offset + 1 = omega arith in
-      set-split file offset byte l ∙ sym (append-assoc (take offset file) (byte ∷ []) (drop (suc offset) file))
-      ∙ ap (λ (n : ℕ). take offset file ++ (byte ∷ []) ++ drop n file) e
-
-  -- the front of the file up to the end of what was written
-  front-size : (bytes : List ℕ) → offset ≤ length file → length (take offset file ++ bytes) ≡ offset + length bytes
-  front-size bytes l =
-      let front = length-take-le offset file l in
-      let both = length-append (take offset file) bytes in
-      omega arith
-
-  pub written-length : (bytes : List ℕ) → offset + length bytes ≤ length file → length (written file offset bytes) ≡ length file
-  unfolding written
-  written-length bytes l =
-      let front = front-size bytes (omega arith) in
-      let tail = length-drop (offset + length bytes) file in
-      let both = length-append (take offset file ++ bytes) (drop (offset + length bytes) file) in
-      omega arith
-
-  -- bytes, then others right after them
-  pub written-more : (first second : List ℕ) → offset ≤ length file
-      → written (written file offset first) (offset + length first) second ≡ written file offset (first ++ second)
-  unfolding written
-  written-more first second l =
-      let front = front-size first l in
-      let head = take offset file ++ first in
-      let tail = drop (offset + length first) file in
-      let size : offset + length first + length second ≡ length head + length second = omega arith in
-      let end : offset + length first + length second ≡ offset + length (first ++ second) = let both = length-append first second in omega arith in
-      let rest : drop (offset + length first + length second) (head ++ tail) ≡ drop (offset + length (first ++ second)) file =
-      ap (λ (n : ℕ). drop n (head ++ tail)) size ∙ drop-append-add head tail (length second) ∙ drop-drop (length second) (offset + length first) file
-      ∙ ap (λ (n : ℕ). drop n file) end in
-      ap₂ (λ (a b : List ℕ). a ++ second ++ b) (take-at head tail (offset + length first) front) rest
-      ∙ ap (λ (a : List ℕ). a ++ drop (offset + length (first ++ second)) file) (append-assoc (take offset file) first second)
-
--- a file after one write, and after a second right behind it
-pub written-next : (file middle after : List ℕ) (offset next : ℕ) (first second : List ℕ) → middle ≡ written file offset first → after ≡ written middle next second
-    → next ≡ offset + length first → offset ≤ length file → after ≡ written file offset (first ++ second)
-written-next file middle after offset next first second e f n l =
-    f ∙ ap₂ (λ (m : List ℕ) (k : ℕ). written m k second) e n ∙ written-more file offset first second l
-
--- from the front on
-pub written-front : (file bytes : List ℕ) → written file 0 bytes ≡ lent-after (full bytes) file
-unfolding written lent-after
-written-front file bytes = let e : 0 + length bytes ≡ length bytes = omega arith in ap (λ (n : ℕ). bytes ++ drop n file) e
 
 -- ---- loops that put bytes: a turn, and the end
 

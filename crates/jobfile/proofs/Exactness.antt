@@ -13,17 +13,18 @@ use borrow.Author.Tests.{eqb-true, eqb-false, le-ltb, not-false}
 use Rattle.words.specs.Bits.{at}
 use Rattle.words.specs.Answers.{refused, full, by-tests}
 use Rattle.words.proofs.Tests.{cases}
+use Rattle.words.proofs.Answers.{refused-not-full}
 use Rattle.network.specs.declared.Network.{Network}
 use Rattle.network.specs.Rows.{bad-vector-count, has-high-bit, bad-response-count, no-room, set-tests}
 use Rattle.network.proofs.Rows.{decides-row-5, decides-row-7, decides-high-bit, nets-admitted, vectors-admitted, no-high-bit}
 use Rattle.jobfile.specs.Bytes.{AllBytes}
 use Rattle.jobfile.specs.Layout.{mark, entry-count, body-length, same-bytes, bad-mark, bad-layout, bad-bodies, file-network, file-class, body-words, has-responses, file-responses}
 use Rattle.jobfile.specs.Writer.{file-of, given, writer-tests, write-answer}
-use Rattle.jobfile.specs.Reader.{JobContent, content, file-tests, response-tests, read-answer}
+use Rattle.jobfile.specs.Reader.{JobContent, content, file-tests, list-tests, read-answer}
 use Rattle.jobfile.proofs.WriterLaws.{responses-most}
 use Rattle.jobfile.proofs.FileRows.{same-if-equal, decides-same-bytes, test→layout, layout→test, decides-row-3}
 use Rattle.jobfile.proofs.MadeFile.{Admitted, mark-made, layout-made, bodies-pass, content-made, given-made}
-use Rattle.jobfile.proofs.StandingFile.{Sound, two-entries-stand, three-entries-stand}
+use Rattle.jobfile.proofs.StandingFile.{AdmittedFile, two-entries-stand, three-entries-stand}
 
 -- ---- a full answer, and tests that all fail
 
@@ -39,7 +40,7 @@ none-passed ((number, test) ∷ tests) x y e = go test e (none-passed tests x y)
   where
     go : (t : Bool) → cond t (refused number) (by-tests tests x) ≡ full y → (by-tests tests x ≡ full y → AllFail tests × (x ≡ y))
         → ((t ≡ false) × AllFail tests) × (x ≡ y)
-    go true q later = absurd (let z : _≡_ {A = ℕ} 0 1 = cc in omega arith)
+    go true q later = refused-not-full refl q
     go false q later = let r = later q in ((refl, r .0), r .1)
 
 full-answer : {A : Type 0} (tests : List (ℕ × Bool)) (x : A) → AllFail tests → by-tests tests x ≡ full x
@@ -50,7 +51,7 @@ full-answer ((number, test) ∷ tests) x (e, h) = rw e (full-answer tests x h)
 -- the reader's tests of a file, with this content
 abbrev reader-tests : List ℕ → JobContent → (first second : ℕ) → List (ℕ × Bool)
 reader-tests file job first second =
-    file-tests file ++ set-tests (job .network) (job .class) (job .vectors) ++ response-tests file job first second
+    file-tests file ++ set-tests (job .network) (job .class) (job .vectors) ++ list-tests file job first second
 
 -- ---- the writer's file, read
 
@@ -111,8 +112,8 @@ written-is-read net k vectors responses room first second file e lv lr =
 stable : (a b : ℕ) → ¬ (a ≢ b) → a ≡ b
 stable a b n = ⊎-elim (eqb-true a b) (λ e. absurd (n (eqb-false a b e))) (cases (eqb a b))
 
-sound : (file : List ℕ) → AllBytes file → bad-mark file ≡ false → bad-layout file ≡ false → bad-bodies file ≡ false → Sound file
-sound file small t1 t2 t3 =
+admitted-file : (file : List ℕ) → AllBytes file → bad-mark file ≡ false → bad-layout file ≡ false → bad-bodies file ≡ false → AdmittedFile file
+admitted-file file small t1 t2 t3 =
     let bodies = decides-row-3 file .1 t3 in record {
       small = small;
       marked = decides-same-bytes (take 4 file) mark .0 (not-false (same-bytes (take 4 file) mark) t1);
@@ -153,7 +154,7 @@ module _ (file : List ℕ) where
       let equal = eqb-true (length (body-words file 2)) (length (body-words file 1)) (not-false (eqb (length (body-words file 2)) (length (body-words file 1))) test) in
       omega (arith, none)
 
-  content-stands : Sound file → (entry-count file ≡ 3 → 0 < length (body-words file 2))
+  content-stands : AdmittedFile file → (entry-count file ≡ 3 → 0 < length (body-words file 2))
       → file-of (file-network file) (file-class file) (body-words file 1) (file-responses file) ≡ file
   content-stands s some =
       let put = file-of (file-network file) (file-class file) (body-words file 1) in
@@ -164,7 +165,7 @@ module _ (file : List ℕ) where
   unfolding write-answer content
   content-is-written first second room small (t1, (t2, (t3, (t5, (t6, (t7, (t8, (t9, (t10, t12))))))))) l =
       let responses = file-responses file in
-      let whole = content-stands (sound file small t1 t2 t3) (some-responses t7 t9) in
+      let whole = content-stands (admitted-file file small t1 t2 t3) (some-responses t7 t9) in
       let made = file-of (file-network file) (file-class file) (body-words file 1) responses in
       let u9 = behind-weaker (given responses) (has-responses file) (bad-response-count (length (body-words file 1)) (length responses)) third-there t9 in
       let u10 = behind-weaker (given responses) (has-responses file) (has-high-bit (file-network file) responses) third-there t10 in

@@ -10,7 +10,7 @@ use lib.ListN.{length, take}
 use borrow.Author.Tests.{eqb-true, eq-eqb, ne-eqb, ltb-false, le-ltb, not-false}
 use Rattle.words.specs.Answers.{Decides}
 use Rattle.words.specs.Searching.{any}
-use Rattle.words.proofs.Tests.{cases, contrary, and-left, and-right, and-both, and-false, neither, decides-less, decides-equal, decides-not, decides-or, decides-and, test-passes}
+use Rattle.words.proofs.Tests.{cases, contrary, and-left, and-right, and-both, and-false, neither, decides-less, decides-equal, decides-not, decides-or, decides-and, test-passes, test-fails}
 use Rattle.words.proofs.Searching.{any-none, any-false, decides-any}
 use Rattle.network.specs.Rows.{Row12, no-room}
 use Rattle.network.proofs.Rows.{decides-row-12}
@@ -34,11 +34,11 @@ same-itself (x ∷ xs) = and-both (eq-eqb x x refl) (same-itself xs)
 pub same-if-equal : (xs ys : List ℕ) → xs ≡ ys → same-bytes xs ys ≡ true
 same-if-equal xs ys q = ap (same-bytes xs) (sym q) ∙ same-itself xs
 
-pub not-same-if-unequal : (xs ys : List ℕ) → xs ≢ ys → same-bytes xs ys ≡ false
-not-same-if-unequal xs ys n = ⊎-elim (λ e. absurd (n (same-is xs ys e))) (λ e. e) (cases (same-bytes xs ys))
-
 pub decides-same-bytes : (xs ys : List ℕ) → Decides (same-bytes xs ys) (xs ≡ ys)
 decides-same-bytes xs ys = (same-is xs ys, λ e q. contrary (same-if-equal xs ys q) e)
+
+pub not-same-if-unequal : (xs ys : List ℕ) → xs ≢ ys → same-bytes xs ys ≡ false
+not-same-if-unequal xs ys n = test-fails (decides-same-bytes xs ys) n
 
 pub decides-row-1 : (file : List ℕ) → Decides (bad-mark file) (Row1 file)
 decides-row-1 file = decides-not (decides-same-bytes (take 4 file) mark)

@@ -1,6 +1,6 @@
 -- The writer's file, read: its layout, and its content.
 use mathlib.Core.Path.{_≡_, refl, sym, ap, ap₂, _∙_}
-use mathlib.Core.Bool.{Bool, false}
+use mathlib.Core.Bool.{false}
 use mathlib.Core.Logic.{inl, inr, ⊎-elim}
 use mathlib.Core.List.{List, [], _∷_, _++_, append-assoc, append-nil}
 use Prim.Native.Nat.{ℕ, zero, suc, _+_, _*_, _/_, _%_, _^_, _≤_, _<_}
@@ -10,8 +10,7 @@ use lib.Dec.{eqb}
 use lib.ListN.{length, take, drop}
 use lib.Seq.{drop-at, drop-drop, getD-drop}
 use Rattle.words.specs.Bits.{at}
-use Rattle.words.specs.Answers.{Decides}
-use Rattle.words.proofs.Tests.{cases}
+use Rattle.words.proofs.Tests.{test-fails}
 use Rattle.network.specs.declared.Network.{Network}
 use Rattle.jobfile.specs.Bytes.{bytes-of, word-bytes}
 use Rattle.jobfile.specs.Layout.{mark, entry-count, bodies-at, entry-kind, body-offset, body-length, Layout, bad-bodies, file-network, file-class, body-words, has-responses, file-responses}
@@ -225,9 +224,6 @@ module _ (net : Network) (k : ℕ) (vectors : List ℕ) where
   responses-made (word ∷ words) h =
       words-made net k vectors (word ∷ words) h 2 (34 + 8 * length vectors) (word ∷ words) [] (offset-2 net k vectors word words h)
       (length-2 net k vectors word words h) (responses-stand net k vectors (word ∷ words) h) (h .responses-fit)
-
-test-fails : {test : Bool} {A : Type 0} → Decides test A → ¬ A → test ≡ false
-test-fails {test} d n = ⊎-elim (λ e. absurd (n (d .0 e))) (λ e. e) (cases test)
 
 third-given : (responses : List ℕ) → eqb (entries-for responses) 3 ≡ given responses
 third-given [] = refl

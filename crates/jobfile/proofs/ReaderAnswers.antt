@@ -5,7 +5,7 @@ use mathlib.Core.List.{List, [], _∷_, _++_}
 use Prim.Native.Nat.{ℕ}
 use lib.ListN.{length}
 use Rattle.words.specs.Answers.{Answer, refused, full, by-tests, lent-after}
-use Rattle.words.proofs.Answers.{shared-refuse, shared-pass}
+use Rattle.words.proofs.Answers.{shared-refuse, shared-pass, refused-not-full}
 use Rattle.network.specs.declared.Network.{Network}
 use Rattle.network.specs.Rows.{set-tests, bad-response-count, has-high-bit, no-room}
 use Rattle.jobfile.specs.declared.Job.{Job}
@@ -73,6 +73,16 @@ module _ (file : List ℕ) (first second : ℕ) where
           pub by-none : file-no-room file first second ≡ false → read-answer file first second ≡ full (content file)
           unfolding by-tests
           by-none e = by-own ∙ rw e
+
+-- what the call's answer tells of the content: its refusal, and the counts of its lists
+pub read-counted-refused : (a : Answer JobContent) (number : ℕ) → counted a ≡ refused number → a ≡ refused number
+read-counted-refused (refused other) number e = let same : other ≡ number = cc in ap refused same
+read-counted-refused (full job) number e = refused-not-full e refl
+
+pub read-counted-full : (a : Answer JobContent) (job : Job) → counted a ≡ full job
+    → (c : JobContent) × (a ≡ full c) × (record { network = c .network; class = c .class; vectors = length (c .vectors); responses = length (c .responses) } ≡ job)
+read-counted-full (refused number) job e = refused-not-full refl e
+read-counted-full (full c) job e = (c, refl, cc)
 
 -- what the call owes: its answer, and both lists
 pub owed-refused-both : (a : Answer JobContent) (number : ℕ) (vectors responses : List ℕ) → a ≡ refused number

@@ -7,15 +7,15 @@ use Rattle.words.specs.Answers.{Answer, ByTable, Decided}
 use Rattle.words.proofs.Answers.{decided-append, tests-by-table, table-determined}
 use Rattle.network.specs.Rows.{SetRows, set-tests}
 use Rattle.network.proofs.Rows.{decides-set, decides-row-9, decides-high-bit}
-use Rattle.jobfile.specs.Reader.{JobContent, content, FileRows, ResponseRows, ReaderRows, file-tests, response-tests, read-answer}
+use Rattle.jobfile.specs.Reader.{JobContent, content, FileRows, ListRows, ReaderRows, file-tests, list-tests, read-answer}
 use Rattle.jobfile.proofs.FileRows.{decides-row-1, decides-row-2, decides-row-3, decides-given-row, decides-either-room}
 
 module _ (file : List ℕ) (first second : ℕ) where
   decides-file : Decided (FileRows file) (file-tests file)
   decides-file = (refl, decides-row-1 file, λ _. (refl, decides-row-2 file, λ _. (refl, decides-row-3 file, λ _. tt)))
 
-  decides-responses : (job : JobContent) → Decided (ResponseRows file job first second) (response-tests file job first second)
-  decides-responses job = (
+  decides-lists : (job : JobContent) → Decided (ListRows file job first second) (list-tests file job first second)
+  decides-lists job = (
     refl,
     decides-given-row file (decides-row-9 (length (job .vectors)) (length (job .responses))),
     λ _. (
@@ -26,20 +26,20 @@ module _ (file : List ℕ) (first second : ℕ) where
   )
 
   decides-rows : Decided (ReaderRows file first second)
-      (file-tests file ++ set-tests (content file .network) (content file .class) (content file .vectors) ++ response-tests file (content file) first second)
+      (file-tests file ++ set-tests (content file .network) (content file .class) (content file .vectors) ++ list-tests file (content file) first second)
   decides-rows =
       let job = content file in
-      decided-append (FileRows file) (SetRows (job .network) (job .class) (job .vectors) ++ ResponseRows file job first second) (file-tests file)
-      (set-tests (job .network) (job .class) (job .vectors) ++ response-tests file job first second) decides-file
+      decided-append (FileRows file) (SetRows (job .network) (job .class) (job .vectors) ++ ListRows file job first second) (file-tests file)
+      (set-tests (job .network) (job .class) (job .vectors) ++ list-tests file job first second) decides-file
       (λ _.
-      decided-append (SetRows (job .network) (job .class) (job .vectors)) (ResponseRows file job first second) (set-tests (job .network) (job .class) (job .vectors))
-      (response-tests file job first second) (decides-set (job .network) (job .class) (job .vectors)) (λ _. decides-responses job))
+      decided-append (SetRows (job .network) (job .class) (job .vectors)) (ListRows file job first second) (set-tests (job .network) (job .class) (job .vectors))
+      (list-tests file job first second) (decides-set (job .network) (job .class) (job .vectors)) (λ _. decides-lists job))
 
   pub read-by-table : ByTable (ReaderRows file first second) (λ job. job ≡ content file) (read-answer file first second)
   unfolding read-answer
   read-by-table =
       tests-by-table (λ job. job ≡ content file) (ReaderRows file first second)
-      (file-tests file ++ set-tests (content file .network) (content file .class) (content file .vectors) ++ response-tests file (content file) first second)
+      (file-tests file ++ set-tests (content file .network) (content file .class) (content file .vectors) ++ list-tests file (content file) first second)
       (content file) decides-rows (λ _. refl)
 
   pub read-determined : (a b : Answer JobContent) → ByTable (ReaderRows file first second) (λ job. job ≡ content file) a

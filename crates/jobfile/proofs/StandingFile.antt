@@ -15,7 +15,7 @@ use Rattle.jobfile.proofs.WriterLaws.{entries-three, response-entry-is}
 use Rattle.jobfile.proofs.ReadBytes.{words-stand, entry-stands}
 
 -- what rows 1 to 3 admit
-pub record Sound (file : List ℕ) : Type 0 where
+pub record AdmittedFile (file : List ℕ) : Type 0 where
   pub small : AllBytes file
   pub marked : take 4 file ≡ mark
   pub laid : Layout file
@@ -41,7 +41,7 @@ regroup : (count nets k : ℕ) (first second third vectors responses : List ℕ)
     ≡ mark ++ count ∷ first ++ second ++ third ++ nets ∷ k ∷ vectors ++ responses
 regroup count nets k first second third vectors responses = simp append-assoc
 
-module _ (file : List ℕ) (s : Sound file) where
+module _ (file : List ℕ) (s : AdmittedFile file) where
   two-or-three : (2 ≤ entry-count file) × (entry-count file ≤ 3)
   two-or-three = ⊎-elim (λ q. (omega arith, omega arith)) (λ q. (omega arith, omega arith)) (s .laid .entries)
 

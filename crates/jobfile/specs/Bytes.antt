@@ -23,10 +23,6 @@ word-bytes (word ∷ words) = bytes-of 8 word ++ word-bytes words
 unfoldable pub number-at : List ℕ → (offset count : ℕ) → ℕ
 number-at file offset count = number-of (take count (drop offset file))
 
--- bytes put into a file from an offset on
-unfoldable pub written : List ℕ → ℕ → List ℕ → List ℕ
-written file offset bytes = take offset file ++ bytes ++ drop (offset + length bytes) file
-
 -- a list of bytes
 abbrev pub AllBytes : List ℕ → Type 0
 AllBytes file = (i : ℕ) → i < length file → at file i < 256

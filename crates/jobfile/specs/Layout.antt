@@ -20,7 +20,7 @@ mark = 66 ∷ 83 ∷ 74 ∷ 49 ∷ []
 abbrev pub most-bytes : ℕ
 most-bytes = 2048
 
--- the number of entries, and of entry i its kind, the offset of its body and the body's length
+-- the number of entries
 abbrev pub entry-count : List ℕ → ℕ
 entry-count file = at file 4
 
@@ -28,6 +28,7 @@ entry-count file = at file 4
 abbrev pub bodies-at : ℕ → ℕ
 bodies-at entries = 5 + 9 * entries
 
+-- of entry i: its kind, the offset of its body, the body's length
 unfoldable pub entry-kind : List ℕ → ℕ → ℕ
 entry-kind file i = at file (5 + 9 * i)
 

@@ -27,30 +27,31 @@ abbrev pub FileRows : List ℕ → List (ℕ × Type 0)
 FileRows file = (1, Row1 file) ∷ (2, Row2 file) ∷ (3, Row3 file) ∷ []
 
 -- with no third entry, rows 9 and 10 are not tested; either list may be too short
-abbrev pub ResponseRows : List ℕ → JobContent → (first second : ℕ) → List (ℕ × Type 0)
-ResponseRows file job first second =
+abbrev pub ListRows : List ℕ → JobContent → (vectors-room responses-room : ℕ) → List (ℕ × Type 0)
+ListRows file job vectors-room responses-room =
     (9, (has-responses file ≡ true) × Row9 (length (job .vectors)) (length (job .responses)))
     ∷ (10, (has-responses file ≡ true) × HighBit (job .network) (job .responses))
-    ∷ (12, Row12 (length (job .vectors)) first ⊎ Row12 (length (job .responses)) second)
+    ∷ (12, Row12 (length (job .vectors)) vectors-room ⊎ Row12 (length (job .responses)) responses-room)
     ∷ []
 
-abbrev pub ReaderRows : List ℕ → (first second : ℕ) → List (ℕ × Type 0)
-ReaderRows file first second =
-    FileRows file ++ SetRows (content file .network) (content file .class) (content file .vectors) ++ ResponseRows file (content file) first second
+abbrev pub ReaderRows : List ℕ → (vectors-room responses-room : ℕ) → List (ℕ × Type 0)
+ReaderRows file vectors-room responses-room =
+    FileRows file ++ SetRows (content file .network) (content file .class) (content file .vectors) ++ ListRows file (content file) vectors-room responses-room
 
 abbrev pub file-tests : List ℕ → List (ℕ × Bool)
 file-tests file = (1, bad-mark file) ∷ (2, bad-layout file) ∷ (3, bad-bodies file) ∷ []
 
-abbrev pub response-tests : List ℕ → JobContent → (first second : ℕ) → List (ℕ × Bool)
-response-tests file job first second =
+abbrev pub list-tests : List ℕ → JobContent → (vectors-room responses-room : ℕ) → List (ℕ × Bool)
+list-tests file job vectors-room responses-room =
     (9, has-responses file && bad-response-count (length (job .vectors)) (length (job .responses)))
     ∷ (10, has-responses file && has-high-bit (job .network) (job .responses))
-    ∷ (12, no-room (length (job .vectors)) first || no-room (length (job .responses)) second)
+    ∷ (12, no-room (length (job .vectors)) vectors-room || no-room (length (job .responses)) responses-room)
     ∷ []
 
-unfoldable pub read-answer : List ℕ → (first second : ℕ) → Answer JobContent
-read-answer file first second =
-    by-tests (file-tests file ++ set-tests (content file .network) (content file .class) (content file .vectors) ++ response-tests file (content file) first second)
+-- the call's answer, computed
+unfoldable pub read-answer : List ℕ → (vectors-room responses-room : ℕ) → Answer JobContent
+read-answer file vectors-room responses-room =
+    by-tests (file-tests file ++ set-tests (content file .network) (content file .class) (content file .vectors) ++ list-tests file (content file) vectors-room responses-room)
     (content file)
 
 -- what is written to the two lists

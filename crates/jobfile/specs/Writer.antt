@@ -50,6 +50,7 @@ OwnRows net k vectors responses room =
 abbrev pub WriterRows : Network → ℕ → (vectors responses : List ℕ) → ℕ → List (ℕ × Type 0)
 WriterRows net k vectors responses room = SetRows net k vectors ++ OwnRows net k vectors responses room
 
+-- whether there are any responses
 abbrev pub given : List ℕ → Bool
 given [] = false
 given (word ∷ words) = true
@@ -64,6 +65,7 @@ own-tests net k vectors responses room =
 abbrev pub writer-tests : Network → ℕ → (vectors responses : List ℕ) → ℕ → List (ℕ × Bool)
 writer-tests net k vectors responses room = set-tests net k vectors ++ own-tests net k vectors responses room
 
+-- the call's answer, computed
 unfoldable pub write-answer : Network → ℕ → (vectors responses : List ℕ) → ℕ → Answer (List ℕ)
 write-answer net k vectors responses room = by-tests (writer-tests net k vectors responses room) (file-of net k vectors responses)
 

@@ -7,8 +7,8 @@ use lib.ListN.{length, length-append}
 use Rattle.network.specs.declared.Network.{Network}
 use Rattle.diagnosis.specs.declared.Finding.{Finding}
 use Rattle.diagnosis.specs.Findings.{finding}
-use Rattle.jobfile.specs.Bytes.{written}
-use Rattle.jobfile.proofs.ByteLaws.{written-none, written-length, written-more}
+use Rattle.words.specs.Writing.{written}
+use Rattle.words.proofs.Writing.{written-none, written-length, written-more}
 use Rattle.listing.specs.Decimal.{decimal, spaced, numbers-end}
 use Rattle.listing.specs.Report.{net-line, net-lines}
 use Rattle.listing.proofs.Numerals.{decimal-most}

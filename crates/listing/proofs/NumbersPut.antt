@@ -6,8 +6,8 @@ use mathlib.Core.List.{List, [], _∷_}
 use lib.ListN.{length, length-append, drop, drop-of-length-le}
 use lib.Seq.{drop-cons}
 use Rattle.words.specs.Bits.{at}
-use Rattle.jobfile.specs.Bytes.{written}
-use Rattle.jobfile.proofs.ByteLaws.{written-length, written-more}
+use Rattle.words.specs.Writing.{written}
+use Rattle.words.proofs.Writing.{written-length, written-more}
 use Rattle.listing.specs.Decimal.{newline, spaced, numbers-end}
 use Rattle.listing.proofs.Numerals.{decimal-most}
 

@@ -7,7 +7,7 @@ use mathlib.Core.List.{List, [], _∷_}
 use lib.ListN.{length, take, replicate, length-append}
 use Rattle.words.specs.Answers.{Answer, refused, full, ByTable, NoneHolds, lent-after, count-of}
 use Rattle.words.proofs.Classes.{ones-at-most}
-use Rattle.words.proofs.Answers.{table-full, front-written, written-fits, counted-refused, counted-full}
+use Rattle.words.proofs.Answers.{table-full, front-written, written-fits, counted-refused, counted-full, refused-not-full}
 use Rattle.network.specs.declared.Network.{Network}
 use Rattle.network.specs.States.{State, Fits}
 use Rattle.network.specs.Rows.{SetRows}
@@ -22,6 +22,7 @@ use Rattle.jobfile.specs.declared.ReadJob.{ReadJob}
 use Rattle.jobfile.specs.declared.ReadJob.the-variants.{Content, Refused as Stopped}
 use Rattle.jobfile.specs.Reader.{JobContent, content, ReaderRows, read-answer, vectors-read, responses-read, counted, read-meaning}
 use Rattle.jobfile.proofs.ReaderLaws.{read-by-table}
+use Rattle.jobfile.proofs.ReaderAnswers.{read-counted-refused, read-counted-full}
 use Rattle.listing.specs.Decimal.{spaced, numbers-end}
 use Rattle.listing.specs.Report.{refused-line, verdict-line, diagnosis-text, responses-text, content-text, job-text, report}
 use Rattle.listing.proofs.Numerals.{decimal-most}
@@ -108,16 +109,12 @@ pub record ReadContent (file : List ℕ) (job : Job) (vectors responses : List �
 pub read-refused : (file : List ℕ) (answer : ReadJob) (number : ℕ) → answer ≡ Stopped number → read-meaning answer ≡ counted (read-answer file 64 64)
     → report file ≡ refused-line number
 unfolding report
-read-refused file answer number r e = ap job-text (stopped (read-answer file 64 64) (sym e ∙ ap read-meaning r))
-  where
-    stopped : (a : Answer JobContent) → counted a ≡ refused number → a ≡ refused number
-    stopped (refused other) q = let same : other ≡ number = cc in ap refused same
-    stopped (full job) q = absurd (let z : _≡_ {A = ℕ} 0 1 = cc in omega arith)
+read-refused file answer number r e = ap job-text (read-counted-refused (read-answer file 64 64) number (sym e ∙ ap read-meaning r))
 
 -- a full result is given only where no row holds
 full-none-holds : {A : Type 0} (result : A → Type 0) (rows : List (ℕ × Type 0)) (x : A) → ByTable rows result (full x) → NoneHolds rows
 full-none-holds result [] x p = tt
-full-none-holds result ((number, holds) ∷ rows) x (inl (h, e)) = absurd (let z : _≡_ {A = ℕ} 0 1 = cc in omega arith)
+full-none-holds result ((number, holds) ∷ rows) x (inl (h, e)) = refused-not-full e refl
 full-none-holds result ((number, holds) ∷ rows) x (inr (n, p)) = (n, full-none-holds result rows x p)
 
 module _ (file : List ℕ) where
@@ -130,12 +127,11 @@ module _ (file : List ℕ) where
       subst (λ (x : JobContent). NoneHolds (SetRows (x .network) (x .class) (x .vectors))) (sym (table-full (λ x. x ≡ content file) (ReaderRows file 64 64) c by-rows))
       (set .0, (set .1 .0, (set .1 .1 .0, (set .1 .1 .1 .0, tt))))
 
-  content-read : (job : Job) (a : Answer JobContent) → read-answer file 64 64 ≡ a → counted a ≡ full job
-      → ReadContent file job (lent-after (vectors-read a) (replicate 64 0)) (lent-after (responses-read a) (replicate 64 0))
+  content-read : (job : Job) (c : JobContent) → read-answer file 64 64 ≡ full c
+      → record { network = c .network; class = c .class; vectors = length (c .vectors); responses = length (c .responses) } ≡ job
+      → ReadContent file job (lent-after (full (c .vectors)) (replicate 64 0)) (lent-after (full (c .responses)) (replicate 64 0))
   unfolding report
-  content-read job (refused number) e q = absurd (let z : _≡_ {A = ℕ} 0 1 = cc in omega arith)
-  content-read job (full c) e q =
-      let same : record { network = c .network; class = c .class; vectors = length (c .vectors); responses = length (c .responses) } ≡ job = cc in
+  content-read job c e same =
       let vectors = front-written (c .vectors) (replicate 64 0) in
       let responses = front-written (c .responses) (replicate 64 0) in
       subst (λ (j : Job). ReadContent file j (lent-after (full (c .vectors)) (replicate 64 0)) (lent-after (full (c .responses)) (replicate 64 0))) same
@@ -151,4 +147,6 @@ pub read-content : (file : List ℕ) (answer : ReadJob) (job : Job) (vectors res
     → vectors ≡ lent-after (vectors-read (read-answer file 64 64)) (replicate 64 0)
     → responses ≡ lent-after (responses-read (read-answer file 64 64)) (replicate 64 0) → ReadContent file job vectors responses
 read-content file answer job vectors responses r e v w =
-    subst₂ (λ (a b : List ℕ). ReadContent file job a b) (sym v) (sym w) (content-read file job (read-answer file 64 64) refl (sym e ∙ ap read-meaning r))
+    let c = read-counted-full (read-answer file 64 64) job (sym e ∙ ap read-meaning r) in
+    subst₂ (λ (a b : List ℕ). ReadContent file job a b) (sym (v ∙ ap (λ (a : Answer JobContent). lent-after (vectors-read a) (replicate 64 0)) (c .1)))
+    (sym (w ∙ ap (λ (a : Answer JobContent). lent-after (responses-read a) (replicate 64 0)) (c .1))) (content-read file job (c .0) (c .1) (c .2))

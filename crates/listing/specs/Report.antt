@@ -26,7 +26,7 @@ verdict-line net k count (Pair a b) = 112 ∷ 97 ∷ 105 ∷ 114 ∷ numbers-end
 unfoldable pub net-line : ℕ → Finding → List ℕ
 net-line i found = decimal i ++ numbers-end (found .kind ∷ found .reach ∷ found .partners ∷ [])
 
--- the lines of the nets from net i on, of these records
+-- the lines of this many nets of a state, from net i on
 unfoldable pub net-lines : Network → List ℕ → ℕ → ℕ → List ℕ
 net-lines net state i zero = []
 net-lines net state i (suc count) = net-line i (finding net state i) ++ net-lines net state (suc i) count

@@ -3,7 +3,7 @@ ghost use mathlib.Core.Path.{_≡_};
 ghost use mathlib.Core.List.{_++_};
 ghost use Prim.Native.Nat.{_+_, _*_, _≤_};
 ghost use lib.ListN.{length, drop};
-ghost use Rattle.jobfile.specs.Bytes.{written};
+ghost use Rattle.words.specs.Writing.{written};
 ghost use Rattle.listing.specs.Decimal.{decimal, spaced, «numbers-end»};
 
 // The digits of a number at the end of a buffer; returns where they start.
@@ -23,7 +23,7 @@ fn digits_at_end(n: u64, buffer: &mut [u8]) -> usize
 }
 
 // Bytes into a text from an index on.
-pub fn put_bytes(text: &mut [u8], at: usize, bytes: &[u8])
+fn put_bytes(text: &mut [u8], at: usize, bytes: &[u8])
     requires { ⌜ at + length (now bytes) ≤ length (now text) ⌝ }
     ensures { λ r. ⌜ now (text .exit) ≡ written (now (text .entry)) at (now (bytes .entry)) ⌝ }
 {

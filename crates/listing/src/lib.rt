@@ -5,11 +5,11 @@ ghost use lib.ListN.{length, replicate};
 ghost use Rattle.words.specs.Answers.{full, NoneHolds, «lent-after»};
 ghost use Rattle.network.specs.Rows.{SetRows};
 ghost use Rattle.diagnosis.specs.Diagnosis.{«diagnosis-answer»};
-ghost use Rattle.jobfile.specs.Bytes.{written};
+ghost use Rattle.words.specs.Writing.{written};
 ghost use Rattle.listing.specs.Report.{«diagnosis-text», «content-text», report};
 
-pub mod decimal;
-pub mod lines;
+mod decimal;
+mod lines;
 
 use diagnosis::Diagnosed;
 use jobfile::ReadJob;

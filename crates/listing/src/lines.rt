@@ -3,7 +3,7 @@ ghost use mathlib.Core.Path.{_≡_};
 ghost use Prim.Native.Nat.{_+_, _*_, _≤_};
 ghost use lib.ListN.{length};
 ghost use Rattle.network.specs.States.{State};
-ghost use Rattle.jobfile.specs.Bytes.{written};
+ghost use Rattle.words.specs.Writing.{written};
 ghost use Rattle.listing.specs.Report.{«refused-line», «verdict-line», «net-line», «net-lines»};
 use crate::decimal;
 use checker::Verdict;
@@ -44,7 +44,7 @@ pub fn put_verdict(
 }
 
 // The line of a net; returns the index past it.
-pub fn put_net(text: &mut [u8], at: usize, net: u64, found: Finding) -> usize
+fn put_net(text: &mut [u8], at: usize, net: u64, found: Finding) -> usize
     requires { ⌜ at + 84 ≤ length (now text) ⌝ }
     ensures { λ r. ⌜ (r ≡ at + length (net-line net found)) × (now (text .exit) ≡ written (now (text .entry)) at (net-line net found)) ⌝ }
 {

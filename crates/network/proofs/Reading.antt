@@ -15,7 +15,7 @@ use borrow.Author.Tests.{eq-eqb, ne-eqb, eqb-true, eqb-false, not-true}
 use Rattle.words.specs.Bits.{has, at}
 use Rattle.words.specs.Searching.{any}
 use Rattle.words.specs.Answers.{Decides}
-use Rattle.words.proofs.Tests.{cases, contrary, and-left, and-right, and-both, or-cases, or-right, same-truth}
+use Rattle.words.proofs.Tests.{cases, contrary, and-left, and-right, and-both, or-cases, or-right, same-truth, test-passes}
 use Rattle.words.proofs.Searching.{any-at, any-some, any-false}
 use Rattle.words.proofs.Bits.{words-equal, has-zero, has-power, has-not-zero, has-all, has-all-but, has-and, some-bit}
 use Rattle.words.proofs.Making.{map-at, has-made, made-below, made-equal, made-bits}
@@ -25,15 +25,15 @@ use Rattle.network.specs.Reading.{all-drivers, all-but, walking-vector, 
 -- ---- driver sets and vectors by name
 
 module _ (net : Network) where
-  pub has-walking : (i j : ℕ) → has (walking-vector net i) j ≡ eqb i j
+  has-walking : (i j : ℕ) → has (walking-vector net i) j ≡ eqb i j
   unfolding walking-vector
   has-walking i j = has-power i j
 
-  pub walking-below : (i : ℕ) → i < net .nets → walking-vector net i < 2 ^ (net .nets)
+  walking-below : (i : ℕ) → i < net .nets → walking-vector net i < 2 ^ (net .nets)
   unfolding walking-vector
   walking-below i l = pow-lt l
 
-  pub has-extra : (j : ℕ) → has (extra-vector net) j ≡ false
+  has-extra : (j : ℕ) → has (extra-vector net) j ≡ false
   unfolding extra-vector
   has-extra j = has-zero j
 
@@ -41,11 +41,11 @@ module _ (net : Network) where
   unfolding all-drivers
   all-below = let h = pow-pos (net .nets) in omega arith
 
-  pub has-every : (i : ℕ) → i < net .nets → has (all-drivers net) i ≡ true
+  has-every : (i : ℕ) → i < net .nets → has (all-drivers net) i ≡ true
   unfolding all-drivers
   has-every i l = has-all (net .nets) i l
 
-  pub has-every-but : (i j : ℕ) → i < net .nets → j < net .nets → has (all-but net i) j ≡ not (eqb i j)
+  has-every-but : (i j : ℕ) → i < net .nets → j < net .nets → has (all-but net i) j ≡ not (eqb i j)
   unfolding all-but all-drivers
   has-every-but i j l m = has-all-but (net .nets) i j l m
 
@@ -242,7 +242,7 @@ module _ (net : Network) where
       both t i l m =
           let d = decides-reads (at state i) (at vectors t) in (
             λ e. d .0 (sym (bit-at t i l m) ∙ e),
-            λ h. bit-at t i l m ∙ ⊎-elim (λ q. q) (λ q. absurd (d .1 q h)) (cases (reads net (at state i) (at vectors t))),
+            λ h. bit-at t i l m ∙ test-passes d h,
           )
 
   -- only one list of words has these bits
@@ -264,8 +264,8 @@ module _ (net : Network) where
       let f = decides-reads (at u i) (at vectors t) in
       let w : has (at (response net s vectors) t) i ≡ has (at (response net u vectors) t) i = ap (λ (ws : List ℕ). has (at ws t) i) e in
       same-truth (reads net (at s i) (at vectors t)) (reads net (at u i) (at vectors t))
-      (λ y. ⊎-elim (λ z. z) (λ z. absurd (f .1 z (q .0 (sym w ∙ p .1 (d .0 y))))) (cases (reads net (at u i) (at vectors t))))
-      (λ y. ⊎-elim (λ z. z) (λ z. absurd (d .1 z (p .0 (w ∙ q .1 (f .0 y))))) (cases (reads net (at s i) (at vectors t))))
+      (λ y. test-passes f (q .0 (sym w ∙ p .1 (d .0 y))))
+      (λ y. test-passes d (p .0 (w ∙ q .1 (f .0 y))))
 
   pub alike-response : (s u vectors : List ℕ) → length s ≡ length u → ((i : ℕ) → i < length s → ReadAlike net vectors (at s i) (at u i))
       → response net s vectors ≡ response net u vectors
@@ -280,7 +280,7 @@ module _ (net : Network) where
                 let n : i < length s = rw same m in
                 let d = decides-reads (at s i) (at vectors t) in
                 let f = decides-reads (at u i) (at vectors t) in (
-                  λ e. f .0 (sym (h i n t l) ∙ ⊎-elim (λ z. z) (λ z. absurd (d .1 z (p .bits t i l n .0 e))) (cases (reads net (at s i) (at vectors t)))),
-                  λ r. p .bits t i l n .1 (d .0 (h i n t l ∙ ⊎-elim (λ z. z) (λ z. absurd (f .1 z r)) (cases (reads net (at u i) (at vectors t))))),
+                  λ e. f .0 (sym (h i n t l) ∙ test-passes d (p .bits t i l n .0 e)),
+                  λ r. p .bits t i l n .1 (d .0 (h i n t l ∙ test-passes f r)),
                 );
           }

@@ -24,6 +24,7 @@ own-tests net k vectors state room = (11, not-a-state net k state) ∷ (12, no-r
 abbrev pub response-tests : Network → ℕ → (vectors state : List ℕ) → ℕ → List (ℕ × Bool)
 response-tests net k vectors state room = set-tests net k vectors ++ own-tests net k vectors state room
 
+-- the call's answer, computed
 unfoldable pub response-answer : Network → ℕ → (vectors state : List ℕ) → ℕ → Answer (List ℕ)
 response-answer net k vectors state room = by-tests (response-tests net k vectors state room) (response net state vectors)
 

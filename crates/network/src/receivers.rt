@@ -18,7 +18,7 @@ pub fn meets(net: Network, a: u64, b: u64) -> bool
 }
 
 // What a receiver of this reach reads on a vector: soft 1 where it floats, else whether a driver in its reach drives 1.
-pub fn reads(net: Network, reach: u64, vector: Ptv) -> bool
+fn reads(net: Network, reach: u64, vector: Ptv) -> bool
     requires { ⌜ reach < 2 ^ (net .nets) ⌝ }
     ensures { λ r. ⌜ r ≡ reads net reach (vector .0) ⌝ }
 {

@@ -17,7 +17,7 @@ pub fn bad_net_count(net: Network) -> bool
 }
 
 // Row 6: k not 1, 2, 3 or n, or above n.
-pub fn bad_class(net: Network, class: u64) -> bool
+fn bad_class(net: Network, class: u64) -> bool
     ensures { λ r. ⌜ r ≡ bad-class net class ⌝ }
 {
     let n = net.nets;
@@ -25,7 +25,7 @@ pub fn bad_class(net: Network, class: u64) -> bool
 }
 
 // Row 7: fewer than 1 vector or more than 64.
-pub fn bad_vector_count(vectors: &[u64]) -> bool
+fn bad_vector_count(vectors: &[u64]) -> bool
     ensures { λ r. ⌜ r ≡ bad-vector-count (now (vectors .entry)) ⌝ }
 {
     let count = vectors.len();
@@ -68,7 +68,7 @@ pub fn admit_set(net: Network, class: u64, vectors: &[u64]) -> Admission
 }
 
 // At most k drivers: the count of ones decides.
-pub fn few_drivers(net: Network, class: u64, set: u64) -> bool
+fn few_drivers(net: Network, class: u64, set: u64) -> bool
     requires { ⌜ set < 2 ^ (net .nets) ⌝ }
     ensures { λ r. ⌜ r ≡ few-drivers net class set ⌝ }
 {

@@ -20,6 +20,7 @@ stepped (full words) new old = record { code = 0; session = new }
 
 -- ---- begin: rows 5 and 12
 
+-- the call's answer, computed
 unfoldable pub begin-answer : Network → ℕ → Answer (List ℕ)
 begin-answer net room = by-tests ((5, bad-net-count net) ∷ (12, no-room (length (first-vectors net)) room) ∷ []) (first-vectors net)
 
@@ -28,6 +29,7 @@ begun session net room = stepped (begin-answer net room) (awaiting-first net) se
 
 -- ---- first answers: rows 4, 9, 10 and 12
 
+-- the call's answer, computed
 unfoldable pub first-answer : Session → List ℕ → ℕ → Answer (List ℕ)
 first-answer session answers room =
     by-tests
@@ -56,7 +58,7 @@ vectors-driven session = session-vectors (session .network) (held-answers sessio
 abbrev pub all-answers : Session → List ℕ → List ℕ
 all-answers session answers = held-answers session ++ answers
 
--- nothing is written
+-- the call's answer, computed; nothing is written
 unfoldable pub second-answer : Session → List ℕ → Answer (List ℕ)
 second-answer session answers =
     by-tests

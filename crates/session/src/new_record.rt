@@ -23,7 +23,7 @@ pub fn awaiting_first(net: Network) -> Session
 }
 
 // A record that holds first answers and waits for second ones.
-pub fn awaiting_second(net: Network, answers: &[u64]) -> Session
+fn awaiting_second(net: Network, answers: &[u64]) -> Session
     requires { ⌜ length (now answers) ≤ 8 ⌝ }
     ensures { λ r. ⌜ r ≡ awaiting-second net (now (answers .entry)) ⌝ }
 {

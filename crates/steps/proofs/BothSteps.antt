@@ -80,7 +80,7 @@ module _ (net : Network) (before after : List ℕ) where
 
 -- a state that fits gives as many words as there are vectors, and each reach answers as its receiver did
 module _ (net : Network) (k : ℕ) (vectors responses state : List ℕ) (fits : Fits net k vectors responses state) where
-  pub fits-size : length responses ≡ length vectors
+  fits-size : length responses ≡ length vectors
   fits-size = ap length (sym (fits .gives)) ∙ response-is net state vectors .one-a-vector
 
   reach-inside : (i : ℕ) → i < net .nets → at state i < 2 ^ (net .nets)
@@ -104,7 +104,7 @@ module _ (net : Network) (apart : WordsApart net) where
   has-first t i l m = first-has net t i l (rw (apart .size) m)
 
   -- a reach that returns net i's word is its driver alone
-  pub own-word : (i a : ℕ) → i < net .nets → a < 2 ^ (net .nets) → sequential-response net (first-vectors net) a ≡ at (sequential-words net) i → a ≡ 2 ^ i
+  own-word : (i a : ℕ) → i < net .nets → a < 2 ^ (net .nets) → sequential-response net (first-vectors net) a ≡ at (sequential-words net) i → a ≡ 2 ^ i
   own-word i a l inside e = words-equal (net .nets) a (2 ^ i) inside (pow-lt l) (λ j m. same-truth (has a j) (has (2 ^ i) j) (there j m) (back j))
     where
       returned : (t : ℕ) → t < word-length net → reads net a (at (first-vectors net) t) ≡ has (at (sequential-words net) i) t
@@ -130,7 +130,7 @@ module _ (net : Network) (apart : WordsApart net) where
           subst (λ (x : ℕ). has a x ≡ true) (sym (only (b .0) (b .1) (b .2)) ∙ has-only i j on) (b .2)
 
   -- and its driver alone returns it
-  pub own-returns : (i : ℕ) → i < net .nets → sequential-response net (first-vectors net) (2 ^ i) ≡ at (sequential-words net) i
+  own-returns : (i : ℕ) → i < net .nets → sequential-response net (first-vectors net) (2 ^ i) ≡ at (sequential-words net) i
   own-returns i l =
       words-equal (word-length net) _ (at (sequential-words net) i) (rw (first-size net) at (sequential-below net (first-vectors net) (2 ^ i))) (apart .below i l)
       (λ t m. has-sequential net (first-vectors net) (2 ^ i) t (rw (first-size net) m) ∙ reads-alone net i (at (first-vectors net) t) l ∙ has-first t i m l)
@@ -160,7 +160,7 @@ decides-only word words i = (there, back)
         same j l f = contrary (eq-eqb j i (alone j l (eqb-true _ word (and-right (not (eqb j i)) _ f)))) (not-true _ (and-left (not (eqb j i)) _ f))
 
 module _ (net : Network) (answers : List ℕ) where
-  pub decides-clear : (i : ℕ) → i < net .nets → Decides (is-clear net answers i) (Clear net answers i)
+  decides-clear : (i : ℕ) → i < net .nets → Decides (is-clear net answers i) (Clear net answers i)
   unfolding is-clear
   decides-clear i l =
       let d = decides-only (at (sequential-words net) i) (transpose (net .nets) answers) i in (
@@ -208,7 +208,7 @@ module _ (net : Network) (answers : List ℕ) where
   unclear-place j l e = (length (passing is-unclear j), count-grows-past is-unclear j (net .nets) l (ap not e), entry-of is-unclear (net .nets) j l (ap not e))
 
   -- where none is unclear, each is clear
-  pub all-clear : length (unclear net answers) ≡ 0 → (i : ℕ) → i < net .nets → is-clear net answers i ≡ true
+  all-clear : length (unclear net answers) ≡ 0 → (i : ℕ) → i < net .nets → is-clear net answers i ≡ true
   all-clear none i l =
       ⊎-elim (λ e. e) (λ e. let r = unclear-place i l e in absurd (not-suc-le-zero {n = 0} (omega (arith, none, r .1)))) (cases (is-clear net answers i))
 
@@ -224,12 +224,12 @@ module _ (net : Network) (answers : List ℕ) where
   second-none none = settling-none net (unclear net answers) none
 
   -- the extra vector comes first
-  pub extra-in : length (unclear net answers) ≢ 0 → (0 < length (second-vectors net answers)) × (at (second-vectors net answers) 0 ≡ extra-vector net)
+  extra-in : length (unclear net answers) ≢ 0 → (0 < length (second-vectors net answers)) × (at (second-vectors net answers) 0 ≡ extra-vector net)
   unfolding second-vectors
   extra-in some = (omega (arith, settling-size net (unclear net answers) some), settling-extra net (unclear net answers) some)
 
   -- then the walking vector of each unclear net
-  pub unclear-in : (j : ℕ) → j < net .nets → is-clear net answers j ≡ false
+  unclear-in : (j : ℕ) → j < net .nets → is-clear net answers j ≡ false
       → (u : ℕ) × (u < length (second-vectors net answers)) × (at (second-vectors net answers) u ≡ walking-vector net j)
   unfolding second-vectors
   unclear-in j l e =
@@ -239,11 +239,11 @@ module _ (net : Network) (answers : List ℕ) where
         settling-walking net (unclear net answers) (r .0) (r .1) ∙ ap (walking-vector net) (r .2),
       )
 
-  unclear-below : (u : ℕ) → u < length (unclear net answers) → at (unclear net answers) u < net .nets
+  unclear-inside : (u : ℕ) → u < length (unclear net answers) → at (unclear net answers) u < net .nets
   unfolding unclear is-unclear
-  unclear-below u l = entry-is is-unclear (net .nets) u l .below
+  unclear-inside u l = entry-is is-unclear (net .nets) u l .below
 
-  pub unclear-most : length (unclear net answers) ≤ net .nets
+  unclear-most : length (unclear net answers) ≤ net .nets
   unfolding unclear is-unclear
   unclear-most = count-most is-unclear (net .nets)
 
@@ -262,7 +262,7 @@ module _ (net : Network) (apart : WordsApart net) (first state : List ℕ) (fits
   clear-reach i l e = own-word net apart i (at state i) l (reach-inside net (net .nets) (first-vectors net) first state fits i l) (returned i l ∙ decides-clear net first i l .0 e .own)
 
   -- which is in no unclear net's reach
-  pub clear-alone : (i j : ℕ) → i < net .nets → j < net .nets → is-clear net first i ≡ false → is-clear net first j ≡ true → has (at state i) j ≡ false
+  clear-alone : (i j : ℕ) → i < net .nets → j < net .nets → is-clear net first i ≡ false → is-clear net first j ≡ true → has (at state i) j ≡ false
   clear-alone i j l m unclear clear = ⊎-elim meet (λ e. e) (cases (has (at state i) j))
     where
       meet : has (at state i) j ≡ true → has (at state i) j ≡ false
@@ -280,21 +280,18 @@ module _ (net : Network) (apart : WordsApart net) (first second state : List ℕ
   pub fits-first : Fits net (net .nets) (first-vectors net) first state
   fits-first = fits-parts net (first-vectors net) (second-vectors net first) (net .nets) first second state (size ∙ sym (first-size net)) fits .0
 
-  pub fits-second : Fits net (net .nets) (second-vectors net first) second state
+  fits-second : Fits net (net .nets) (second-vectors net first) second state
   fits-second = fits-parts net (first-vectors net) (second-vectors net first) (net .nets) first second state (size ∙ sym (first-size net)) fits .1
 
-  inside : (i : ℕ) → i < net .nets → at state i < 2 ^ (net .nets)
-  inside i l = reach-inside net (net .nets) (first-vectors net) first state fits-first i l
-
   -- an unclear receiver's reach has unclear drivers only, each with its walking vector
-  settled : (i j : ℕ) → i < net .nets → j < net .nets → is-clear net first i ≡ false → has (at state i) j ≡ true
+  unclear-drivers : (i j : ℕ) → i < net .nets → j < net .nets → is-clear net first i ≡ false → has (at state i) j ≡ true
       → (u : ℕ) × (u < length (second-vectors net first)) × (at (second-vectors net first) u ≡ walking-vector net j)
-  settled i j l m e on =
+  unclear-drivers i j l m e on =
       unclear-in net first j m
       (⊎-elim (λ f. contrary on (clear-alone net apart first state fits-first i j l m e f)) (λ f. f) (cases (is-clear net first j)))
 
   -- each reach is the smallest set that reads so
-  pub reach-smallest : (i set : ℕ) → i < net .nets → DriverSet net (net .nets) set → ReadAlike net (session-vectors net first) set (at state i) → at state i ≤ set
+  reach-smallest : (i set : ℕ) → i < net .nets → DriverSet net (net .nets) set → ReadAlike net (session-vectors net first) set (at state i) → at state i ≤ set
   reach-smallest i set l d alike = ⊎-elim by-word by-drivers (cases (is-clear net first i))
     where
       parts : ReadAlike net (first-vectors net) set (at state i) × ReadAlike net (second-vectors net first) set (at state i)
@@ -309,7 +306,7 @@ module _ (net : Network) (apart : WordsApart net) (first second state : List ℕ
           omega (arith, own, q)
 
       by-drivers : is-clear net first i ≡ false → at state i ≤ set
-      by-drivers e = subset-at-most (net .nets) (at state i) set (inside i l) (λ j m on. also j m on (settled i j l m e on))
+      by-drivers e = subset-at-most (net .nets) (at state i) set (reach-inside net (net .nets) (session-vectors net first) (first ++ second) state fits i l) (λ j m on. also j m on (unclear-drivers i j l m e on))
         where
           extra : reads net set (extra-vector net) ≡ reads net (at state i) (extra-vector net)
           extra =
@@ -336,7 +333,7 @@ module _ (net : Network) (apart : WordsApart net) (first second state : List ℕ
       let extra = extra-in net first (some-unclear net first i l e) in
       sym
       (walked-is net (second-vectors net first) (column second i) (at state i) reach
-      (reach-answers net (net .nets) (second-vectors net first) second state fits-second i l) (inside i l) (0, extra .0, extra .1) (λ j m on. settled i j l m e on) w)
+      (reach-answers net (net .nets) (second-vectors net first) second state fits-second i l) (reach-inside net (net .nets) (session-vectors net first) (first ++ second) state fits i l) (0, extra .0, extra .1) (λ j m on. unclear-drivers i j l m e on) w)
 
 -- ---- whether some state fits both
 
@@ -378,7 +375,7 @@ module _ (net : Network) where
   unfolding fault-free-state
   fault-free-at i l = tabulate-at (net .nets) (λ j. 2 ^ j) i l
 
-  pub fault-free-is-state : State net (net .nets) (fault-free-state net)
+  fault-free-is-state : State net (net .nets) (fault-free-state net)
   fault-free-is-state = record {
     size = fault-free-size;
     reach = λ i l. rw (fault-free-at i (inside i l)) (record { inside = pow-lt (inside i l); few = ones-at-most (net .nets) (2 ^ i) });

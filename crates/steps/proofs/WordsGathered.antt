@@ -18,16 +18,16 @@ use Rattle.steps.proofs.StepOneWords.{balanced, enough-words}
 
 module _ (net : Network) where
   -- the numbers below `word` were tried, and those taken are the first `count` of `words`
-  pub record Gathered (words : List ℕ) (count word : ℕ) : Type 0 where
+  pub record WordsTaken (words : List ℕ) (count word : ℕ) : Type 0 where
     pub inside : word ≤ 2 ^ word-length net
     pub counted : length (passing (balanced net) word) ≡ count
     pub front : take count words ≡ passing (balanced net) word
 
-  pub gathered-none : (words : List ℕ) → Gathered words 0 0
+  pub gathered-none : (words : List ℕ) → WordsTaken words 0 0
   unfolding passing
   gathered-none words = record { inside = zero-le; counted = refl; front = refl }
 
-  module _ (two : 2 ≤ net .nets) (most : net .nets ≤ 48) (words : List ℕ) (count word : ℕ) (so-far : Gathered words count word) where
+  module _ (two : 2 ≤ net .nets) (most : net .nets ≤ 48) (words : List ℕ) (count word : ℕ) (so-far : WordsTaken words count word) where
     -- while words are missing there are numbers to try
     pub more-to-try : count < net .nets → word < 2 ^ word-length net
     unfolding balanced-words
@@ -35,7 +35,7 @@ module _ (net : Network) where
         let not-all : word ≡ 2 ^ word-length net → ⊥ = λ e. let c = rw e at (so-far .counted) in omega (arith, enough-words net two most) in
         omega (arith, so-far .inside, not-all)
 
-    pub gathered-taken : count < net .nets → count < length words → ones word ≡ word-length net / 2 → Gathered (set words count word) (count + 1) (word + 1)
+    pub gathered-taken : count < net .nets → count < length words → ones word ≡ word-length net / 2 → WordsTaken (set words count word) (count + 1) (word + 1)
     gathered-taken l room e =
         let low : word < 2 ^ word-length net = more-to-try l in
         let passes : balanced net word ≡ true = eq-eqb _ _ (ones-counted (word-length net) word low ∙ e) in
@@ -45,7 +45,7 @@ module _ (net : Network) where
           front = take-suc-set words count word room ∙ ap (λ (l : List ℕ). l ++ word ∷ []) (so-far .front) ∙ sym (passing-yes (balanced net) word passes);
         })
 
-    pub gathered-left : count < net .nets → (ones word ≡ word-length net / 2 → ⊥) → Gathered words count (word + 1)
+    pub gathered-left : count < net .nets → (ones word ≡ word-length net / 2 → ⊥) → WordsTaken words count (word + 1)
     gathered-left l d =
         let low : word < 2 ^ word-length net = more-to-try l in
         let fails : balanced net word ≡ false = ne-eqb _ _ (λ e. d (sym (ones-counted (word-length net) word low) ∙ e)) in

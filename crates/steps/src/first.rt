@@ -19,7 +19,7 @@ pub fn word_length(net: Network) -> u64
     p
 }
 
-// The n smallest numbers below 2^p with exactly p/2 ones, ascending, and 0 in the unused entries.
+// The n smallest numbers below 2^p with exactly p/2 (rounded down) ones, ascending, and 0 in the unused entries.
 pub fn sequential_words(net: Network) -> [u64; 48]
     requires { ⌜ (2 ≤ net .nets) × (net .nets ≤ 48) ⌝ }
     ensures { λ r. ⌜ (length r ≡ 48) × (take (net .nets) r ≡ sequential-words net) ⌝ }

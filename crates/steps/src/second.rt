@@ -29,7 +29,7 @@ pub fn only_at(word: u64, words: &[u64], i: usize) -> bool
 }
 
 // The extra vector, then the walking vector of each net whose word its own receiver alone did not return; none if there is no such net.
-fn settle(net: Network, words: &[u64], returned: &[u64]) -> SecondVectors
+fn vectors_for_unclear(net: Network, words: &[u64], returned: &[u64]) -> SecondVectors
     requires { ⌜ (net .nets ≤ 48) × (now words ≡ sequential-words net) × (length (now words) ≡ net .nets) × (length (now returned) ≡ net .nets) ⌝ }
     ensures { λ r. ⌜ ((answers : List ℕ) → now (returned .entry) ≡ transpose (net .nets) answers → (length (r .words) ≡ 49) × (r .count ≤ 49) × (take (r .count) (r .words) ≡ second-vectors net answers)) ⌝ }
 {
@@ -61,5 +61,5 @@ pub fn second_vectors(net: Network, answers: &[u64]) -> SecondVectors
     let n = net.nets as usize;
     let words = crate::first::sequential_words(net);
     let returned = diagnosis::fit::answers_of(net, answers);
-    settle(net, &words[..n], &returned[..n])
+    vectors_for_unclear(net, &words[..n], &returned[..n])
 }

@@ -9,6 +9,10 @@ use lib.ListN.{length, take, drop, length-append}
 use lib.Seq.{drop-append-seam, take-append-seam}
 use Rattle.words.specs.Answers.{Answer, refused, full, ByTable, NoneHolds, by-tests, Decided, lent-after, count-of, Filled, FillsByTable}
 
+-- no answer is both a refusal and a full result
+pub refused-not-full : {A B : Type 0} {number : ℕ} {x : A} {a : Answer A} → a ≡ refused number → a ≡ full x → B
+refused-not-full {number = number} {x = x} p q = let e : refused number ≡ full x = sym p ∙ q in let z : _≡_ {A = ℕ} 0 1 = cc in absurd (omega arith)
+
 module _ {A : Type 0} (result : A → Type 0) where
   -- tests that decide their rows give the answer that the rows allow
   pub tests-by-table : (rows : List (ℕ × Type 0)) (tests : List (ℕ × Bool)) (x : A) → Decided rows tests → (NoneHolds rows → result x)
@@ -45,7 +49,7 @@ module _ {A : Type 0} (result : A → Type 0) where
   -- a full result that the rows allow is the result
   pub table-full : (rows : List (ℕ × Type 0)) (x : A) → ByTable rows result (full x) → result x
   table-full [] x (y, e, r) = let same : y ≡ x = cc in subst result same r
-  table-full ((number, holds) ∷ rows) x (inl (h, e)) = absurd (let z : _≡_ {A = ℕ} 0 1 = cc in omega arith)
+  table-full ((number, holds) ∷ rows) x (inl (h, e)) = refused-not-full e refl
   table-full ((number, holds) ∷ rows) x (inr (n, p)) = table-full rows x p
 
   -- where the first rows do not hold, the others decide
@@ -56,7 +60,7 @@ module _ {A : Type 0} (result : A → Type 0) where
 
   -- where no row holds, no refusal is allowed
   pub table-not-refused : (rows : List (ℕ × Type 0)) (number : ℕ) → NoneHolds rows → ByTable rows result (refused number) → ⊥
-  table-not-refused [] number n (y, e, r) = let z : _≡_ {A = ℕ} 0 1 = cc in omega arith
+  table-not-refused [] number n (y, e, r) = refused-not-full refl e
   table-not-refused ((other, holds) ∷ rows) number (n, m) (inl (h, e)) = n h
   table-not-refused ((other, holds) ∷ rows) number (n, m) (inr (k, p)) = table-not-refused rows number m p
 
@@ -78,14 +82,14 @@ let-through ((number, holds) ∷ rows) ((number′, test) ∷ tests) x y (same, 
   where
     go : (t : Bool) → (t ≡ false → ¬ holds) → cond t (refused number′) (by-tests tests x) ≡ full y → (¬ holds → by-tests tests x ≡ full y → NoneHolds rows)
         → (¬ holds) × NoneHolds rows
-    go true no! q later = absurd (let z : _≡_ {A = ℕ} 0 1 = cc in omega arith)
+    go true no! q later = refused-not-full refl q
     go false no! q later = (no! refl, later (no! refl) q)
 
 -- first tests that several calls share, then a call's own
 module _ {A B : Type 0} (x : A) (y : B) where
   pub shared-refuse : (tests more : List (ℕ × Bool)) (number : ℕ) → by-tests tests x ≡ refused number → by-tests (tests ++ more) y ≡ refused number
   unfolding by-tests
-  shared-refuse [] more number e = absurd (let z : _≡_ {A = ℕ} 0 1 = cc in omega arith)
+  shared-refuse [] more number e = refused-not-full e refl
   shared-refuse ((n, test) ∷ tests) more number e = go test e (shared-refuse tests more number)
     where
       go : (t : Bool) → cond t (refused n) (by-tests tests x) ≡ refused number → (by-tests tests x ≡ refused number → by-tests (tests ++ more) y ≡ refused number)
@@ -100,7 +104,7 @@ module _ {A B : Type 0} (x : A) (y : B) where
     where
       go : (t : Bool) → cond t (refused n) (by-tests tests x) ≡ full z → (by-tests tests x ≡ full z → by-tests (tests ++ more) y ≡ by-tests more y)
           → cond t (refused n) (by-tests (tests ++ more) y) ≡ by-tests more y
-      go true q later = absurd (let w : _≡_ {A = ℕ} 0 1 = cc in omega arith)
+      go true q later = refused-not-full refl q
       go false q later = later q
 
 module _ {A : Type 0} where
@@ -132,12 +136,12 @@ module _ {A : Type 0} where
   pub counted-refused : (a : Answer (List A)) (number : ℕ) → count-of a ≡ refused number → a ≡ refused number
   unfolding count-of
   counted-refused (refused other) number e = let same : other ≡ number = cc in ap refused same
-  counted-refused (full xs) number e = absurd (let z : _≡_ {A = ℕ} 0 1 = cc in omega arith)
+  counted-refused (full xs) number e = refused-not-full e refl
 
-  pub counted-full : (a : Answer (List A)) (count : ℕ) → count-of a ≡ full count → (xs : List A) × (a ≡ full xs)
+  pub counted-full : (a : Answer (List A)) (count : ℕ) → count-of a ≡ full count → (xs : List A) × (a ≡ full xs) × (length xs ≡ count)
   unfolding count-of
-  counted-full (refused number) count e = absurd (let z : _≡_ {A = ℕ} 0 1 = cc in omega arith)
-  counted-full (full xs) count e = (xs, refl)
+  counted-full (refused number) count e = refused-not-full refl e
+  counted-full (full xs) count e = let same : length xs ≡ count = cc in (xs, refl, same)
 
   -- two calls that fill a list by one table did the same, if the table allows one answer only
   pub fills-determined : (rows : List (ℕ × Type 0)) (result : List A → Type 0) (lent : List A) (p q : Filled A)

@@ -11,7 +11,7 @@ use lib.Arith.{digits-mod, lt-one}
 use lib.Bits.{bitAnd, bitOr, and-step, or-step, and-shr, or-shr}
 use lib.Pow.{pow-pos, pow-lt, shr-shr}
 use borrow.Author.Tests.{eq-eqb, eqb-true}
-use Rattle.words.specs.Bits.{bit, has, digit}
+use Rattle.words.specs.Bits.{bit, has, bit-value}
 
 pub two-positive : zero < 2
 two-positive = zero-lt-suc 1
@@ -54,11 +54,11 @@ pub has-zero : (i : ℕ) → has 0 i ≡ false
 unfolding has
 has-zero i = rw zero-div
 
-pub has-half : (w i : ℕ) → has w (suc i) ≡ has (w / 2) i
+has-half : (w i : ℕ) → has w (suc i) ≡ has (w / 2) i
 unfolding has
 has-half w i = ap (λ (x : ℕ). eqb x 1) (bit-half w i)
 
-pub has-low : (w : ℕ) → has w 0 ≡ eqb (w % 2) 1
+has-low : (w : ℕ) → has w 0 ≡ eqb (w % 2) 1
 unfolding has
 has-low w = ap (λ (x : ℕ). eqb x 1) (bit-low w)
 
@@ -78,15 +78,15 @@ subset-at-most (suc n) a b ha e =
 
 -- ---- a word made of its lowest bit and the rest
 
-pub digit-below-two : (b : Bool) → digit b < 2
-unfolding digit
-digit-below-two true = omega arith
-digit-below-two false = omega arith
+pub bit-value-below-two : (b : Bool) → bit-value b < 2
+unfolding bit-value
+bit-value-below-two true = omega arith
+bit-value-below-two false = omega arith
 
-pub digit-is : (b : Bool) → eqb (digit b) 1 ≡ b
-unfolding digit
-digit-is true = refl
-digit-is false = refl
+pub bit-value-is : (b : Bool) → eqb (bit-value b) 1 ≡ b
+unfolding bit-value
+bit-value-is true = refl
+bit-value-is false = refl
 
 lowest : (d w : ℕ) → d < 2 → (d + 2 * w) % 2 ≡ d
 lowest d w h = omega arith
@@ -120,7 +120,7 @@ has-own i = has-power i i ∙ eq-eqb i i refl
 pub has-only : (i j : ℕ) → has (2 ^ i) j ≡ true → i ≡ j
 has-only i j e = eqb-true i j (sym (has-power i j) ∙ e)
 
--- a word that has a bit is not 0, and one that is not 0 has a bit
+-- a word that has a bit is not 0
 pub has-not-zero : (a j : ℕ) → has a j ≡ true → a ≢ 0
 has-not-zero a j p e = true≢false (sym p ∙ ap (λ (x : ℕ). has x j) e ∙ has-zero j)
 
@@ -151,7 +151,7 @@ has-all-but (suc n) (suc i) (suc j) l m =
 
 -- ---- two words that differ
 
-pub some-bit-differs : (n a b : ℕ) → a < 2 ^ n → b < 2 ^ n → a ≢ b → (i : ℕ) × (i < n) × (has a i ≢ has b i)
+some-bit-differs : (n a b : ℕ) → a < 2 ^ n → b < 2 ^ n → a ≢ b → (i : ℕ) × (i < n) × (has a i ≢ has b i)
 some-bit-differs zero a b ha hb d = absurd (d (lt-one ha ∙ sym (lt-one hb)))
 some-bit-differs (suc n) a b ha hb d = go (has a 0) (has b 0) refl refl (some-bit-differs n (a / 2) (b / 2) (half-below n ha) (half-below n hb))
   where

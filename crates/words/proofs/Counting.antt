@@ -59,7 +59,7 @@ sets-double n k =
     ∙ ap (λ (x : List ℕ). length (passing p (2 ^ n)) + length x) (passing-same _ _ (2 ^ n) (λ z l. ap (λ (x : ℕ). leb x k) (ones-top n z l)))
 
 -- the word 0 alone
-pub sets-first : (k : ℕ) → sets-of-class k 1 ≡ 0 ∷ []
+sets-first : (k : ℕ) → sets-of-class k 1 ≡ 0 ∷ []
 unfolding sets-of-class passing ones
 sets-first k = rw (leb·zero k)
 
@@ -76,7 +76,7 @@ sets-counted (suc n) (suc k) =
 
 -- ---- the bound
 
-pub sets-bound : (n k : ℕ) → n ≤ 48 → k ≤ 3 → length (sets-of-class k (2 ^ n)) ≤ 18473
+sets-bound : (n k : ℕ) → n ≤ 48 → k ≤ 3 → length (sets-of-class k (2 ^ n)) ≤ 18473
 sets-bound n k h l = omega (arith, sets-counted n k, class-size-grows n k 48 3 h l, class-size-largest)
 
 -- there is room for one more

@@ -7,3 +7,4 @@ pub mod Classes
 pub mod Passing
 pub mod Counting
 pub mod Answers
+pub mod Writing

@@ -11,8 +11,8 @@ use lib.Pow.{shl-exact}
 use lib.ListN.{length, take, drop, getD, set, length-map}
 use lib.Seq.{take-suc, drop-cons, set-at, length-take-le, append-snoc, take-all}
 use lib.Bits.{bitOr, or-shifted-r}
-use Rattle.words.specs.Bits.{has, digit, word, at}
-use Rattle.words.proofs.Bits.{has-zero, has-lowest, has-rest, digit-below-two, digit-is, words-equal}
+use Rattle.words.specs.Bits.{has, bit-value, word, at}
+use Rattle.words.proofs.Bits.{has-zero, has-lowest, has-rest, bit-value-below-two, bit-value-is, words-equal}
 
 -- `1u64 << i`
 pub shifted-one : (i : ℕ) → i < 64 → 1 * 2 ^ i % 2 ^ 64 ≡ 2 ^ i
@@ -20,16 +20,16 @@ shifted-one i h = shl-exact 1 i 64 (lit< tt) (omega arith) ∙ one-mul (2 ^ i)
 
 -- ---- a word by its bits
 
-pub word-below : (bs : List Bool) → word bs < 2 ^ length bs
+word-below : (bs : List Bool) → word bs < 2 ^ length bs
 unfolding word
 word-below [] = omega arith
-word-below (b ∷ bs) = rw (pow-suc 2 (length bs)) (omega (arith, word-below bs, digit-below-two b))
+word-below (b ∷ bs) = rw (pow-suc 2 (length bs)) (omega (arith, word-below bs, bit-value-below-two b))
 
-pub has-word : (bs : List Bool) (i : ℕ) → has (word bs) i ≡ getD bs i false
+has-word : (bs : List Bool) (i : ℕ) → has (word bs) i ≡ getD bs i false
 unfolding word
 has-word [] i = has-zero i
-has-word (b ∷ bs) zero = has-lowest (digit b) (word bs) (digit-below-two b) ∙ digit-is b
-has-word (b ∷ bs) (suc i) = has-rest (digit b) (word bs) i (digit-below-two b) ∙ has-word bs i
+has-word (b ∷ bs) zero = has-lowest (bit-value b) (word bs) (bit-value-below-two b) ∙ bit-value-is b
+has-word (b ∷ bs) (suc i) = has-rest (bit-value b) (word bs) i (bit-value-below-two b) ∙ has-word bs i
 
 -- entry i of a list worked out entry by entry
 pub map-at : {B : Type 0} (f : ℕ → B) (d : B) (xs : List ℕ) (i : ℕ) → i < length xs → getD (map f xs) i d ≡ f (at xs i)
@@ -57,11 +57,11 @@ module _ (f : ℕ → Bool) (xs : List ℕ) where
 -- ---- a loop that makes a word, bit t at turn t
 
 -- one bit more, at the top
-word-snoc : (bs : List Bool) (b : Bool) → word (bs ++ b ∷ []) ≡ word bs + digit b * 2 ^ length bs
+word-snoc : (bs : List Bool) (b : Bool) → word (bs ++ b ∷ []) ≡ word bs + bit-value b * 2 ^ length bs
 unfolding word
 word-snoc [] b = omega arith
 word-snoc (x ∷ bs) b =
-    let p : digit b * 2 ^ length (x ∷ bs) ≡ digit b * (2 ^ length bs * 2) = ap (λ (n : ℕ). digit b * n) (pow-suc 2 (length bs)) in
+    let p : bit-value b * 2 ^ length (x ∷ bs) ≡ bit-value b * (2 ^ length bs * 2) = ap (λ (n : ℕ). bit-value b * n) (pow-suc 2 (length bs)) in
     omega (arith, word-snoc bs b)
 
 pub map-snoc : {A B : Type 0} (f : A → B) (xs : List A) (x : A) → map f (xs ++ x ∷ []) ≡ map f xs ++ f x ∷ []
@@ -69,16 +69,16 @@ map-snoc f [] x = refl
 map-snoc f (y ∷ xs) x = ap (λ l. f y ∷ l) (map-snoc f xs x)
 
 -- one more entry of a list that is read from the front
-pub map-more : {B : Type 0} (f : ℕ → B) (xs : List ℕ) (t : ℕ) → t < length xs → map f (take (t + 1) xs) ≡ map f (take t xs) ++ f (at xs t) ∷ []
+map-more : {B : Type 0} (f : ℕ → B) (xs : List ℕ) (t : ℕ) → t < length xs → map f (take (t + 1) xs) ≡ map f (take t xs) ++ f (at xs t) ∷ []
 map-more f xs t h = rw (add-one, take-suc xs t 0) (map-snoc f (take t xs) (at xs t))
 
 length-map-take : {B : Type 0} (f : ℕ → B) (xs : List ℕ) (t : ℕ) → t ≤ length xs → length (map f (take t xs)) ≡ t
 length-map-take f xs t h = length-map (take t xs) f ∙ length-take-le t xs h
 
-word-more : (f : ℕ → Bool) (xs : List ℕ) (t : ℕ) → t < length xs → word (map f (take (t + 1) xs)) ≡ word (map f (take t xs)) + digit (f (at xs t)) * 2 ^ t
+word-more : (f : ℕ → Bool) (xs : List ℕ) (t : ℕ) → t < length xs → word (map f (take (t + 1) xs)) ≡ word (map f (take t xs)) + bit-value (f (at xs t)) * 2 ^ t
 word-more f xs t h =
     ap word (map-more f xs t h) ∙ word-snoc (map f (take t xs)) (f (at xs t))
-    ∙ ap (λ (n : ℕ). word (map f (take t xs)) + digit (f (at xs t)) * 2 ^ n) (length-map-take f xs t (omega arith))
+    ∙ ap (λ (n : ℕ). word (map f (take t xs)) + bit-value (f (at xs t)) * 2 ^ n) (length-map-take f xs t (omega arith))
 
 word-small : (f : ℕ → Bool) (xs : List ℕ) (t : ℕ) → t ≤ length xs → word (map f (take t xs)) < 2 ^ t
 word-small f xs t h = rw (length-map-take f xs t h) at (word-below (map f (take t xs)))
@@ -92,15 +92,15 @@ set-top w t h l =
 -- a turn that sets the bit, a turn that does not, and the end
 module _ (f : ℕ → Bool) (xs : List ℕ) (t w : ℕ) (inv : w ≡ word (map f (take t xs))) (h : t < length xs) where
   pub word-set : length xs ≤ 64 → f (at xs t) ≡ true → bitOr w (1 * 2 ^ t % 2 ^ 64) ≡ word (map f (take (t + 1) xs))
-  unfolding digit
+  unfolding bit-value
   word-set l e =
       let small : w < 2 ^ t = rw inv (word-small f xs t (omega arith)) in
       set-top w t (omega arith) small ∙ ap₂ (λ (x y : ℕ). x + y) inv (rw e (omega arith)) ∙ sym (word-more f xs t h)
 
   pub word-keep : f (at xs t) ≡ false → w ≡ word (map f (take (t + 1) xs))
-  unfolding digit
+  unfolding bit-value
   word-keep e =
-      let same : word (map f (take t xs)) ≡ word (map f (take t xs)) + digit (f (at xs t)) * 2 ^ t = rw e (omega arith) in
+      let same : word (map f (take t xs)) ≡ word (map f (take t xs)) + bit-value (f (at xs t)) * 2 ^ t = rw e (omega arith) in
       inv ∙ same ∙ sym (word-more f xs t h)
 
 pub word-whole : (f : ℕ → Bool) (xs : List ℕ) (t : ℕ) → length xs ≤ t → word (map f (take t xs)) ≡ word (map f xs)
@@ -109,7 +109,7 @@ word-whole f xs t h = rw (take-all t xs h)
 -- ---- a loop that fills a list from the front
 
 -- one more store
-pub fill-more : {A : Type 0} (done d : List A) (t : ℕ) (x : A) → length done ≡ t → t < length d → set (done ++ drop t d) t x ≡ (done ++ x ∷ []) ++ drop (t + 1) d
+fill-more : {A : Type 0} (done d : List A) (t : ℕ) (x : A) → length done ≡ t → t < length d → set (done ++ drop t d) t x ≡ (done ++ x ∷ []) ++ drop (t + 1) d
 fill-more {A} done d t x e h =
     ap (λ (l : List A). set (done ++ l) t x) (drop-cons d t x h) ∙ set-at done (getD d t x) (drop (suc t) d) x t e
     ∙ sym (append-snoc done x (drop (suc t) d)) ∙ ap (λ (n : ℕ). done ++ (x ∷ []) ++ drop n d) (sym (add-one t))

@@ -9,9 +9,9 @@ use native.Mathlib.Omega.{arith}
 use lib.ListN.{length, take, length-append, List·getD-append}
 use lib.Seq.{getD-at, take-length, take-append-le}
 use Rattle.words.specs.declared.Search.the-variants.{Found, Missing}
-use Rattle.words.specs.Bits.{at, digit}
+use Rattle.words.specs.Bits.{at, bit-value}
 use Rattle.words.specs.Searching.{least, passing}
-use Rattle.words.proofs.Bits.{digit-below-two}
+use Rattle.words.proofs.Bits.{bit-value-below-two}
 use Rattle.words.proofs.Tests.{cases, less-or-not, and-both, and-false}
 use Rattle.words.proofs.Searching.{least-found, least-missing}
 
@@ -22,11 +22,11 @@ passing-same p q zero h = refl
 passing-same p q (suc b) h = rw (h b (le-refl (suc b)), passing-same p q b (λ z l. h z (omega arith)))
 
 -- one number more counts 1 where it passes
-pub count-step : (p : ℕ → Bool) (b : ℕ) → length (passing p (suc b)) ≡ digit (p b) + length (passing p b)
-unfolding passing digit
+count-step : (p : ℕ → Bool) (b : ℕ) → length (passing p (suc b)) ≡ bit-value (p b) + length (passing p b)
+unfolding passing bit-value
 count-step p b = go (p b) (passing p b)
   where
-    go : (t : Bool) (r : List ℕ) → length (cond t (r ++ b ∷ []) r) ≡ digit t + length r
+    go : (t : Bool) (r : List ℕ) → length (cond t (r ++ b ∷ []) r) ≡ bit-value t + length r
     go true r = length-append r (b ∷ []) ∙ omega arith
     go false r = omega arith
 
@@ -67,10 +67,10 @@ module _ (p : ℕ → Bool) where
   pub count-most : (b : ℕ) → length (passing p b) ≤ b
   unfolding passing
   count-most zero = le-refl 0
-  count-most (suc b) = omega (arith, count-step p b, digit-below-two (p b), count-most b)
+  count-most (suc b) = omega (arith, count-step p b, bit-value-below-two (p b), count-most b)
 
   pub count-passed : (b : ℕ) → p b ≡ true → length (passing p (suc b)) ≡ suc (length (passing p b))
-  unfolding digit
+  unfolding bit-value
   count-passed b e = count-step p b ∙ rw e (omega arith)
 
   pub count-grows-past : (a b : ℕ) → a < b → p a ≡ true → length (passing p a) < length (passing p b)

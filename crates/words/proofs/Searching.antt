@@ -22,7 +22,7 @@ module _ (p : ℕ → Bool) where
     first : {y : ℕ} → x ≤ y → y < e → p y ≡ true → ((z : ℕ) → x ≤ z → z < y → p z ≡ false) → Least x e (Found y)
     nowhere : ((z : ℕ) → x ≤ z → z < e → p z ≡ false) → Least x e Missing
 
-  pub least-is : (d x e : ℕ) → x + d ≡ e → Least x e (least d x p)
+  least-is : (d x e : ℕ) → x + d ≡ e → Least x e (least d x p)
   unfolding least
   least-is zero x e q = nowhere (λ z l m. absurd (not-suc-le-zero {n = 0} (omega arith)))
   least-is (suc d) x e q = go (p x) refl (least-is d (suc x) e (omega arith))

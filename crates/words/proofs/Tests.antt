@@ -76,6 +76,10 @@ decides-not {a} f = (λ e. f .1 (borrow.Author.Tests.not-true a e), λ e n. n (f
 pub test-passes : {a : Bool} {A : Type 0} → Decides a A → A → a ≡ true
 test-passes {a} f h = ⊎-elim (λ e. e) (λ e. absurd (f .1 e h)) (cases a)
 
+-- and fails where it does not
+pub test-fails : {a : Bool} {A : Type 0} → Decides a A → ¬ A → a ≡ false
+test-fails {a} f n = ⊎-elim (λ e. absurd (n (f .0 e))) (λ e. e) (cases a)
+
 pub decides-and : {a b : Bool} {A B : Type 0} → Decides a A → Decides b B → Decides (a && b) (A × B)
 decides-and {a} {b} f g =
     (λ e. (f .0 (and-left a b e), g .0 (and-right a b e)), λ e w. contrary (and-both (test-passes f (w .0)) (test-passes g (w .1))) e)

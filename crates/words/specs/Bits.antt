@@ -15,14 +15,14 @@ bit w i = w / 2 ^ i % 2
 unfoldable pub has : ℕ → ℕ → Bool
 has w i = eqb (bit w i) 1
 
-unfoldable pub digit : Bool → ℕ
-digit true = 1
-digit false = 0
+unfoldable pub bit-value : Bool → ℕ
+bit-value true = 1
+bit-value false = 0
 
 -- the word with these bits, bit 0 first
 unfoldable pub word : List Bool → ℕ
 word [] = 0
-word (b ∷ bs) = digit b + 2 * word bs
+word (b ∷ bs) = bit-value b + 2 * word bs
 
 -- entry i of a list of words
 abbrev pub at : List ℕ → ℕ → ℕ

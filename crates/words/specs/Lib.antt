@@ -2,4 +2,5 @@ pub mod Bits
 pub mod Searching
 pub mod Turning
 pub mod Answers
+pub mod Writing
 pub mod Open

@@ -19,7 +19,7 @@ pub fn count_of_ones(set: u64) -> u64
     u64::count_ones(set) as u64
 }
 
-// The net of a walking vector.
+// The lowest net in a word, by its trailing zeros; of a walking vector, its net.
 pub fn lowest_net(vector: u64) -> u64
     ensures { λ r. ⌜ r ≡ trailingZeros 64 vector ⌝ }
 {

@@ -4,11 +4,12 @@ use mathlib.Core.Path.{_≡_, refl}
 use mathlib.Core.List.{List}
 use lib.ListN.{length}
 use Rattle.words.specs.Answers.{Answer}
+use Rattle.words.proofs.Answers.{owed-refused}
 use Rattle.session.specs.declared.Session.{Session}
 use Rattle.session.specs.declared.Stepped.{Stepped}
 use Rattle.session.specs.Calls.{stepped, begin-answer, begun}
 use Rattle.exports.specs.Exported.{network-of, session-size}
-use Rattle.exports.proofs.Owing.{other-length, code-refused, words-refused, lent-refused, step-code, step-words, step-lent}
+use Rattle.exports.proofs.CallLaws.{other-length, code-refused, words-refused, step-code, step-words, step-lent}
 use Rattle.exports.proofs.fontarelga_begin.Statement.{statement}
 use Rattle.exports.proofs.fontarelga_begin.Tie as tie
 
@@ -16,7 +17,7 @@ returns : tie.Need-returns
 returns c =
     let a = c .before .before .before .args in
     let e = other-length session-size (a .session .now) (begin-answer (network-of (a .nets)) (length (a .first .now))) (c .if1 .taken) in
-    (code-refused _ _ e, (words-refused _ _ e _ (a .session .now), lent-refused _ _ (a .first .now) e))
+    (code-refused _ _ e, (words-refused _ _ e _ (a .session .now), owed-refused _ _ (a .first .now) e .1))
 
 session-of-requires : tie.Need-session-of-requires
 session-of-requires c κs = search needs

@@ -4,7 +4,7 @@ use Prim.Native.Nat.{_/_}
 use lib.ListN.{length}
 use Rattle.diagnosis.proofs.Tabling.{table-refused, table-accepted}
 use Rattle.exports.specs.Exported.{finding-words, network-of}
-use Rattle.exports.proofs.Owing.{code-refused, words-refused, code-full, words-full}
+use Rattle.exports.proofs.CallLaws.{code-refused, words-refused, code-full, words-full}
 use Rattle.exports.proofs.fontarelga_findings.Statement.{statement}
 use Rattle.exports.proofs.fontarelga_findings.Tie as tie
 

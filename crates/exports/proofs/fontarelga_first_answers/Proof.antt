@@ -4,11 +4,12 @@ use mathlib.Core.Path.{_≡_, refl}
 use mathlib.Core.List.{List}
 use lib.ListN.{length}
 use Rattle.words.specs.Answers.{Answer}
+use Rattle.words.proofs.Answers.{owed-refused}
 use Rattle.session.specs.declared.Session.{Session}
 use Rattle.session.specs.declared.Stepped.{Stepped}
 use Rattle.session.specs.Calls.{stepped, first-answer, first-answered}
 use Rattle.exports.specs.Exported.{session-size, session-of}
-use Rattle.exports.proofs.Owing.{other-length, code-refused, words-refused, lent-refused, step-code, step-words, step-lent}
+use Rattle.exports.proofs.CallLaws.{other-length, code-refused, words-refused, step-code, step-words, step-lent}
 use Rattle.exports.proofs.fontarelga_first_answers.Statement.{statement}
 use Rattle.exports.proofs.fontarelga_first_answers.Tie as tie
 
@@ -16,7 +17,7 @@ returns : tie.Need-returns
 returns c =
     let a = c .before .before .before .before .args in
     let e = other-length session-size (a .session .now) (first-answer (session-of (a .session .now)) (a .answers .now) (length (a .second .now))) (c .if1 .taken) in
-    (code-refused _ _ e, (words-refused _ _ e _ (a .session .now), lent-refused _ _ (a .second .now) e))
+    (code-refused _ _ e, (words-refused _ _ e _ (a .session .now), owed-refused _ _ (a .second .now) e .1))
 
 session-of-requires : tie.Need-session-of-requires
 session-of-requires c κs = search needs

@@ -4,9 +4,11 @@ use mathlib.Core.Path.{_≡_, sym, ap, _∙_}
 use mathlib.Core.List.{List}
 use lib.ListN.{length}
 use Rattle.words.specs.Answers.{Answer, refused, full, lent-after}
+use Rattle.words.proofs.Answers.{owed-refused}
 use Rattle.jobfile.specs.Reader.{read-answer, read-meaning, counted, vectors-read, responses-read}
+use Rattle.jobfile.proofs.ReaderAnswers.{read-counted-refused}
 use Rattle.exports.specs.Exported.{code, job-words}
-use Rattle.exports.proofs.Owing.{other-length, right-length, code-refused, words-refused, lent-refused, code-read, read-words, read-refused}
+use Rattle.exports.proofs.CallLaws.{other-length, right-length, code-refused, words-refused, code-read, read-words}
 use Rattle.exports.proofs.fontarelga_read_job.Statement.{statement}
 use Rattle.exports.proofs.fontarelga_read_job.Tie as tie
 
@@ -15,7 +17,7 @@ returns c =
     let a = c .before .before .before .before .before .args in
     let e = other-length 4 (a .job .now) (read-answer (a .file .now) (length (a .vectors .now)) (length (a .responses .now))) (c .if1 .taken) in (
       code-refused _ _ e,
-      (lent-refused _ _ (a .vectors .now) (ap vectors-read e), (lent-refused _ _ (a .responses .now) (ap responses-read e), words-refused _ _ e job-words (a .job .now))),
+      (owed-refused _ _ (a .vectors .now) (ap vectors-read e) .1, (owed-refused _ _ (a .responses .now) (ap responses-read e) .1, words-refused _ _ e job-words (a .job .now))),
     )
 
 read-job-requires : tie.Need-read-job-requires
@@ -71,7 +73,7 @@ returns-3 c =
     let said : refused number ≡ counted answer = sym (ap read-meaning (t .number .given .1)) ∙ k .read-job .ensures .0 in
     rw (right-length 4 (a .job .now) answer (k .before .before .before .if1 .left)) (
       code-read answer (refused number) said,
-      (k .read-job .ensures .1 .0, (k .read-job .ensures .1 .1, words-refused answer number (read-refused answer number said) job-words (a .job .now))),
+      (k .read-job .ensures .1 .0, (k .read-job .ensures .1 .1, words-refused answer number (read-counted-refused answer number (sym said)) job-words (a .job .now))),
     )
 
 pub fontarelga-read-job-spec : {M : Type 1} → statement M

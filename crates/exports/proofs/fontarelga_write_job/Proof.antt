@@ -4,10 +4,10 @@ use mathlib.Core.Path.{_≡_, sym, ap, _∙_}
 use mathlib.Core.List.{List}
 use lib.ListN.{length}
 use Rattle.words.specs.Answers.{Answer, refused, full, lent-after, count-of}
-use Rattle.words.proofs.Answers.{counted-refused}
+use Rattle.words.proofs.Answers.{counted-refused, owed-refused}
 use Rattle.jobfile.specs.Writer.{write-answer, meaning}
 use Rattle.exports.specs.Exported.{code, network-of, size-words}
-use Rattle.exports.proofs.Owing.{other-length, right-length, code-refused, words-refused, lent-refused, code-counted, counted-size}
+use Rattle.exports.proofs.CallLaws.{other-length, right-length, code-refused, words-refused, code-counted, counted-size}
 use Rattle.exports.proofs.fontarelga_write_job.Statement.{statement}
 use Rattle.exports.proofs.fontarelga_write_job.Tie as tie
 
@@ -16,7 +16,7 @@ returns c =
     let a = c .before .before .before .before .before .args in
     let answer = write-answer (network-of (a .nets)) (a .class) (a .vectors .now) (a .responses .now) (length (a .file .now)) in
     let e = other-length 1 (a .size .now) answer (c .if1 .taken) in
-    (code-refused _ _ e, (lent-refused _ _ (a .file .now) e, words-refused _ _ e size-words (a .size .now)))
+    (code-refused _ _ e, (owed-refused _ _ (a .file .now) e .1, words-refused _ _ e size-words (a .size .now)))
 
 write-job-requires : tie.Need-write-job-requires
 write-job-requires c κs = search needs

@@ -8,8 +8,8 @@ use Rattle.network.proofs.Rows.{admitted-set}
 use Rattle.checker.specs.declared.Verdict.{Verdict}
 use Rattle.checker.specs.Rule.{verdict}
 use Rattle.diagnosis.specs.Diagnosis.{diagnosis-answer}
-use Rattle.jobfile.specs.Bytes.{written}
-use Rattle.jobfile.proofs.ByteLaws.{written-length, written-next}
+use Rattle.words.specs.Writing.{written}
+use Rattle.words.proofs.Writing.{written-length, written-next}
 use Rattle.listing.specs.Report.{verdict-line, diagnosis-text, responses-text, content-text}
 use Rattle.listing.proofs.Reporting.{verdict-most, nothing-follows, diagnosis-follows}
 use Rattle.listing.proofs.put_content.Statement.{statement}

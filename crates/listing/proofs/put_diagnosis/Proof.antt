@@ -9,7 +9,7 @@ use Rattle.words.specs.Answers.{Answer, refused, full}
 use Rattle.network.specs.declared.Network.{Network}
 use Rattle.network.specs.States.{State}
 use Rattle.diagnosis.specs.Diagnosis.{diagnosis-answer}
-use Rattle.jobfile.specs.Bytes.{written}
+use Rattle.words.specs.Writing.{written}
 use Rattle.listing.specs.Report.{diagnosis-text}
 use Rattle.listing.proofs.Reporting.{diagnosis-refused, diagnosis-wrote}
 use Rattle.listing.proofs.put_diagnosis.Statement.{statement}

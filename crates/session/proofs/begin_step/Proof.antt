@@ -12,7 +12,7 @@ use Rattle.steps.specs.FirstStep.{word-length, first-vectors}
 use Rattle.steps.proofs.StepOneWords.{first-size}
 use Rattle.session.specs.Record.{awaiting-first}
 use Rattle.session.specs.Calls.{begin-answer}
-use Rattle.session.proofs.Stepping.{owed-refused, owed-full}
+use Rattle.session.proofs.Stepping.{step-refused, step-full}
 use Rattle.session.proofs.begin_step.Statement.{statement}
 use Rattle.session.proofs.begin_step.Tie as tie
 
@@ -41,7 +41,7 @@ returns : tie.Need-returns
 returns c =
     let d = c .before in
     let a = d .before .before .before .args in
-    owed-refused (begin-answer (a .net) (length (a .list .now))) (awaiting-first (a .net)) (a .session) 5 (c .refused .result) (a .list .now) (c .refused .ensures)
+    step-refused (begin-answer (a .net) (length (a .list .now))) (awaiting-first (a .net)) (a .session) 5 (c .refused .result) (a .list .now) (c .refused .ensures)
     (row-5 (a .net) (length (a .list .now)) (sym (d .before .bad-net-count .ensures) ∙ d .if1 .taken))
 
 -- ---- row 5 does not hold
@@ -76,7 +76,7 @@ returns-2 c =
     let d = c .before in
     let e = d .before .before .before in
     let a = start e .args in
-    owed-refused (begin-answer (a .net) (length (a .list .now))) (awaiting-first (a .net)) (a .session) 12 (c .refused2 .result) (a .list .now) (c .refused2 .ensures)
+    step-refused (begin-answer (a .net) (length (a .list .now))) (awaiting-first (a .net)) (a .session) 12 (c .refused2 .result) (a .list .now) (c .refused2 .ensures)
     (row-12 (a .net) (length (a .list .now)) (nets-good e) (room-test (d .before) ∙ d .if2 .taken))
 
 first-vectors-requires : tie.Need-first-vectors-requires
@@ -98,7 +98,7 @@ returns-3 c =
     let d = f .before .before in
     let e = d .before .before .before in
     let a = start e .args in
-    owed-full (begin-answer (a .net) (length (a .list .now))) (awaiting-first (a .net)) (a .session) (c .awaiting-first .result) (first-vectors (a .net)) (a .list .now) _
+    step-full (begin-answer (a .net) (length (a .list .now))) (awaiting-first (a .net)) (a .session) (c .awaiting-first .result) (first-vectors (a .net)) (a .list .now) _
     (accepted (a .net) (length (a .list .now)) (nets-good e) (room-test (d .before) ∙ d .if2 .left)) (c .awaiting-first .ensures) (f .first-vectors .ensures)
 
 pub begin-step-spec : {M : Type 1} → statement M

@@ -17,7 +17,7 @@ use Rattle.session.specs.declared.Session.{Session}
 use Rattle.session.specs.Record.{awaits-first}
 use Rattle.session.specs.Calls.{first-answer, answered-by}
 use Rattle.session.proofs.Records.{awaits-first-is}
-use Rattle.session.proofs.Stepping.{owed-refused, owed-full}
+use Rattle.session.proofs.Stepping.{step-refused, step-full}
 use Rattle.session.proofs.first_step.Statement.{statement}
 use Rattle.session.proofs.first_step.Tie as tie
 
@@ -61,7 +61,7 @@ returns : tie.Need-returns
 returns c =
     let d = c .before in
     let a = d .before .before .before .before .args in
-    owed-refused (first-answer (a .session) (a .answers .now) (length (a .list .now))) (new-record (a .session) (a .answers .now)) (a .session) 4 (c .refused .result) (a .list .now)
+    step-refused (first-answer (a .session) (a .answers .now) (length (a .list .now))) (new-record (a .session) (a .answers .now)) (a .session) 4 (c .refused .result) (a .list .now)
     (c .refused .ensures) (row-4 (a .session) (a .answers .now) (length (a .list .now)) (sym (d .before .awaits-first .ensures) ∙ not-true _ (d .if1 .taken)))
 
 -- ---- row 4 does not hold
@@ -99,7 +99,7 @@ returns-2 c =
     let d = c .before in
     let e = d .before .before .before .before in
     let a = start e .args in
-    owed-refused (first-answer (a .session) (a .answers .now) (length (a .list .now))) (new-record (a .session) (a .answers .now)) (a .session) 9 (c .refused2 .result) (a .list .now)
+    step-refused (first-answer (a .session) (a .answers .now) (length (a .list .now))) (new-record (a .session) (a .answers .now)) (a .session) 9 (c .refused2 .result) (a .list .now)
     (c .refused2 .ensures) (row-9 (a .session) (a .answers .now) (length (a .list .now)) (waits e) (count-test (d .before) ∙ d .if2 .taken))
 
 -- ---- row 9 does not hold
@@ -131,7 +131,7 @@ returns-3 c =
     let d = c .before in
     let f = d .before .before in
     let a = start (waiting f) .args in
-    owed-refused (first-answer (a .session) (a .answers .now) (length (a .list .now))) (new-record (a .session) (a .answers .now)) (a .session) 10 (c .refused3 .result) (a .list .now)
+    step-refused (first-answer (a .session) (a .answers .now) (length (a .list .now))) (new-record (a .session) (a .answers .now)) (a .session) 10 (c .refused3 .result) (a .list .now)
     (c .refused3 .ensures)
     (row-10 (a .session) (a .answers .now) (length (a .list .now)) (waits (waiting f)) (nine f) (sym (d .before .has-high-bit .ensures) ∙ d .if3 .taken))
 
@@ -176,7 +176,7 @@ returns-4 c =
     let d = c .before in
     let r = d .before in
     let a = given r .args in
-    owed-refused (first-answer (a .session) (a .answers .now) (length (a .list .now))) (new-record (a .session) (a .answers .now)) (a .session) 12 (c .refused4 .result) (a .list .now)
+    step-refused (first-answer (a .session) (a .answers .now) (length (a .list .now))) (new-record (a .session) (a .answers .now)) (a .session) 12 (c .refused4 .result) (a .list .now)
     (c .refused4 .ensures)
     (row-12 (a .session) (a .answers .now) (length (a .list .now)) (waits (waiting (counted r))) (nine (counted r)) (ten r) (room-test r ∙ d .if4 .taken))
 
@@ -208,7 +208,7 @@ returns-5 c =
     let d = f .before .before .before in
     let r = d .before in
     let a = given r .args in
-    owed-full (first-answer (a .session) (a .answers .now) (length (a .list .now))) (new-record (a .session) (a .answers .now)) (a .session) (c .answered .result)
+    step-full (first-answer (a .session) (a .answers .now) (length (a .list .now))) (new-record (a .session) (a .answers .now)) (a .session) (c .answered .result)
     (second-vectors (a .session .network) (a .answers .now)) (a .list .now) _
     (accepted (a .session) (a .answers .now) (length (a .list .now)) (waits (waiting (counted r))) (nine (counted r)) (ten r) (room-test r ∙ d .if4 .left))
     (c .answered .ensures)

@@ -19,7 +19,7 @@ use Rattle.session.specs.declared.Stepped.{Stepped}
 use Rattle.session.specs.Record.{finished, held-answers, awaits-second}
 use Rattle.session.specs.Calls.{second-answer, second-answered, vectors-driven, all-answers}
 use Rattle.session.proofs.Records.{WaitsForSecond, awaits-second-is}
-use Rattle.session.proofs.Stepping.{owed-refused, owed-full}
+use Rattle.session.proofs.Stepping.{step-refused, step-full}
 use Rattle.session.proofs.second_step.Statement.{statement}
 use Rattle.session.proofs.second_step.Tie as tie
 
@@ -62,7 +62,7 @@ module _ (session : Session) (answers : List ℕ) where
   owed : (number : ℕ) (done : Stepped) → (done .code ≡ number) × (done .session ≡ session) → second-answer session answers ≡ refused number
       → (done .session ≡ second-answered session answers .session) × (done .code ≡ second-answered session answers .code)
   owed number done r e =
-      let o = owed-refused (second-answer session answers) (finished (session .network) (state-read session answers) (length (vectors-driven session))) session number done [] r e in
+      let o = step-refused (second-answer session answers) (finished (session .network) (state-read session answers) (length (vectors-driven session))) session number done [] r e in
       (o .0, o .1)
 
 -- a list to which nothing is written
@@ -305,7 +305,7 @@ returns-5 c =
     let w = started z in
     let fits : z .settled .result .fits ≡ true = not-false _ (d .if4 .left) in
     let o =
-    owed-full (second-answer (session w) (given z)) (finished (session w .network) (state-read (session w) (given z)) (length (vectors-driven (session w)))) (session w)
+    step-full (second-answer (session w) (given z)) (finished (session w .network) (state-read (session w) (given z)) (length (vectors-driven (session w)))) (session w)
     (c .finished .result) [] [] []
     (accepted (session w) (given z) (waits (waiting w)) (nine (passed e)) (ten e) (not-true _ (sym (fits-is z) ∙ fits)))
     (c .finished .ensures ∙ ap₂ (finished (session w .network)) (state-is z fits) (spent-is z)) (sym (nothing [])) in

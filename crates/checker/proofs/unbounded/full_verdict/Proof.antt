@@ -9,12 +9,12 @@ use mathlib.Core.Bool.{true, false, not}
 use Rattle.words.specs.Searching.{among}
 use Rattle.network.specs.Reading.{walking-vector, extra-vector}
 use Rattle.checker.specs.declared.Verdict.the-variants.{Pair}
-use Rattle.checker.proofs.Walking.{Walked, no-extra, no-walking, all-there}
+use Rattle.checker.proofs.Walking.{WalkingBelow, no-extra, no-walking, all-there}
 use Rattle.checker.proofs.unbounded.full_verdict.Statement.{statement}
 use Rattle.checker.proofs.unbounded.full_verdict.Tie as tie
 
 abbrev Inv-loop : tie.InvT-loop
-Inv-loop net vectors all n i₀ i = (i ≤ n) × (n ≡ net .nets) × Walked net vectors i
+Inv-loop net vectors all n i₀ i = (i ≤ n) × (n ≡ net .nets) × WalkingBelow net vectors i
 
 abbrev μ-loop : tie.MeasureT-loop
 μ-loop net vectors all n i₀ i = n - i

@@ -3,8 +3,9 @@ use native.Mathlib.Omega.{arith}
 use Prim.Native.Nat.{_+_, _*_}
 use mathlib.Core.List.{[], _∷_}
 use lib.ListN.{length}
+use Rattle.words.proofs.Writing.{written-next}
 use Rattle.jobfile.specs.Bytes.{word-bytes}
-use Rattle.jobfile.proofs.ByteLaws.{word-bytes-count, written-next}
+use Rattle.jobfile.proofs.ByteLaws.{word-bytes-count}
 use Rattle.jobfile.proofs.writing.put_bodies.Statement.{statement}
 use Rattle.jobfile.proofs.writing.put_bodies.Tie as tie
 

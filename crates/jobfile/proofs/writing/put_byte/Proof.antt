@@ -1,5 +1,5 @@
 use borrow.Author.Needs.{needs}
-use Rattle.jobfile.proofs.ByteLaws.{written-one}
+use Rattle.words.proofs.Writing.{written-one}
 use Rattle.jobfile.proofs.writing.put_byte.Statement.{statement}
 use Rattle.jobfile.proofs.writing.put_byte.Tie as tie
 

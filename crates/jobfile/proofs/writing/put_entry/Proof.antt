@@ -2,8 +2,9 @@ use borrow.Author.Needs.{needs}
 use native.Mathlib.Omega.{arith}
 use Prim.Native.Nat.{_+_}
 use mathlib.Core.List.{[], _∷_}
+use Rattle.words.proofs.Writing.{written-next}
 use Rattle.jobfile.specs.Bytes.{bytes-of}
-use Rattle.jobfile.proofs.ByteLaws.{bytes-count, written-next}
+use Rattle.jobfile.proofs.ByteLaws.{bytes-count}
 use Rattle.jobfile.proofs.writing.put_entry.Statement.{statement}
 use Rattle.jobfile.proofs.writing.put_entry.Tie as tie
 

@@ -1,14 +1,15 @@
 use borrow.Author.Needs.{needs}
 use native.Mathlib.Omega.{arith}
-use Prim.Native.Nat.{ℕ, _+_}
+use Prim.Native.Nat.{ℕ}
 use mathlib.Core.Path.{_≡_, sym, ap, _∙_}
 use mathlib.Core.List.{List, _∷_, _++_, append-assoc}
 use lib.ListN.{length}
 use Rattle.words.specs.Answers.{lent-after, full}
+use Rattle.words.specs.Writing.{written}
+use Rattle.words.proofs.Writing.{written-next, written-front}
 use Rattle.network.specs.declared.Network.{Network}
-use Rattle.jobfile.specs.Bytes.{word-bytes, written}
+use Rattle.jobfile.specs.Bytes.{word-bytes}
 use Rattle.jobfile.specs.Writer.{head-of, file-of}
-use Rattle.jobfile.proofs.ByteLaws.{written-next, written-front}
 use Rattle.jobfile.proofs.WriterLaws.{head-size, file-size}
 use Rattle.jobfile.proofs.writing.put_file.Statement.{statement}
 use Rattle.jobfile.proofs.writing.put_file.Tie as tie

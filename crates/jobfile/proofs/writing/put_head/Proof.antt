@@ -4,10 +4,10 @@ use Prim.Native.Nat.{ℕ, _+_, _*_}
 use mathlib.Core.Path.{_≡_, refl, ap₂, _∙_}
 use mathlib.Core.List.{List, [], _∷_, _++_}
 use lib.ListN.{length, length-append}
-use Rattle.jobfile.specs.Bytes.{written}
+use Rattle.words.specs.Writing.{written}
+use Rattle.words.proofs.Writing.{written-next}
 use Rattle.jobfile.specs.Layout.{mark, bodies-at}
 use Rattle.jobfile.specs.Writer.{entry-bytes, response-entry, entries-for, head-of}
-use Rattle.jobfile.proofs.ByteLaws.{written-next}
 use Rattle.jobfile.proofs.WriterLaws.{entries-range, entry-size, response-entry-size}
 use Rattle.jobfile.proofs.writing.put_head.Statement.{statement}
 use Rattle.jobfile.proofs.writing.put_head.Tie as tie

@@ -3,7 +3,7 @@ use native.Mathlib.Omega.{arith}
 use mathlib.Core.List.{[], _∷_}
 use lib.ListN.{length-set}
 use lib.Seq.{length-sets, sets-eq}
-use Rattle.jobfile.specs.Bytes.{written}
+use Rattle.words.specs.Writing.{written}
 use Rattle.jobfile.specs.Layout.{mark}
 use Rattle.jobfile.proofs.writing.put_mark.Statement.{statement}
 use Rattle.jobfile.proofs.writing.put_mark.Tie as tie

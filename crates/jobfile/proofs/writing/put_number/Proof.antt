@@ -4,7 +4,8 @@ use native.Mathlib.Nat.{add-zero, sub-zero}
 use native.Mathlib.Omega.{arith}
 use mathlib.Core.Path.{_≡_, refl, sym, _∙_}
 use lib.ListN.{length}
-use Rattle.jobfile.specs.Bytes.{bytes-of, written}
+use Rattle.words.specs.Writing.{written}
+use Rattle.jobfile.specs.Bytes.{bytes-of}
 use Rattle.jobfile.proofs.ByteLaws.{number-turn, number-end}
 use Rattle.jobfile.proofs.writing.put_number.Statement.{statement}
 use Rattle.jobfile.proofs.writing.put_number.Tie as tie

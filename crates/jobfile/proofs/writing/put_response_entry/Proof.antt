@@ -4,9 +4,9 @@ use mathlib.Core.Path.{_≡_, sym, ap, _∙_}
 use mathlib.Core.List.{List}
 use lib.ListN.{length}
 use Prim.Native.Nat.{ℕ, _*_, _≤_, _<_}
-use Rattle.jobfile.specs.Bytes.{written}
+use Rattle.words.specs.Writing.{written}
+use Rattle.words.proofs.Writing.{written-none}
 use Rattle.jobfile.specs.Writer.{entry-bytes, response-entry}
-use Rattle.jobfile.proofs.ByteLaws.{written-none}
 use Rattle.jobfile.proofs.WriterLaws.{entry-size, no-response-entry, response-entry-is}
 use Rattle.jobfile.proofs.writing.put_response_entry.Statement.{statement}
 use Rattle.jobfile.proofs.writing.put_response_entry.Tie as tie

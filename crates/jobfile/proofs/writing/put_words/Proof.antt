@@ -5,7 +5,8 @@ use native.Mathlib.Omega.{arith}
 use mathlib.Core.Path.{_≡_, refl, sym, ap, _∙_}
 use mathlib.Core.List.{List}
 use lib.ListN.{length, drop}
-use Rattle.jobfile.specs.Bytes.{word-bytes, written}
+use Rattle.words.specs.Writing.{written}
+use Rattle.jobfile.specs.Bytes.{word-bytes}
 use Rattle.jobfile.proofs.ByteLaws.{words-turn, words-end}
 use Rattle.jobfile.proofs.writing.put_words.Statement.{statement}
 use Rattle.jobfile.proofs.writing.put_words.Tie as tie

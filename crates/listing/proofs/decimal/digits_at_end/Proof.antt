@@ -2,7 +2,7 @@ use borrow.Author.Needs.{needs}
 use Prim.Native.Nat.{_-_, _/_, _%_, _<_, _≤_, _^_}
 use native.Mathlib.Omega.{arith}
 use mathlib.Core.Path.{_≡_, sym, _∙_}
-use mathlib.Core.List.{[], _++_}
+use mathlib.Core.List.{_++_}
 use lib.ListN.{length, drop, set, length-set}
 use Rattle.listing.specs.Decimal.{digit-byte, decimal}
 use Rattle.listing.proofs.Numerals.{higher, first-digit, next-digit}

@@ -5,8 +5,8 @@ use mathlib.Core.Path.{_≡_, sym, ap, _∙_}
 use mathlib.Core.List.{List, [], _∷_}
 use lib.ListN.{length, getD, set, take}
 use lib.Seq.{length-take-le, take-all, take-suc}
-use Rattle.jobfile.specs.Bytes.{written}
-use Rattle.jobfile.proofs.ByteLaws.{written-none, written-one, written-length, written-more}
+use Rattle.words.specs.Writing.{written}
+use Rattle.words.proofs.Writing.{written-none, written-one, written-length, written-more}
 use Rattle.listing.proofs.decimal.put_bytes.Statement.{statement}
 use Rattle.listing.proofs.decimal.put_bytes.Tie as tie
 

@@ -3,7 +3,7 @@ use Prim.Native.Nat.{_+_}
 use native.Mathlib.Omega.{arith}
 use mathlib.Core.Path.{refl, _∙_}
 use lib.ListN.{length, length-append}
-use Rattle.jobfile.proofs.ByteLaws.{written-next}
+use Rattle.words.proofs.Writing.{written-next}
 use Rattle.listing.specs.Decimal.{numbers-end}
 use Rattle.listing.proofs.decimal.put_line.Statement.{statement}
 use Rattle.listing.proofs.decimal.put_line.Tie as tie

@@ -4,7 +4,7 @@ use native.Mathlib.Omega.{arith}
 use mathlib.Core.Path.{_≡_, _∙_}
 use mathlib.Core.List.{[], _∷_}
 use lib.ListN.{length}
-use Rattle.jobfile.proofs.ByteLaws.{written-next}
+use Rattle.words.proofs.Writing.{written-next}
 use Rattle.listing.specs.Decimal.{decimal, space}
 use Rattle.listing.proofs.decimal.put_number.Statement.{statement}
 use Rattle.listing.proofs.decimal.put_number.Tie as tie

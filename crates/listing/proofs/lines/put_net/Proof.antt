@@ -3,7 +3,7 @@ use native.Mathlib.Omega.{arith}
 use mathlib.Core.Path.{_≡_, ap, _∙_}
 use mathlib.Core.List.{[], _∷_}
 use lib.ListN.{length, length-append}
-use Rattle.jobfile.proofs.ByteLaws.{written-length, written-next}
+use Rattle.words.proofs.Writing.{written-length, written-next}
 use Rattle.listing.specs.Decimal.{decimal, numbers-end}
 use Rattle.listing.specs.Report.{net-line}
 use Rattle.listing.proofs.Numerals.{decimal-most}

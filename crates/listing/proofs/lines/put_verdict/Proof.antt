@@ -6,7 +6,7 @@ use lib.ListN.{length}
 use Rattle.network.specs.declared.Network.{Network}
 use Rattle.checker.specs.declared.Verdict.{Verdict}
 use Rattle.checker.specs.declared.Verdict.the-variants.{Pass, Pair}
-use Rattle.jobfile.specs.Bytes.{written}
+use Rattle.words.specs.Writing.{written}
 use Rattle.listing.specs.Decimal.{numbers-end}
 use Rattle.listing.specs.Report.{verdict-line}
 use Rattle.listing.proofs.lines.put_verdict.Statement.{statement}

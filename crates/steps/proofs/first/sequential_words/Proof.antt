@@ -7,13 +7,13 @@ use lib.Pow.{pow-mono}
 use lib.ListN.{length}
 use Rattle.steps.specs.FirstStep.{word-length}
 use Rattle.steps.proofs.StepOneWords.{length-bounds}
-use Rattle.steps.proofs.WordsGathered.{Gathered, gathered-none, more-to-try, gathered-taken, gathered-left, gathered-all}
+use Rattle.steps.proofs.WordsGathered.{WordsTaken, gathered-none, more-to-try, gathered-taken, gathered-left, gathered-all}
 use Rattle.steps.proofs.first.sequential_words.Statement.{statement}
 use Rattle.steps.proofs.first.sequential_words.Tie as tie
 
 abbrev Inv-loop : tie.InvT-loop
 Inv-loop net half words₀ count₀ word₀ words count word =
-    (count ≤ net .nets) × (length words ≡ 48) × (half ≡ word-length net / 2) × (2 ^ word-length net ≤ 2 ^ 8) × Gathered net words count word
+    (count ≤ net .nets) × (length words ≡ 48) × (half ≡ word-length net / 2) × (2 ^ word-length net ≤ 2 ^ 8) × WordsTaken net words count word
 
 abbrev μ-loop : tie.MeasureT-loop
 μ-loop net half words₀ count₀ word₀ words count word = 2 ^ word-length net - word

@@ -28,17 +28,17 @@ module _ (c : tie.After-answers-of) where
   returned-size : length (take (c .before .before .before .args .net .nets) (c .answers-of .result)) ≡ c .before .before .before .args .net .nets
   returned-size = length-take-le _ _ returned-room
 
-slice-aggregate-settle : tie.Need-slice-aggregate-settle
-slice-aggregate-settle c = sym (words-size (c .before))
+slice-aggregate-vectors-for-unclear : tie.Need-slice-aggregate-vectors-for-unclear
+slice-aggregate-vectors-for-unclear c = sym (words-size (c .before))
 
 array-share-prefix-returned : tie.Need-array-share-prefix-returned
 array-share-prefix-returned c = search needs
 
-slice-aggregate-settle-2 : tie.Need-slice-aggregate-settle-2
-slice-aggregate-settle-2 c = sym (returned-size (c .before .before))
+slice-aggregate-vectors-for-unclear-2 : tie.Need-slice-aggregate-vectors-for-unclear-2
+slice-aggregate-vectors-for-unclear-2 c = sym (returned-size (c .before .before))
 
-settle-requires : tie.Need-settle-requires
-settle-requires c κs =
+vectors-for-unclear-requires : tie.Need-vectors-for-unclear-requires
+vectors-for-unclear-requires c κs =
     let b = c .before .before in
     (b .before .before .before .pre .1, b .before .sequential-words .ensures .1, words-size b, returned-size b)
 
@@ -46,7 +46,7 @@ returns : tie.Need-returns
 returns c =
     let b = c .before .before .before in
     let a = b .before .before .before .args in
-    c .settle .ensures (a .answers .now) (columns-are (a .net .nets) (b .answers-of .result) (a .answers .now) (returned-room b) (b .answers-of .ensures .1))
+    c .vectors-for-unclear .ensures (a .answers .now) (columns-are (a .net .nets) (b .answers-of .result) (a .answers .now) (returned-room b) (b .answers-of .ensures .1))
 
 pub second-vectors-spec : {M : Type 1} → statement M
 second-vectors-spec =
@@ -55,8 +55,8 @@ second-vectors-spec =
     sequential-words-requires
     answers-of-requires
     array-share-prefix-words
-    slice-aggregate-settle
+    slice-aggregate-vectors-for-unclear
     array-share-prefix-returned
-    slice-aggregate-settle-2
-    settle-requires
+    slice-aggregate-vectors-for-unclear-2
+    vectors-for-unclear-requires
     returns)

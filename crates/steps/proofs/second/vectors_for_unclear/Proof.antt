@@ -6,8 +6,8 @@ use Prim.Native.Nat.{_≤_, _<_, _-_}
 use native.Mathlib.Omega.{arith}
 use lib.ListN.{length}
 use Rattle.steps.proofs.StepTwoVectors.{Listed, listed-start, listed-more, listed-same, listed-none, listed-some}
-use Rattle.steps.proofs.second.settle.Statement.{statement}
-use Rattle.steps.proofs.second.settle.Tie as tie
+use Rattle.steps.proofs.second.vectors_for_unclear.Statement.{statement}
+use Rattle.steps.proofs.second.vectors_for_unclear.Tie as tie
 
 abbrev Inv-loop : tie.InvT-loop
 Inv-loop net words returned vectors₀ count₀ i₀ vectors count i = (i ≤ length words) × Listed net words returned vectors count i
@@ -101,8 +101,8 @@ returns-2 c =
           (omega (arith, g .loop .inv .0, p .2, c .before .loop-test .left)) (c .if2 .left),
     )
 
-pub settle-spec : {M : Type 1} → statement M
-settle-spec =
+pub vectors-for-unclear-spec : {M : Type 1} → statement M
+vectors-for-unclear-spec =
     tie.close
     (tie.spec
     Inv-loop

@@ -1,16 +1,17 @@
 -- What an exported call owes: the number returned, and the lists lent.
 use borrow.Author.Tests.{eq-eqb, ne-eqb}
-use native.Mathlib.Omega.{arith}
 use Prim.Native.Nat.{ℕ}
-use mathlib.Core.Path.{_≡_, refl, ap, _∙_}
+use mathlib.Core.Path.{_≡_, refl, sym, ap, _∙_}
 use mathlib.Core.List.{List, [], _∷_}
 use lib.ListN.{length}
 use Rattle.words.specs.Answers.{Answer, refused, full, lent-after, count-of}
+use Rattle.words.proofs.Answers.{counted-full}
 use Rattle.session.specs.declared.Session.{Session}
 use Rattle.session.specs.declared.Stepped.{Stepped}
 use Rattle.session.specs.Calls.{stepped}
 use Rattle.jobfile.specs.declared.Job.{Job}
 use Rattle.jobfile.specs.Reader.{JobContent, counted}
+use Rattle.jobfile.proofs.ReaderAnswers.{read-counted-full}
 use Rattle.exports.specs.Exported.{code, in-words, wrong-length, of-length, size-words, job-words, session-size, session-words, session-of}
 use Rattle.exports.proofs.Words.{all-written, session-there}
 
@@ -36,10 +37,6 @@ module _ {A : Type 0} (a : Answer A) (number : ℕ) (e : a ≡ refused number) w
   unfolding in-words lent-after
   words-refused words lent = rw e
 
-pub lent-refused : (a : Answer (List ℕ)) (number : ℕ) (lent : List ℕ) → a ≡ refused number → lent ≡ lent-after a lent
-unfolding lent-after
-lent-refused a number lent e = rw e
-
 module _ {A : Type 0} (a : Answer A) (x : A) (e : a ≡ full x) where
   pub code-full : 0 ≡ code a
   unfolding code
@@ -57,9 +54,8 @@ code-counted (refused number) n said = ap code said
 code-counted (full words) n said = ap code said
 
 pub counted-size : (a : Answer (List ℕ)) (count : ℕ) → full count ≡ count-of a → in-words size-words a ≡ full (count ∷ [])
-unfolding in-words count-of
-counted-size (refused number) count said = absurd (let z : _≡_ {A = ℕ} 0 1 = cc in omega arith)
-counted-size (full words) count said = let same : length words ≡ count = cc in ap (λ (n : ℕ). full (n ∷ [])) same
+unfolding in-words
+counted-size a count said = let r = counted-full a count (sym said) in ap (in-words size-words) (r .1) ∙ ap (λ (n : ℕ). full (n ∷ [])) (r .2)
 
 pub code-read : (a : Answer JobContent) (n : Answer Job) → n ≡ counted a → code n ≡ code a
 unfolding code
@@ -69,14 +65,9 @@ code-read (full job) n said = ap code said
 pub read-words : (a : Answer JobContent) (job : Job) → full job ≡ counted a
     → in-words job-words a ≡ full (job .network .nets ∷ job .class ∷ job .vectors ∷ job .responses ∷ [])
 unfolding in-words job-words
-read-words (refused number) job said = absurd (let z : _≡_ {A = ℕ} 0 1 = cc in omega arith)
-read-words (full content) job said =
-    let same : record { network = content .network; class = content .class; vectors = length (content .vectors); responses = length (content .responses) } ≡ job = cc in
-    ap (λ (j : Job). full (j .network .nets ∷ j .class ∷ j .vectors ∷ j .responses ∷ [])) same
-
-pub read-refused : (a : Answer JobContent) (number : ℕ) → refused number ≡ counted a → a ≡ refused number
-read-refused (refused other) number said = let same : other ≡ number = cc in ap refused same
-read-refused (full content) number said = absurd (let z : _≡_ {A = ℕ} 0 1 = cc in omega arith)
+read-words a job said =
+    let r = read-counted-full a job (sym said) in
+    ap (in-words job-words) (r .1) ∙ ap (λ (j : Job). full (j .network .nets ∷ j .class ∷ j .vectors ∷ j .responses ∷ [])) (r .2)
 
 -- ---- a call on a session
 
