@@ -5,13 +5,13 @@ use mathlib.Core.Path.{_≡_, sym, ap, ap₂, _∙_}
 use mathlib.Core.List.{List, [], _∷_}
 use lib.ListN.{length, drop, drop-of-length-le}
 use lib.Seq.{drop-cons}
+use Rattle.words.specs.Writing.{written}
+use Rattle.words.proofs.Writing.{written-none, written-more}
 use Rattle.network.specs.declared.Network.{Network}
 use Rattle.diagnosis.specs.declared.Finding.{Finding}
 use Rattle.diagnosis.specs.Findings.{finding}
 use Rattle.diagnosis.specs.FindingsTable.{findings}
 use Rattle.diagnosis.proofs.Tabling.{findings-size, findings-is}
-use Rattle.words.specs.Writing.{written}
-use Rattle.words.proofs.Writing.{written-none, written-more}
 use Rattle.exports.specs.Exported.{finding-words}
 
 abbrev three : Finding → List ℕ

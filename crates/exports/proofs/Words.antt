@@ -7,9 +7,9 @@ use lib.ListN.{length, take, drop, length-append, length-drop, take-append-drop,
 use lib.Seq.{take-all, drop-drop, drop-cons}
 use Rattle.words.specs.Bits.{at}
 use Rattle.words.specs.Answers.{full, lent-after}
-use Rattle.session.specs.declared.Session.{Session}
 use Rattle.words.specs.Writing.{written}
 use Rattle.words.proofs.Writing.{written-next, written-front}
+use Rattle.session.specs.declared.Session.{Session}
 use Rattle.exports.specs.Exported.{session-words, session-of, session-size}
 
 -- words put into the part of a list from a place on

@@ -4,11 +4,11 @@ use native.Mathlib.Omega.{arith}
 use mathlib.Core.Path.{_≡_, refl, sym, ap, ap₂, _∙_}
 use mathlib.Core.List.{List, [], _∷_, _++_}
 use lib.ListN.{length, length-append}
+use Rattle.words.specs.Writing.{written}
+use Rattle.words.proofs.Writing.{written-none, written-length, written-more}
 use Rattle.network.specs.declared.Network.{Network}
 use Rattle.diagnosis.specs.declared.Finding.{Finding}
 use Rattle.diagnosis.specs.Findings.{finding}
-use Rattle.words.specs.Writing.{written}
-use Rattle.words.proofs.Writing.{written-none, written-length, written-more}
 use Rattle.listing.specs.Decimal.{decimal, spaced, numbers-end}
 use Rattle.listing.specs.Report.{net-line, net-lines}
 use Rattle.listing.proofs.Numerals.{decimal-most}

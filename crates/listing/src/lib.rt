@@ -3,9 +3,9 @@ ghost use mathlib.Core.Path.{_≡_};
 ghost use Prim.Native.Nat.{_+_, _≤_};
 ghost use lib.ListN.{length, replicate};
 ghost use Rattle.words.specs.Answers.{full, NoneHolds, «lent-after»};
+ghost use Rattle.words.specs.Writing.{written};
 ghost use Rattle.network.specs.Rows.{SetRows};
 ghost use Rattle.diagnosis.specs.Diagnosis.{«diagnosis-answer»};
-ghost use Rattle.words.specs.Writing.{written};
 ghost use Rattle.listing.specs.Report.{«diagnosis-text», «content-text», report};
 
 mod decimal;

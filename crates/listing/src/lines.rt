@@ -2,8 +2,8 @@
 ghost use mathlib.Core.Path.{_≡_};
 ghost use Prim.Native.Nat.{_+_, _*_, _≤_};
 ghost use lib.ListN.{length};
-ghost use Rattle.network.specs.States.{State};
 ghost use Rattle.words.specs.Writing.{written};
+ghost use Rattle.network.specs.States.{State};
 ghost use Rattle.listing.specs.Report.{«refused-line», «verdict-line», «net-line», «net-lines»};
 use crate::decimal;
 use checker::Verdict;

@@ -4,12 +4,12 @@ use Prim.Native.Nat.{ℕ, _≤_}
 use mathlib.Core.Path.{_≡_, sym, ap, _∙_}
 use mathlib.Core.List.{List, _++_, append-nil}
 use lib.ListN.{length, length-append}
+use Rattle.words.specs.Writing.{written}
+use Rattle.words.proofs.Writing.{written-length, written-next}
 use Rattle.network.proofs.Rows.{admitted-set}
 use Rattle.checker.specs.declared.Verdict.{Verdict}
 use Rattle.checker.specs.Rule.{verdict}
 use Rattle.diagnosis.specs.Diagnosis.{diagnosis-answer}
-use Rattle.words.specs.Writing.{written}
-use Rattle.words.proofs.Writing.{written-length, written-next}
 use Rattle.listing.specs.Report.{verdict-line, diagnosis-text, responses-text, content-text}
 use Rattle.listing.proofs.Reporting.{verdict-most, nothing-follows, diagnosis-follows}
 use Rattle.listing.proofs.put_content.Statement.{statement}

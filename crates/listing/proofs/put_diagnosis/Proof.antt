@@ -6,10 +6,10 @@ use mathlib.Core.List.{List}
 use lib.ListN.{length, take, replicate}
 use lib.Seq.{length-take-le}
 use Rattle.words.specs.Answers.{Answer, refused, full}
+use Rattle.words.specs.Writing.{written}
 use Rattle.network.specs.declared.Network.{Network}
 use Rattle.network.specs.States.{State}
 use Rattle.diagnosis.specs.Diagnosis.{diagnosis-answer}
-use Rattle.words.specs.Writing.{written}
 use Rattle.listing.specs.Report.{diagnosis-text}
 use Rattle.listing.proofs.Reporting.{diagnosis-refused, diagnosis-wrote}
 use Rattle.listing.proofs.put_diagnosis.Statement.{statement}

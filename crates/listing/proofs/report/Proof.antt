@@ -6,9 +6,9 @@ use mathlib.Core.List.{List}
 use lib.ListN.{length, take, replicate}
 use lib.Seq.{length-take-le}
 use Rattle.words.specs.Answers.{full, lent-after}
-use Rattle.jobfile.specs.declared.Job.{Job}
 use Rattle.words.specs.Writing.{written}
 use Rattle.words.proofs.Writing.{written-front}
+use Rattle.jobfile.specs.declared.Job.{Job}
 use Rattle.listing.specs.Report.{refused-line, content-text, report}
 use Rattle.listing.proofs.Reporting.{ReadContent, read-refused, read-content}
 use Rattle.listing.proofs.report.Statement.{statement}

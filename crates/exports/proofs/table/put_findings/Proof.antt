@@ -3,9 +3,9 @@ use native.Mathlib.Omega.{arith}
 use Prim.Native.Nat.{_*_, _≤_, _-_}
 use mathlib.Core.Path.{refl, sym, _∙_, _≡_}
 use lib.ListN.{drop, length}
-use Rattle.diagnosis.specs.FindingsTable.{findings}
 use Rattle.words.specs.Writing.{written}
 use Rattle.words.proofs.Writing.{written-front}
+use Rattle.diagnosis.specs.FindingsTable.{findings}
 use Rattle.exports.specs.Exported.{finding-words}
 use Rattle.exports.proofs.Tabling.{findings-turn, findings-end}
 use Rattle.exports.proofs.table.put_findings.Statement.{statement}

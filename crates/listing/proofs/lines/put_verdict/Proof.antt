@@ -3,10 +3,10 @@ use Prim.Native.Nat.{ℕ, _+_}
 use mathlib.Core.Path.{_≡_}
 use mathlib.Core.List.{List, [], _∷_}
 use lib.ListN.{length}
+use Rattle.words.specs.Writing.{written}
 use Rattle.network.specs.declared.Network.{Network}
 use Rattle.checker.specs.declared.Verdict.{Verdict}
 use Rattle.checker.specs.declared.Verdict.the-variants.{Pass, Pair}
-use Rattle.words.specs.Writing.{written}
 use Rattle.listing.specs.Decimal.{numbers-end}
 use Rattle.listing.specs.Report.{verdict-line}
 use Rattle.listing.proofs.lines.put_verdict.Statement.{statement}
