@@ -239,10 +239,6 @@ module _ (net : Network) (answers : List ℕ) where
         settling-walking net (unclear net answers) (r .0) (r .1) ∙ ap (walking-vector net) (r .2),
       )
 
-  unclear-inside : (u : ℕ) → u < length (unclear net answers) → at (unclear net answers) u < net .nets
-  unfolding unclear is-unclear
-  unclear-inside u l = entry-is is-unclear (net .nets) u l .below
-
   unclear-most : length (unclear net answers) ≤ net .nets
   unfolding unclear is-unclear
   unclear-most = count-most is-unclear (net .nets)
