@@ -19,7 +19,7 @@ use Rattle.words.proofs.Bits.{words-equal, subset-at-most, has-own, has-only, h
 use Rattle.words.proofs.Classes.{ones-at-most}
 use Rattle.words.proofs.Columns.{length-tabulate, tabulate-at, transpose-size, transpose-at}
 use Rattle.words.proofs.Making.{map-at}
-use Rattle.words.proofs.Passing.{count-most, count-grows-past, entry-of, entry-is}
+use Rattle.words.proofs.Passing.{count-most, count-grows-past, entry-of}
 use Rattle.words.proofs.Searching.{any-at, any-none}
 use Rattle.words.proofs.Tests.{cases, contrary, and-left, and-right, and-both, same-truth, less-or-not}
 use Rattle.network.specs.declared.Network.{Network}
