@@ -13,7 +13,7 @@ use Rattle.network.proofs.States.{test→state}
 use Rattle.checker.proofs.Separation.{apart-one-fits}
 use Rattle.diagnosis.specs.Diagnosis.{Row14, DiagnosisRows, diagnosis-answer}
 use Rattle.diagnosis.specs.Open.{open-diagnosis}
-use Rattle.diagnosis.proofs.Answering.{diagnosis-by-table, diagnosis-determined, passed-apart}
+use Rattle.diagnosis.proofs.DiagnosisLaws.{diagnosis-by-table, diagnosis-determined, passed-apart}
 use Rattle.demands.specs.Demand2.{DiagnosisProgram, EarlierRows, Diagnoses, OpenAndShort, Demand2}
 use Rattle.demands.specs.Programs.{our-response, our-diagnosis}
 use Rattle.demands.proofs.Responding.{responds}

@@ -7,7 +7,6 @@ use native.Mathlib.Omega.{arith}
 use Rattle.words.specs.Answers.{refused, full, Filled, NoneHolds}
 use Rattle.words.specs.Bits.{at}
 use Rattle.words.proofs.Answers.{let-through, table-full, table-not-refused}
-use Rattle.network.specs.declared.Network.{Network}
 use Rattle.network.specs.Rows.{SetRows, set-tests, set-admission}
 use Rattle.network.proofs.Rows.{decides-set}
 use Rattle.diagnosis.specs.Open.{open-diagnosis}
@@ -18,6 +17,7 @@ use Rattle.checker.proofs.Verdicts.{pair-not-pass}
 use Rattle.demands.specs.Demand2.{ResponseProgram, Responds, DiagnosisProgram, Diagnoses}
 use Rattle.demands.specs.Demand3.{CheckProgram, Judged, Checks}
 use Rattle.demands.specs.Refuted.{passes-all-sets, shows-one-pair, refuses-every-set, writes-nothing, drops-tail, writes-when-refused, refuses-every-state, says-14, reads-nothing-back, accepts-conflicts, refuses-every-response, Refuted}
+use Rattle.demands.specs.Starred.{two}
 use Rattle.demands.specs.Programs.{our-response, our-diagnosis}
 use Rattle.demands.proofs.Responding.{responds, response-determined}
 use Rattle.demands.proofs.Diagnosing.{diagnoses, diagnosis-determined-program}
@@ -25,10 +25,6 @@ use Rattle.demands.proofs.Checking.{checks, pair-not-one}
 use Rattle.demands.proofs.RefutingFindings.{table-as-lent, record-not-written, table-cleared}
 use Rattle.demands.proofs.RefutingSessions.{guessed, counted-itself, refuses-begins, uncounted, no-vectors}
 use Rattle.demands.proofs.RefutingCalls.{vectors-cleared, started-again}
-
--- two nets, class 2
-abbrev two : Network
-two = record { nets = 2 }
 
 -- walking ones with vector 0, and a set without it
 abbrev enough : List ℕ

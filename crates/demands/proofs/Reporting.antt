@@ -16,7 +16,7 @@ use Rattle.checker.specs.Rule.{verdict}
 use Rattle.checker.proofs.Verdicts.{verdict-rule, rule-determined}
 use Rattle.checker.proofs.Separation.{apart-one-fits}
 use Rattle.diagnosis.specs.Diagnosis.{OwnRows, diagnosis-answer}
-use Rattle.diagnosis.proofs.Answering.{passed-apart, diagnosis-by-table}
+use Rattle.diagnosis.proofs.DiagnosisLaws.{passed-apart, diagnosis-by-table}
 use Rattle.jobfile.specs.Layout.{body-words, has-responses, file-responses}
 use Rattle.jobfile.specs.Reader.{JobContent, content, ReaderRows, read-answer}
 use Rattle.jobfile.proofs.ReaderLaws.{read-by-table}

@@ -1,6 +1,6 @@
 pub mod ReadingBack
-pub mod Answering
+pub mod DiagnosisLaws
 pub mod Gathering
 pub mod Noting
 pub mod Partners
-pub mod Tabling
+pub mod FindingsLaws

@@ -11,7 +11,7 @@ use Rattle.network.specs.declared.Network.{Network}
 use Rattle.diagnosis.specs.declared.Finding.{Finding}
 use Rattle.diagnosis.specs.Findings.{finding}
 use Rattle.diagnosis.specs.FindingsTable.{findings}
-use Rattle.diagnosis.proofs.Tabling.{findings-size, findings-is}
+use Rattle.diagnosis.proofs.FindingsLaws.{findings-size, findings-is}
 use Rattle.exports.specs.Exported.{finding-words}
 
 abbrev three : Finding → List ℕ

@@ -9,10 +9,10 @@ use native.Mathlib.Omega.{arith}
 use lib.Dec.{eqb}
 use lib.ListN.{length, take}
 use lib.Pow.{pow-mono}
-use borrow.Author.Tests.{eqb-true, eqb-false, le-ltb, not-false}
+use borrow.Author.Tests.{eqb-true, le-ltb, not-false}
 use Rattle.words.specs.Bits.{at}
 use Rattle.words.specs.Answers.{refused, full, by-tests}
-use Rattle.words.proofs.Tests.{cases}
+use Rattle.words.proofs.Tests.{equal-if-not-unequal}
 use Rattle.words.proofs.Answers.{refused-not-full}
 use Rattle.network.specs.declared.Network.{Network}
 use Rattle.network.specs.Rows.{bad-vector-count, has-high-bit, bad-response-count, no-room, set-tests}
@@ -108,18 +108,14 @@ written-is-read net k vectors responses room first second file e lv lr =
 
 -- ---- the reader's file, written
 
--- numbers that do not differ are equal
-stable : (a b : ℕ) → ¬ (a ≢ b) → a ≡ b
-stable a b n = ⊎-elim (eqb-true a b) (λ e. absurd (n (eqb-false a b e))) (cases (eqb a b))
-
 admitted-file : (file : List ℕ) → AllBytes file → bad-mark file ≡ false → bad-layout file ≡ false → bad-bodies file ≡ false → AdmittedFile file
 admitted-file file small t1 t2 t3 =
     let bodies = decides-row-3 file .1 t3 in record {
       small = small;
       marked = decides-same-bytes (take 4 file) mark .0 (not-false (same-bytes (take 4 file) mark) t1);
       laid = test→layout file t2;
-      nets-body = stable (body-length file 0) 2 (λ n. bodies (inl n));
-      whole = λ i l p. stable (body-length file i % 8) 0 (λ n. bodies (inr (i, p, l, n)));
+      nets-body = equal-if-not-unequal (body-length file 0) 2 (λ n. bodies (inl n));
+      whole = λ i l p. equal-if-not-unequal (body-length file i % 8) 0 (λ n. bodies (inr (i, p, l, n)));
     }
 
 -- a test behind a weaker condition

@@ -2,12 +2,12 @@
 use Prim.Native.Nat.{ℕ, _≤_}
 use native.Mathlib.Omega.{arith}
 use mathlib.Core.Path.{_≡_, refl, sym, ap, ap₂, _∙_, subst, subst₂}
-use mathlib.Core.Logic.{_≢_, inl, inr}
+use mathlib.Core.Logic.{_≢_}
 use mathlib.Core.List.{List, [], _∷_}
 use lib.ListN.{length, take, replicate, length-append}
 use Rattle.words.specs.Answers.{Answer, refused, full, ByTable, NoneHolds, lent-after, count-of}
 use Rattle.words.proofs.Classes.{ones-at-most}
-use Rattle.words.proofs.Answers.{table-full, front-written, written-fits, counted-refused, counted-full, refused-not-full}
+use Rattle.words.proofs.Answers.{table-full, front-written, written-fits, counted-refused, counted-full, table-none-holds}
 use Rattle.network.specs.declared.Network.{Network}
 use Rattle.network.specs.States.{State, Fits}
 use Rattle.network.specs.Rows.{SetRows}
@@ -16,7 +16,7 @@ use Rattle.checker.specs.declared.Verdict.the-variants.{Pass, Pair}
 use Rattle.diagnosis.specs.declared.Diagnosed.{Diagnosed}
 use Rattle.diagnosis.specs.declared.Diagnosed.the-variants.{Wrote, Refused}
 use Rattle.diagnosis.specs.Diagnosis.{DiagnosisRows, diagnosis-answer, meaning}
-use Rattle.diagnosis.proofs.Answering.{diagnosis-by-table}
+use Rattle.diagnosis.proofs.DiagnosisLaws.{diagnosis-by-table}
 use Rattle.jobfile.specs.declared.Job.{Job}
 use Rattle.jobfile.specs.declared.ReadJob.{ReadJob}
 use Rattle.jobfile.specs.declared.ReadJob.the-variants.{Content, Refused as Stopped}
@@ -111,19 +111,13 @@ pub read-refused : (file : List ℕ) (answer : ReadJob) (number : ℕ) → answe
 unfolding report
 read-refused file answer number r e = ap job-text (read-counted-refused (read-answer file 64 64) number (sym e ∙ ap read-meaning r))
 
--- a full result is given only where no row holds
-full-none-holds : {A : Type 0} (result : A → Type 0) (rows : List (ℕ × Type 0)) (x : A) → ByTable rows result (full x) → NoneHolds rows
-full-none-holds result [] x p = tt
-full-none-holds result ((number, holds) ∷ rows) x (inl (h, e)) = refused-not-full e refl
-full-none-holds result ((number, holds) ∷ rows) x (inr (n, p)) = (n, full-none-holds result rows x p)
-
 module _ (file : List ℕ) where
   -- the test set of a file that is read is admitted
   set-admitted : (c : JobContent) → read-answer file 64 64 ≡ full c → NoneHolds (SetRows (c .network) (c .class) (c .vectors))
   set-admitted c e =
       let by-rows : ByTable (ReaderRows file 64 64) (λ x. x ≡ content file) (full c) =
       subst (ByTable (ReaderRows file 64 64) (λ x. x ≡ content file)) e (read-by-table file 64 64) in
-      let set = full-none-holds (λ x. x ≡ content file) (ReaderRows file 64 64) c by-rows .1 .1 .1 in
+      let set = table-none-holds (λ x. x ≡ content file) (ReaderRows file 64 64) c by-rows .1 .1 .1 in
       subst (λ (x : JobContent). NoneHolds (SetRows (x .network) (x .class) (x .vectors))) (sym (table-full (λ x. x ≡ content file) (ReaderRows file 64 64) c by-rows))
       (set .0, (set .1 .0, (set .1 .1 .0, (set .1 .1 .1 .0, tt))))
 

@@ -52,6 +52,12 @@ module _ {A : Type 0} (result : A → Type 0) where
   table-full ((number, holds) ∷ rows) x (inl (h, e)) = refused-not-full e refl
   table-full ((number, holds) ∷ rows) x (inr (n, p)) = table-full rows x p
 
+  -- and it is allowed only where no row holds
+  pub table-none-holds : (rows : List (ℕ × Type 0)) (x : A) → ByTable rows result (full x) → NoneHolds rows
+  table-none-holds [] x p = tt
+  table-none-holds ((number, holds) ∷ rows) x (inl (h, e)) = refused-not-full e refl
+  table-none-holds ((number, holds) ∷ rows) x (inr (n, p)) = (n, table-none-holds rows x p)
+
   -- where the first rows do not hold, the others decide
   pub table-skip : (rows more : List (ℕ × Type 0)) (a : Answer A) → NoneHolds rows → ByTable (rows ++ more) result a → ByTable more result a
   table-skip [] more a n p = p

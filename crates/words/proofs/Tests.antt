@@ -1,7 +1,7 @@
 -- Laws of Boolean tests.
 use mathlib.Core.Path.{_≡_, refl, sym, _∙_}
 use mathlib.Core.Bool.{Bool, true, false, not, _&&_, _||_, true≢false, false≢true}
-use mathlib.Core.Logic.{_⊎_, inl, inr, ⊎-elim}
+use mathlib.Core.Logic.{_⊎_, _≢_, inl, inr, ⊎-elim}
 use Prim.Native.Nat.{ℕ, _≤_, _<_}
 use native.Mathlib.Nat.{eq-or-lt-of-le}
 use lib.Dec.{ltb, leb, eqb}
@@ -83,3 +83,7 @@ test-fails {a} f n = ⊎-elim (λ e. absurd (n (f .0 e))) (λ e. e) (cases a)
 pub decides-and : {a b : Bool} {A B : Type 0} → Decides a A → Decides b B → Decides (a && b) (A × B)
 decides-and {a} {b} f g =
     (λ e. (f .0 (and-left a b e), g .0 (and-right a b e)), λ e w. contrary (and-both (test-passes f (w .0)) (test-passes g (w .1))) e)
+
+-- numbers that do not differ are equal
+pub equal-if-not-unequal : (a b : ℕ) → ¬ (a ≢ b) → a ≡ b
+equal-if-not-unequal a b n = ⊎-elim (eqb-true a b) (λ e. absurd (n (eqb-false a b e))) (cases (eqb a b))

@@ -13,7 +13,7 @@ use Rattle.network.proofs.Rows.{set-refuses, set-admits, set-admitted, set-none
 use Rattle.checker.specs.Rule.{verdict}
 use Rattle.diagnosis.specs.ReadBack.{read-back}
 use Rattle.diagnosis.specs.Diagnosis.{not-passed, own-tests, fit-answer, diagnosis-answer}
-use Rattle.diagnosis.proofs.Answering.{passes-rule}
+use Rattle.diagnosis.proofs.DiagnosisLaws.{passes-rule}
 use Rattle.diagnosis.proofs.diagnose.Statement.{statement}
 use Rattle.diagnosis.proofs.diagnose.Tie as tie
 

@@ -2,7 +2,7 @@ use borrow.Author.Needs.{needs}
 use native.Mathlib.Omega.{arith}
 use Prim.Native.Nat.{_/_}
 use lib.ListN.{length}
-use Rattle.diagnosis.proofs.Tabling.{table-refused, table-accepted}
+use Rattle.diagnosis.proofs.FindingsLaws.{table-refused, table-accepted}
 use Rattle.exports.specs.Exported.{finding-words, network-of}
 use Rattle.exports.proofs.CallLaws.{code-refused, words-refused, code-full, words-full}
 use Rattle.exports.proofs.fontarelga_findings.Statement.{statement}

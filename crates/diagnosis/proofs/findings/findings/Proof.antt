@@ -58,7 +58,7 @@ use Rattle.network.proofs.Network.Laws as N′
 use Rattle.diagnosis.specs.declared.Finding.{Finding}
 use Rattle.diagnosis.specs.Findings.{finding}
 use Rattle.diagnosis.specs.FindingsTable.{findings-answer, table-meaning}
-use Rattle.diagnosis.proofs.Tabling.{Accepted, table-accepted, table-refused, filled, filled-none, filled-next, filled-length, filled-all}
+use Rattle.diagnosis.proofs.FindingsLaws.{Accepted, table-accepted, table-refused, filled, filled-none, filled-next, filled-length, filled-all}
 use Rattle.diagnosis.proofs.Finding as T
 use Rattle.diagnosis.proofs.Finding.Laws as T′
 use Rattle.diagnosis.proofs.findings.table_refusal as refusal

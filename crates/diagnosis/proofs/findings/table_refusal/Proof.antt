@@ -10,7 +10,7 @@ use Rattle.network.specs.Rows.{bad-net-count, no-room}
 use Rattle.network.proofs.States.{test→state}
 use Rattle.network.proofs.Rows.{decides-row-5, nets-admitted}
 use Rattle.diagnosis.specs.FindingsTable.{findings-answer, table-meaning}
-use Rattle.diagnosis.proofs.Tabling.{findings-size}
+use Rattle.diagnosis.proofs.FindingsLaws.{findings-size}
 use Rattle.diagnosis.proofs.findings.table_refusal.Statement.{statement}
 use Rattle.diagnosis.proofs.findings.table_refusal.Tie as tie
 

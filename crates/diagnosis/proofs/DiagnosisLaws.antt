@@ -1,14 +1,11 @@
 -- The call *diagnosis* answers as its rows and its result say, and nothing is left open.
 use mathlib.Core.Path.{_≡_, refl}
 use mathlib.Core.Bool.{true, false, true≢false, false≢true}
-use mathlib.Core.Logic.{⊎-elim}
 use mathlib.Core.List.{List, _++_}
 use Prim.Native.Nat.{ℕ}
 use lib.ListN.{length}
-use lib.Dec.{eqb}
-use borrow.Author.Tests.{eqb-true, eqb-false}
 use Rattle.words.specs.Answers.{Answer, ByTable, NoneHolds, Decides, Decided}
-use Rattle.words.proofs.Tests.{cases, test-fails}
+use Rattle.words.proofs.Tests.{test-fails, equal-if-not-unequal}
 use Rattle.words.proofs.Answers.{decided-append, tests-by-table, table-determined}
 use Rattle.network.specs.declared.Network.{Network}
 use Rattle.network.specs.States.{Fits}
@@ -25,9 +22,7 @@ use Rattle.diagnosis.proofs.ReadingBack.{read-back-fits, decides-no-sta
 
 -- as many responses as vectors
 pub same-count : (vectors responses : List ℕ) → ¬ (Row9 (length vectors) (length responses)) → length responses ≡ length vectors
-same-count vectors responses h =
-    ⊎-elim (eqb-true (length responses) (length vectors)) (λ e. absurd (h (eqb-false (length responses) (length vectors) e)))
-    (cases (eqb (length responses) (length vectors)))
+same-count vectors responses h = equal-if-not-unequal (length responses) (length vectors) h
 
 module _ (net : Network) (k : ℕ) (vectors : List ℕ) where
   -- the rule passes the set exactly where the computed verdict does
