@@ -1,4 +1,4 @@
-// Numbers as text in base ten. Helpers between crates: the text has room.
+// Numbers as text in base ten. Helpers of this crate: the text has room.
 ghost use mathlib.Core.Path.{_≡_};
 ghost use mathlib.Core.List.{_++_};
 ghost use Prim.Native.Nat.{_+_, _*_, _≤_};
