@@ -1,10 +1,10 @@
 // The call *check*.
-use crate::read;
-use crate::read::END;
-use crate::read::MOST;
-use crate::show;
 use checker::Checked;
 use network::Network;
+use tables::read;
+use tables::read::END;
+use tables::read::MOST;
+use tables::show;
 
 fn answer(checked: Checked) {
     match checked {

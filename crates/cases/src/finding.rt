@@ -1,11 +1,11 @@
 // The call *findings* with a blank table of 48 records lent. A line gives n, then the reaches; with a net after n it asks for that net's record alone.
 ghost use Prim.Native.Nat.{_≤_};
-use crate::read;
-use crate::read::END;
-use crate::read::MOST;
-use crate::show;
-use diagnosis::Finding;
+use findings::Finding;
 use network::Network;
+use tables::read;
+use tables::read::END;
+use tables::read::MOST;
+use tables::show;
 
 // Whether a record is as it was lent.
 fn is_blank(finding: Finding) -> bool {
@@ -54,7 +54,7 @@ fn records(table: [Finding; 48], count: usize)
 
 // The refusal, or a record a net; then how many records are left as they were.
 fn whole_table(net: Network, state: &[u64]) {
-    let done = diagnosis::findings::by_value(net, state);
+    let done = findings::by_value(net, state);
     let table = done.table;
     if done.code != 0 {
         show::entry(b" refused", done.code);
@@ -68,7 +68,7 @@ fn whole_table(net: Network, state: &[u64]) {
 
 // Net i's record, or the refusal.
 fn one_net(net: Network, i: u64, state: &[u64]) {
-    let done = diagnosis::findings::by_value(net, state);
+    let done = findings::by_value(net, state);
     if done.code != 0 {
         show::entry(b" refused", done.code);
         return;

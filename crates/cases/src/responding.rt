@@ -1,27 +1,15 @@
 // The calls that fill a lent list: *response from a state* and *diagnosis*.
 ghost use Prim.Native.Nat.{_≤_};
-use crate::read;
-use crate::read::END;
-use crate::read::MOST;
-use crate::show;
 use diagnosis::Diagnosed;
 use network::Network;
 use network::Responded;
-
-// What each entry of a lent list holds before the call.
-pub const MARKER: u64 = 99;
-
-// A result, with the list that was lent: the words written, and the entries that the call left.
-pub fn wrote(count: u64, list: &[u64]) {
-    show::part(list, 0, count as usize);
-    show::rest(list, count as usize, MARKER);
-}
-
-// A refusal, with the list that was lent.
-pub fn refused(number: u64, list: &[u64]) {
-    show::entry(b" refused", number);
-    show::rest(list, 0, MARKER);
-}
+use tables::lent::MARKER;
+use tables::lent::refused;
+use tables::lent::wrote;
+use tables::read;
+use tables::read::END;
+use tables::read::MOST;
+use tables::show;
 
 // Makes the call *response from a state* and shows its answer and the lent list.
 fn respond(net: Network, class: u64, vectors: &[u64], state: &[u64], list: &mut [u64]) {

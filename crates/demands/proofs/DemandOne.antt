@@ -15,14 +15,14 @@ use Rattle.network.specs.Reading.{Response}
 use Rattle.network.specs.States.{Fits}
 use Rattle.network.specs.Rows.{Row9, Row12}
 use Rattle.checker.specs.Rule.{Rule}
-use Rattle.diagnosis.specs.FindingsTable.{Findings}
+use Rattle.findings.specs.FindingsTable.{Findings}
 use Rattle.steps.specs.FirstStep.{first-vectors}
 use Rattle.steps.specs.SecondStep.{unclear, second-vectors}
 use Rattle.session.specs.declared.Session.{Session}
 use Rattle.session.specs.Record.{held-answers, awaits-first, awaits-second}
 use Rattle.session.proofs.Records.{held-of}
-use Rattle.jobfile.specs.Writer.{file-of}
-use Rattle.jobfile.specs.Reader.{JobContent, content, vectors-read, responses-read, counted}
+use Rattle.writer.specs.Writer.{file-of}
+use Rattle.reader.specs.Reader.{JobContent, content, vectors-read, responses-read, counted}
 use Rattle.demands.specs.SessionCalls.{Call, begin, first, second, lent, History, none, waits-first, waits-second, finished-first, finished-second, after-first, accepted, extended, record-after, history-from, history, LeftBy, Awaits, FitsAnswers}
 use Rattle.demands.specs.SessionRecords.{WaitsFor}
 use Rattle.demands.specs.Demand3.{BeginRows, Written, second-words}

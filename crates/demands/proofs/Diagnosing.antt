@@ -14,6 +14,7 @@ use Rattle.checker.proofs.Separation.{apart-one-fits}
 use Rattle.diagnosis.specs.Diagnosis.{Row14, DiagnosisRows, diagnosis-answer}
 use Rattle.diagnosis.specs.Open.{open-diagnosis}
 use Rattle.diagnosis.proofs.DiagnosisLaws.{diagnosis-by-table, diagnosis-determined, passed-apart}
+use Rattle.findings.specs.Open.{open-findings}
 use Rattle.demands.specs.Demand2.{DiagnosisProgram, EarlierRows, Diagnoses, OpenAndShort, Demand2}
 use Rattle.demands.specs.Programs.{our-response, our-diagnosis}
 use Rattle.demands.proofs.Responding.{responds}
@@ -95,7 +96,7 @@ diagnosis-determined-program p q f g net k vectors responses lent =
     (diagnosis-determined net k vectors responses (length lent)) (f net k vectors responses lent .by-table) (g net k vectors responses lent .by-table)
 
 open-and-short : OpenAndShort our-response our-diagnosis
-unfolding open-diagnosis
+unfolding open-diagnosis open-findings
 open-and-short = record {
   is-state = test→state (record { nets = 2 }) 2 (2 ∷ 2 ∷ []) refl;
   open-net = refl;

@@ -5,9 +5,9 @@ use Prim.Native.Nat.{ℕ}
 use lib.ListN.{length}
 use Rattle.words.proofs.Answers.{fills-determined}
 use Rattle.network.specs.declared.Network.{Network}
-use Rattle.diagnosis.specs.declared.Finding.{Finding}
-use Rattle.diagnosis.specs.FindingsTable.{FindingsRows, Findings, findings-answer}
-use Rattle.diagnosis.proofs.FindingsLaws.{findings-by-table, findings-determined}
+use Rattle.findings.specs.declared.Finding.{Finding}
+use Rattle.findings.specs.FindingsTable.{FindingsRows, Findings, findings-answer}
+use Rattle.findings.proofs.FindingsLaws.{findings-by-table, findings-determined}
 use Rattle.demands.specs.FindingsCall.{FindingsProgram, Finds}
 use Rattle.demands.specs.Programs.{our-findings}
 

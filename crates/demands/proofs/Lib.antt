@@ -4,6 +4,10 @@ pub mod Findings
 pub mod Checking
 pub mod Refuting
 pub mod Telling
+pub mod ReadBytes
+pub mod MadeFile
+pub mod StandingFile
+pub mod Exactness
 pub mod JobFilesExact
 pub mod Sessions
 pub mod DemandThree

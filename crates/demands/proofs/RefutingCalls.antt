@@ -6,7 +6,7 @@ use mathlib.Core.Logic.{⊎-elim}
 use mathlib.Core.List.{List, [], _∷_}
 use Rattle.words.specs.Bits.{at}
 use Rattle.words.proofs.Answers.{refused-not-full}
-use Rattle.jobfile.specs.Open.{open-jobfile}
+use Rattle.reader.specs.Open.{open-reader}
 use Rattle.session.specs.declared.Session.{Session}
 use Rattle.session.specs.Record.{awaiting-second}
 use Rattle.session.specs.Open.{open-session}
@@ -18,7 +18,7 @@ use Rattle.demands.specs.Refuted.{ours-but, clears-vectors, starts-again
 
 -- an empty file
 pub vectors-cleared : ¬ (Demand1 (ours-but clears-vectors our-sessions))
-unfolding open-jobfile
+unfolding open-reader
 vectors-cleared claim =
     ⊎-elim (λ w. let z : _≡_ {A = ℕ} 0 9 = ap (λ (ws : List ℕ). at ws 0) (w .2 .1) in omega arith) (λ w. refused-not-full {number = 1} refl (w .1 .0)) (claim .each-call (read [] (9 ∷ []) []))
 

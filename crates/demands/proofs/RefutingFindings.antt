@@ -6,8 +6,8 @@ use Prim.Native.Nat.{ℕ}
 use native.Mathlib.Omega.{arith}
 use lib.ListN.{getD}
 use Rattle.words.specs.Answers.{Filled}
-use Rattle.diagnosis.specs.declared.Finding.{Finding}
-use Rattle.diagnosis.specs.Open.{open-diagnosis}
+use Rattle.findings.specs.declared.Finding.{Finding}
+use Rattle.findings.specs.Open.{open-findings}
 use Rattle.demands.specs.FindingsCall.{FindingsProgram, Finds}
 use Rattle.demands.specs.Refuted.{finds-nothing, one-record-short, clears-when-refused}
 use Rattle.demands.specs.Programs.{our-findings}
@@ -30,13 +30,13 @@ differs program state i d h =
     d (ap (λ (f : Filled Finding). getD (f .list) i other .kind) (findings-determined-program program our-findings h finds two state others))
 
 pub table-as-lent : ¬ (Finds finds-nothing)
-unfolding open-diagnosis
+unfolding open-findings
 table-as-lent = differs finds-nothing (2 ∷ 2 ∷ []) 0 (λ e. let z : _≡_ {A = ℕ} 9 3 = e in omega arith)
 
 pub record-not-written : ¬ (Finds one-record-short)
-unfolding open-diagnosis
+unfolding open-findings
 record-not-written = differs one-record-short (2 ∷ 2 ∷ []) 1 (λ e. let z : _≡_ {A = ℕ} 9 2 = e in omega arith)
 
 pub table-cleared : ¬ (Finds clears-when-refused)
-unfolding open-diagnosis
+unfolding open-findings
 table-cleared = differs clears-when-refused (3 ∷ 1 ∷ []) 0 (λ e. let z : _≡_ {A = ℕ} 0 9 = e in omega arith)

@@ -18,8 +18,8 @@ use Rattle.checker.proofs.Separation.{apart-one-fits}
 use Rattle.diagnosis.specs.Diagnosis.{OwnRows, diagnosis-answer}
 use Rattle.diagnosis.proofs.DiagnosisLaws.{passed-apart, diagnosis-by-table}
 use Rattle.jobfile.specs.Layout.{body-words, has-responses, file-responses}
-use Rattle.jobfile.specs.Reader.{JobContent, content, ReaderRows, read-answer}
-use Rattle.jobfile.proofs.ReaderLaws.{read-by-table}
+use Rattle.reader.specs.Reader.{JobContent, content, ReaderRows, read-answer}
+use Rattle.reader.proofs.ReaderLaws.{read-by-table}
 use Rattle.listing.specs.Report.{refused-line, verdict-line, net-lines, diagnosis-text, responses-text, content-text, job-text, report}
 use Rattle.demands.specs.Demand1.{FirstRow}
 use Rattle.demands.specs.Reports.{ReportProgram, Follows, nothing, a-line-a-net, not-passed, no-state, LineOne, Says, Reports}

@@ -1,6 +1,7 @@
 -- The starred cases and the bounds, by computation; and that nothing is left open.
 use mathlib.Core.Path.{_≡_, refl, subst₂}
 use mathlib.Core.List.{[], _∷_}
+use Rattle.findings.specs.Open.{open-findings}
 use Rattle.session.specs.declared.Session.{Session}
 use Rattle.session.specs.Record.{finished}
 use Rattle.session.specs.Open.{open-session}
@@ -55,7 +56,7 @@ starred = record {
 }
 
 pub boundary : Boundary
-unfolding open-session
+unfolding open-session open-findings
 boundary = record {
   nets-1 = refl;
   nets-2 = refl;

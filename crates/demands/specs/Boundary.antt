@@ -7,8 +7,8 @@ use Rattle.words.specs.Answers.{Answer, refused, full, count-of}
 use Rattle.network.specs.Respond.{response-answer}
 use Rattle.checker.specs.declared.Verdict.the-variants.{Pass, Pair}
 use Rattle.diagnosis.specs.Diagnosis.{diagnosis-answer}
-use Rattle.diagnosis.specs.declared.Finding.{Finding}
-use Rattle.diagnosis.specs.FindingsTable.{findings-answer}
+use Rattle.findings.specs.declared.Finding.{Finding}
+use Rattle.findings.specs.FindingsTable.{findings-answer}
 use Rattle.session.specs.Record.{awaiting-first, awaiting-second}
 use Rattle.session.specs.Calls.{begin-answer, first-answer, second-answer}
 use Rattle.demands.specs.Starred.{check, respond, diagnose, two}

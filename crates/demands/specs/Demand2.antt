@@ -16,7 +16,7 @@ use Rattle.network.specs.States.{State, Fits}
 use Rattle.network.specs.Rows.{SetRows, Row9, HighBit, Row12}
 use Rattle.network.specs.Respond.{ResponseRows}
 use Rattle.diagnosis.specs.Diagnosis.{Row13, DiagnosisRows}
-use Rattle.diagnosis.specs.Findings.{finding}
+use Rattle.findings.specs.Findings.{finding}
 
 -- ---- the response
 

@@ -4,8 +4,8 @@ use mathlib.Core.List.{List}
 use lib.ListN.{length}
 use Rattle.words.specs.Answers.{Filled, FillsByTable}
 use Rattle.network.specs.declared.Network.{Network}
-use Rattle.diagnosis.specs.declared.Finding.{Finding}
-use Rattle.diagnosis.specs.FindingsTable.{FindingsRows, Findings}
+use Rattle.findings.specs.declared.Finding.{Finding}
+use Rattle.findings.specs.FindingsTable.{FindingsRows, Findings}
 
 -- what it returns, and the lent table after it
 abbrev pub FindingsProgram : Type 0

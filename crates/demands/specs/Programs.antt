@@ -7,10 +7,10 @@ use Rattle.network.specs.Respond.{response-answer}
 use Rattle.checker.specs.Check.{check-answer}
 use Rattle.diagnosis.specs.ReadBack.{read-back}
 use Rattle.diagnosis.specs.Diagnosis.{diagnosis-answer}
-use Rattle.diagnosis.specs.FindingsTable.{findings-answer}
+use Rattle.findings.specs.FindingsTable.{findings-answer}
 use Rattle.steps.specs.SecondStep.{unclear}
-use Rattle.jobfile.specs.Writer.{write-answer}
-use Rattle.jobfile.specs.Reader.{read-answer, vectors-read, responses-read, counted}
+use Rattle.writer.specs.Writer.{write-answer}
+use Rattle.reader.specs.Reader.{read-answer, vectors-read, responses-read, counted}
 use Rattle.session.specs.declared.Session.{Session}
 use Rattle.session.specs.Record.{awaiting-first, finished}
 use Rattle.session.specs.Calls.{stepped, begin-answer, first-answer, answered-by, second-answer, vectors-driven, all-answers}

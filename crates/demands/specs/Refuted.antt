@@ -8,7 +8,7 @@ use Rattle.words.specs.Answers.{Answer, refused, full, lent-after, count-of}
 use Rattle.network.specs.Respond.{response-answer}
 use Rattle.diagnosis.specs.ReadBack.{read-back}
 use Rattle.diagnosis.specs.Diagnosis.{diagnosis-answer}
-use Rattle.diagnosis.specs.FindingsTable.{findings-answer}
+use Rattle.findings.specs.FindingsTable.{findings-answer}
 use Rattle.checker.specs.declared.Verdict.the-variants.{Pass, Pair}
 use Rattle.demands.specs.Demand2.{ResponseProgram, Responds, DiagnosisProgram, Diagnoses}
 use Rattle.demands.specs.FindingsCall.{FindingsProgram, Finds}
@@ -16,7 +16,7 @@ use Rattle.network.specs.declared.Network.{Network}
 use Rattle.session.specs.declared.Session.{Session}
 use Rattle.session.specs.Record.{awaiting-first, finished, held-answers}
 use Rattle.session.specs.Calls.{stepped, vectors-driven}
-use Rattle.jobfile.specs.Reader.{read-answer, vectors-read, responses-read, counted}
+use Rattle.reader.specs.Reader.{read-answer, vectors-read, responses-read, counted}
 use Rattle.demands.specs.JobFiles.{ReaderProgram}
 use Rattle.demands.specs.SessionCalls.{begin, first, second, lent, SessionProgram}
 use Rattle.demands.specs.Demand3.{CheckProgram, Checks, Sessions}

@@ -10,7 +10,7 @@ use Rattle.network.specs.States.{Fits}
 use Rattle.checker.specs.declared.Verdict.{Verdict}
 use Rattle.checker.specs.Rule.{Rule}
 use Rattle.diagnosis.specs.Diagnosis.{Row13, Row14}
-use Rattle.jobfile.specs.Reader.{JobContent, content, ReaderRows}
+use Rattle.reader.specs.Reader.{JobContent, content, ReaderRows}
 use Rattle.listing.specs.Report.{refused-line, verdict-line, net-lines}
 use Rattle.demands.specs.Demand1.{FirstRow}
 

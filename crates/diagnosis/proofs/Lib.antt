@@ -2,5 +2,3 @@ pub mod ReadingBack
 pub mod DiagnosisLaws
 pub mod Gathering
 pub mod Noting
-pub mod Partners
-pub mod FindingsLaws

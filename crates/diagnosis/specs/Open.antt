@@ -3,9 +3,7 @@ use Prim.Native.Nat.{ℕ}
 use Rattle.checker.specs.Open.{open-checker}
 use Rattle.diagnosis.specs.ReadBack.{reach-read, read-back, no-state-fits}
 use Rattle.diagnosis.specs.Diagnosis.{fit-answer, diagnosis-answer}
-use Rattle.diagnosis.specs.Findings.{is-open, is-partner, partners, kind, finding}
-use Rattle.diagnosis.specs.FindingsTable.{findings, findings-answer, table-meaning}
 
 unfoldable pub open-diagnosis : ℕ
-unfolding open-checker reach-read read-back no-state-fits fit-answer diagnosis-answer is-open is-partner partners kind finding findings findings-answer table-meaning
+unfolding open-checker reach-read read-back no-state-fits fit-answer diagnosis-answer
 open-diagnosis = 0

@@ -1,4 +1,4 @@
-// Reading back: the wiring state that gave a response, and what is found on each net.
+// Reading back: the wiring state that gave a response.
 ghost use mathlib.Core.Path.{_≡_};
 ghost use Prim.Native.Nat.{ℕ, _<_, _≤_};
 ghost use lib.ListN.{length};
@@ -10,26 +10,12 @@ ghost use Rattle.diagnosis.specs.ReadBack.{OnlyAnswer, Passed};
 ghost use Rattle.diagnosis.specs.Diagnosis.{«fit-answer», «diagnosis-answer», meaning};
 
 mod classes;
-pub mod findings;
 pub mod fit;
 pub mod walking;
 
 use checker::Verdict;
 use network::Admission;
 use network::Network;
-
-// What is found on one net: kind 0 sound, 1 open, 2 short, 3 both.
-pub struct Finding {
-    pub kind: u64,
-    pub reach: u64,
-    pub partners: u64,
-}
-
-// What the call *findings* answers: 0 if it is accepted, or the refusal's number; and the table after it.
-pub struct Tabled {
-    pub code: u64,
-    pub table: [Finding; 48],
-}
 
 // What the call *diagnosis* answers: how many words it wrote, or the refusal.
 pub enum Diagnosed {

@@ -9,11 +9,12 @@ use Rattle.words.proofs.Answers.{counted-full}
 use Rattle.session.specs.declared.Session.{Session}
 use Rattle.session.specs.declared.Stepped.{Stepped}
 use Rattle.session.specs.Calls.{stepped}
-use Rattle.jobfile.specs.declared.Job.{Job}
-use Rattle.jobfile.specs.Reader.{JobContent, counted}
-use Rattle.jobfile.proofs.ReaderAnswers.{read-counted-full}
-use Rattle.exports.specs.Exported.{code, in-words, wrong-length, of-length, size-words, job-words, session-size, session-words, session-of}
-use Rattle.exports.proofs.Words.{all-written, session-there}
+use Rattle.reader.specs.declared.Job.{Job}
+use Rattle.reader.specs.Reader.{JobContent, counted}
+use Rattle.reader.proofs.ReaderAnswers.{read-counted-full}
+use Rattle.packing.specs.Packed.{size-words, job-words, session-size, session-words, session-of}
+use Rattle.packing.proofs.Words.{all-written, session-there}
+use Rattle.exports.specs.Exported.{code, in-words, wrong-length, of-length}
 
 -- ---- lists of a fixed length
 

@@ -1,3 +1,1 @@
 pub mod CallLaws
-pub mod Words
-pub mod Tabling

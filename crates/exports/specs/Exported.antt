@@ -1,22 +1,19 @@
 -- The calls for C and Rust: a number returned, and lists of words lent.
 use Prim.Native.Nat.{ℕ, _/_}
 use mathlib.Core.Bool.{cond}
-use mathlib.Core.List.{List, [], _∷_, _++_}
+use mathlib.Core.List.{List}
 use lib.Dec.{eqb}
-use lib.ListN.{length, take, drop}
-use Rattle.words.specs.Bits.{at}
+use lib.ListN.{length}
 use Rattle.words.specs.Answers.{Answer, refused, full}
-use Rattle.network.specs.declared.Network.{Network}
 use Rattle.checker.specs.declared.Verdict.{Verdict}
-use Rattle.checker.specs.declared.Verdict.the-variants.{Pass, Pair}
 use Rattle.checker.specs.Check.{check-answer}
-use Rattle.diagnosis.specs.declared.Finding.{Finding}
-use Rattle.diagnosis.specs.FindingsTable.{findings-answer}
-use Rattle.session.specs.declared.Session.{Session}
+use Rattle.findings.specs.declared.Finding.{Finding}
+use Rattle.findings.specs.FindingsTable.{findings-answer}
 use Rattle.session.specs.Calls.{begin-answer, begun, first-answer, first-answered, second-answer, second-answered}
 use Rattle.session.specs.Drive.{to-drive}
-use Rattle.jobfile.specs.Reader.{JobContent, read-answer}
-use Rattle.jobfile.specs.Writer.{write-answer}
+use Rattle.reader.specs.Reader.{JobContent, read-answer}
+use Rattle.writer.specs.Writer.{write-answer}
+use Rattle.packing.specs.Packed.{network-of, session-size, session-words, session-of}
 
 -- ---- what a call returns, and what it writes
 
@@ -37,47 +34,6 @@ wrong-length = 99
 -- that refusal, or else the answer
 unfoldable pub of-length : {A : Type 0} → ℕ → List ℕ → Answer A → Answer A
 of-length size list answer = cond (eqb (length list) size) answer (refused wrong-length)
-
-abbrev pub network-of : ℕ → Network
-network-of nets = record { nets = nets }
-
--- ---- results as words
-
--- 0 0 0 for pass, or 1 and the pair
-unfoldable pub verdict-words : Verdict → List ℕ
-verdict-words Pass = 0 ∷ 0 ∷ 0 ∷ []
-verdict-words (Pair a b) = 1 ∷ a ∷ b ∷ []
-
--- kind, reach and partners of each net
-unfoldable pub finding-words : List Finding → List ℕ
-finding-words [] = []
-finding-words (found ∷ table) = found .kind ∷ found .reach ∷ found .partners ∷ finding-words table
-
--- nets, class, number of vectors, number of responses
-unfoldable pub job-words : JobContent → List ℕ
-job-words job = job .network .nets ∷ job .class ∷ length (job .vectors) ∷ length (job .responses) ∷ []
-
--- how many bytes a file has
-abbrev pub size-words : List ℕ → List ℕ
-size-words file = length file ∷ []
-
--- a session's record: step, nets, 8 words of first answers, 48 reaches, vectors spent
-abbrev pub session-size : ℕ
-session-size = 59
-
-unfoldable pub session-words : Session → List ℕ
-session-words session = session .step ∷ session .network .nets ∷ session .first ++ session .reaches ++ session .spent ∷ []
-
--- the record that 59 words are
-unfoldable pub session-of : List ℕ → Session
-session-of words =
-    record {
-      step = at words 0;
-      network = network-of (at words 1);
-      first = take 8 (drop 2 words);
-      reaches = take 48 (drop 10 words);
-      spent = at words 58;
-    }
 
 -- ---- the answers
 -- A room is the length of a list that is lent to be filled; `verdict`, `session`, `job` and `size` are lent lists of a fixed length.

@@ -5,19 +5,15 @@ ghost use lib.ListN.{length};
 ghost use Rattle.words.specs.Answers.{«lent-after»};
 ghost use Rattle.network.specs.Respond.{«response-answer»};
 ghost use Rattle.diagnosis.specs.Diagnosis.{«diagnosis-answer»};
-ghost use Rattle.jobfile.specs.Reader.{«vectors-read», «responses-read»};
-ghost use Rattle.exports.specs.Exported.{code, «in-words», «network-of», «verdict-words», «finding-words», «job-words», «size-words», «check-exported», «findings-exported», «begin-exported», «first-exported», «second-exported», «read-exported», «write-exported», «session-begun», «session-first», «session-second», «drive-count»};
-
-mod lists;
-mod record;
-mod table;
-
+ghost use Rattle.reader.specs.Reader.{«vectors-read», «responses-read»};
+ghost use Rattle.packing.specs.Packed.{«network-of», «verdict-words», «finding-words», «job-words», «size-words»};
+ghost use Rattle.exports.specs.Exported.{code, «in-words», «check-exported», «findings-exported», «begin-exported», «first-exported», «second-exported», «read-exported», «write-exported», «session-begun», «session-first», «session-second», «drive-count»};
 use checker::Checked;
 use diagnosis::Diagnosed;
-use jobfile::ReadJob;
-use jobfile::Wrote;
 use network::Network;
 use network::Responded;
+use reader::ReadJob;
+use writer::Wrote;
 
 // The refusal of a list of a fixed length that has another. It comes before every row of the table.
 const WRONG_LENGTH: u64 = 99;
@@ -40,8 +36,8 @@ pub extern "C" fn fontarelga_check(
         return WRONG_LENGTH;
     }
     match checker::check(Network { nets: nets }, class, vectors) {
-        Checked::Pass => lists::put_three(0, 0, 0, verdict),
-        Checked::Pair(a, b) => lists::put_three(1, a, b, verdict),
+        Checked::Pass => packing::lists::put_three(0, 0, 0, verdict),
+        Checked::Pair(a, b) => packing::lists::put_three(1, a, b, verdict),
         Checked::Refused(number) => number,
     }
 }
@@ -89,11 +85,11 @@ pub extern "C" fn fontarelga_findings(nets: u64, state: &[u64], table: &mut [u64
     ensures table { λ r. ⌜ now (table .exit) ≡ lent-after (in-words finding-words (findings-exported nets (now (state .entry)) (length (now (table .entry))))) (now (table .entry)) ⌝ }
 {
     let net = Network { nets: nets };
-    let code = diagnosis::findings::table_refusal(net, state, table.len() / 3);
+    let code = findings::table_refusal(net, state, table.len() / 3);
     if code != 0 {
         return code;
     }
-    table::put_findings(net, state, table);
+    packing::table::put_findings(net, state, table);
     0
 }
 
@@ -107,9 +103,9 @@ pub extern "C" fn fontarelga_begin(session: &mut [u64], nets: u64, first: &mut [
     if session.len() != SESSION_WORDS {
         return WRONG_LENGTH;
     }
-    let held = record::session_of(session);
+    let held = packing::record::session_of(session);
     let done = session::begin_step(held, Network { nets: nets }, first);
-    record::put_session(done.session, session);
+    packing::record::put_session(done.session, session);
     done.code
 }
 
@@ -127,9 +123,9 @@ pub extern "C" fn fontarelga_first_answers(
     if session.len() != SESSION_WORDS {
         return WRONG_LENGTH;
     }
-    let held = record::session_of(session);
+    let held = packing::record::session_of(session);
     let done = session::first_step(held, answers, second);
-    record::put_session(done.session, session);
+    packing::record::put_session(done.session, session);
     done.code
 }
 
@@ -142,9 +138,9 @@ pub extern "C" fn fontarelga_second_answers(session: &mut [u64], answers: &[u64]
     if session.len() != SESSION_WORDS {
         return WRONG_LENGTH;
     }
-    let held = record::session_of(session);
+    let held = packing::record::session_of(session);
     let done = session::second_step(held, answers);
-    record::put_session(done.session, session);
+    packing::record::put_session(done.session, session);
     done.code
 }
 
@@ -160,7 +156,7 @@ pub extern "C" fn fontarelga_to_drive<'a>(
     if session.len() != SESSION_WORDS {
         return 0;
     }
-    let held = record::session_of(session);
+    let held = packing::record::session_of(session);
     let driven = session::drive::to_drive(held, first, second);
     driven.len() as u64
 }
@@ -181,8 +177,8 @@ pub extern "C" fn fontarelga_read_job(
     if job.len() != 4 {
         return WRONG_LENGTH;
     }
-    match jobfile::read_job(file, vectors, responses) {
-        ReadJob::Content(content) => lists::put_job(content, job),
+    match reader::read_job(file, vectors, responses) {
+        ReadJob::Content(content) => packing::lists::put_job(content, job),
         ReadJob::Refused(number) => number,
     }
 }
@@ -204,8 +200,8 @@ pub extern "C" fn fontarelga_write_job(
     if size.len() != 1 {
         return WRONG_LENGTH;
     }
-    match jobfile::write_job(Network { nets: nets }, class, vectors, responses, file) {
-        Wrote::Bytes(count) => lists::put_one(count, size),
+    match writer::write_job(Network { nets: nets }, class, vectors, responses, file) {
+        Wrote::Bytes(count) => packing::lists::put_one(count, size),
         Wrote::Refused(number) => number,
     }
 }

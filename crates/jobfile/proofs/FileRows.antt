@@ -12,9 +12,7 @@ use Rattle.words.specs.Answers.{Decides}
 use Rattle.words.specs.Searching.{any}
 use Rattle.words.proofs.Tests.{cases, contrary, and-left, and-right, and-both, and-false, neither, decides-less, decides-equal, decides-not, decides-or, decides-and, test-passes, test-fails}
 use Rattle.words.proofs.Searching.{any-none, any-false, decides-any}
-use Rattle.network.specs.Rows.{Row12, no-room}
-use Rattle.network.proofs.Rows.{decides-row-12}
-use Rattle.jobfile.specs.Layout.{mark, most-bytes, entry-count, bodies-at, entry-kind, body-offset, body-length, Row1, Layout, Row2, Row3, same-bytes, bad-mark, bad-entry, bad-layout, bad-bodies, has-responses}
+use Rattle.jobfile.specs.Layout.{mark, most-bytes, entry-count, bodies-at, entry-kind, body-offset, body-length, Row1, Layout, Row2, Row3, same-bytes, bad-mark, bad-entry, bad-layout, bad-bodies}
 
 -- ---- row 1
 
@@ -175,12 +173,3 @@ decides-row-3 file =
     (λ i. decides-and (decides-less 0 i) (decides-not (decides-equal (body-length file i % 8) 0))) in
     decides-or (decides-not (decides-equal (body-length file 0) 2))
     (λ e. let w = d .0 e in (w .0, w .2 .0, w .1, w .2 .1), λ e w. d .1 e (w .0, w .2, (w .1, w .3)))
-
--- ---- rows 9, 10 and 12 of the reader
-
-pub decides-given-row : (file : List ℕ) {b : Bool} {B : Type 0} → Decides b B → Decides (has-responses file && b) ((has-responses file ≡ true) × B)
-decides-given-row file d = decides-and (λ e. e, λ e h. contrary h e) d
-
-pub decides-either-room : (first-size first second-size second : ℕ)
-    → Decides (no-room first-size first || no-room second-size second) (Row12 first-size first ⊎ Row12 second-size second)
-decides-either-room first-size first second-size second = decides-or (decides-row-12 first-size first) (decides-row-12 second-size second)

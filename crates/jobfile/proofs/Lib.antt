@@ -1,11 +1,3 @@
 pub mod ByteLaws
 pub mod FileRows
-pub mod ReadLoops
 pub mod Bodies
-pub mod ReaderAnswers
-pub mod ReaderLaws
-pub mod WriterLaws
-pub mod ReadBytes
-pub mod MadeFile
-pub mod StandingFile
-pub mod Exactness

@@ -1,5 +1,3 @@
 pub mod Bytes
 pub mod Layout
-pub mod Writer
-pub mod Reader
 pub mod Open

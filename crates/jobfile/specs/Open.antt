@@ -3,9 +3,7 @@ use Prim.Native.Nat.{ℕ}
 use Rattle.network.specs.Open.{open-network}
 use Rattle.jobfile.specs.Bytes.{number-of, bytes-of, word-bytes, number-at}
 use Rattle.jobfile.specs.Layout.{entry-kind, body-offset, body-length, same-bytes, bad-entry, bad-layout, bad-bodies, file-network, file-class, body-words, file-responses}
-use Rattle.jobfile.specs.Writer.{file-of, write-answer}
-use Rattle.jobfile.specs.Reader.{content, read-answer}
 
 unfoldable pub open-jobfile : ℕ
-unfolding open-network number-of bytes-of word-bytes number-at entry-kind body-offset body-length same-bytes bad-entry bad-layout bad-bodies file-network file-class body-words file-responses file-of write-answer content read-answer
+unfolding open-network number-of bytes-of word-bytes number-at entry-kind body-offset body-length same-bytes bad-entry bad-layout bad-bodies file-network file-class body-words file-responses
 open-jobfile = 0

@@ -1,122 +1,48 @@
-// Job files: the reader and the writer.
+// The mark of a job file, compared for the reader and written for the writer; specs/Layout.antt has the whole layout. `put_mark` is a helper
+// that asks for room.
 ghost use mathlib.Core.Path.{_≡_};
-ghost use mathlib.Core.Bool.{false};
+ghost use Prim.Native.Nat.{_≤_};
 ghost use lib.ListN.{length};
-ghost use Rattle.words.specs.Answers.{«count-of», «lent-after»};
-ghost use Rattle.jobfile.specs.Layout.{«bad-mark», «bad-layout», «bad-bodies»};
-ghost use Rattle.jobfile.specs.Writer.{«write-answer», meaning};
-ghost use Rattle.jobfile.specs.Reader.{«read-meaning», counted, «read-answer», «vectors-read», «responses-read»};
-
-mod reading;
-mod writing;
-
-use network::Admission;
-use network::Network;
+ghost use Rattle.words.specs.Writing.{written};
+ghost use Rattle.jobfile.specs.Layout.{mark, «same-bytes», «bad-mark»};
 
 // The first bytes of every job file.
 pub const MARK: [u8; 4] = *b"BSJ1";
 
-// What the reader answers besides the words: the network, the class, and how many vectors and responses were read.
-pub struct Job {
-    pub network: Network,
-    pub class: u64,
-    pub vectors: usize,
-    pub responses: usize,
-}
-
-// What the call *read a job file* answers.
-pub enum ReadJob {
-    Content(Job),
-    Refused(u64),
-}
-
-// What the call *write a job file* answers: how many bytes it wrote, or the refusal.
-pub enum Wrote {
-    Bytes(u64),
-    Refused(u64),
-}
-
-// Rows 5 to 10 and 12, or the content into the fronts of the lists. Rows 1, 2 and 3 do not hold.
-fn read_content(file: &[u8], vectors: &mut [u64], responses: &mut [u64]) -> ReadJob
-    requires { ⌜ (bad-mark (now file) ≡ false) × (bad-layout (now file) ≡ false) × (bad-bodies (now file) ≡ false) ⌝ }
-    ensures answer { λ r. ⌜ read-meaning r ≡ counted (read-answer (now (file .entry)) (length (now (vectors .entry))) (length (now (responses .entry)))) ⌝ }
-    ensures first { λ r. ⌜ now (vectors .exit) ≡ lent-after (vectors-read (read-answer (now (file .entry)) (length (now (vectors .entry))) (length (now (responses .entry))))) (now (vectors .entry)) ⌝ }
-    ensures second { λ r. ⌜ now (responses .exit) ≡ lent-after (responses-read (read-answer (now (file .entry)) (length (now (vectors .entry))) (length (now (responses .entry))))) (now (responses .entry)) ⌝ }
+// Whether two lists of bytes are the same.
+fn same_bytes(left: &[u8], right: &[u8]) -> bool
+    ensures { λ r. ⌜ r ≡ same-bytes (now (left .entry)) (now (right .entry)) ⌝ }
 {
-    let network = reading::file_network(file);
-    let class = reading::file_class(file);
-    let given = reading::has_responses(file);
-    let sent = reading::body_words(file, 1);
-    let sent_count = reading::word_count(file, 1);
-    let came = reading::response_words(file);
-    let came_count = reading::response_count(file);
-    let admission = reading::admit_job(
-        network,
-        class,
-        &sent[..sent_count],
-        &came[..came_count],
-        given,
-    );
-    if let Admission::Refused(number) = admission {
-        return ReadJob::Refused(number);
+    if left.len() != right.len() {
+        return false;
     }
-    if reading::no_room(sent_count, vectors.len(), came_count, responses.len()) {
-        return ReadJob::Refused(12);
+    let mut i: usize = 0;
+    while i < left.len() {
+        if left[i] != right[i] {
+            return false;
+        }
+        i += 1;
     }
-    words::lists::copy_words(&sent[..sent_count], vectors);
-    words::lists::copy_words(&came[..came_count], responses);
-    ReadJob::Content(Job {
-        network,
-        class,
-        vectors: sent_count,
-        responses: came_count,
-    })
+    true
 }
 
-// The call *read a job file*: the vectors into the front of `vectors`, the responses into the front of `responses`. Rows 1, 2, 3, 5 to 10, 12.
-pub fn read_job(file: &[u8], vectors: &mut [u64], responses: &mut [u64]) -> ReadJob
-    ensures answer { λ r. ⌜ read-meaning r ≡ counted (read-answer (now (file .entry)) (length (now (vectors .entry))) (length (now (responses .entry)))) ⌝ }
-    ensures first { λ r. ⌜ now (vectors .exit) ≡ lent-after (vectors-read (read-answer (now (file .entry)) (length (now (vectors .entry))) (length (now (responses .entry))))) (now (vectors .entry)) ⌝ }
-    ensures second { λ r. ⌜ now (responses .exit) ≡ lent-after (responses-read (read-answer (now (file .entry)) (length (now (vectors .entry))) (length (now (responses .entry))))) (now (responses .entry)) ⌝ }
+// Row 1: first 4 bytes missing or different.
+pub fn bad_mark(file: &[u8]) -> bool
+    ensures { λ r. ⌜ r ≡ bad-mark (now (file .entry)) ⌝ }
 {
-    if reading::bad_mark(file) {
-        return ReadJob::Refused(1);
+    if file.len() < 4 {
+        return true;
     }
-    if reading::bad_layout(file) {
-        return ReadJob::Refused(2);
-    }
-    if reading::bad_bodies(file) {
-        return ReadJob::Refused(3);
-    }
-    read_content(file, vectors, responses)
+    !same_bytes(&file[..4], &MARK)
 }
 
-// The call *write a job file*: its bytes into the front of `file`. Rows 5 to 10 and 12; 9 and 10 only if there are responses.
-pub fn write_job(
-    net: Network,
-    class: u64,
-    vectors: &[u64],
-    responses: &[u64],
-    file: &mut [u8],
-) -> Wrote
-    ensures answer { λ r. ⌜ meaning r ≡ count-of (write-answer net class (now (vectors .entry)) (now (responses .entry)) (length (now (file .entry)))) ⌝ }
-    ensures list { λ r. ⌜ now (file .exit) ≡ lent-after (write-answer net class (now (vectors .entry)) (now (responses .entry)) (length (now (file .entry)))) (now (file .entry)) ⌝ }
+// The mark into a file.
+pub fn put_mark(file: &mut [u8])
+    requires { ⌜ 4 ≤ length (now file) ⌝ }
+    ensures { λ r. ⌜ now (file .exit) ≡ written (now (file .entry)) 0 mark ⌝ }
 {
-    let admission = network::refusals::admit_set(net, class, vectors);
-    if let Admission::Refused(number) = admission {
-        return Wrote::Refused(number);
-    }
-    let given = 0 < responses.len();
-    if given & network::refusals::bad_response_count(vectors.len(), responses.len()) {
-        return Wrote::Refused(9);
-    }
-    if given & network::refusals::has_high_bit(net, responses) {
-        return Wrote::Refused(10);
-    }
-    let size = writing::file_size(vectors, responses);
-    if network::refusals::no_room(size, file.len()) {
-        return Wrote::Refused(12);
-    }
-    writing::put_file(file, net, class, vectors, responses);
-    Wrote::Bytes(size as u64)
+    file[0] = MARK[0];
+    file[1] = MARK[1];
+    file[2] = MARK[2];
+    file[3] = MARK[3];
 }

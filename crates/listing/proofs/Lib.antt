@@ -1,4 +1,2 @@
-pub mod Numerals
-pub mod NumbersPut
 pub mod NetsPut
 pub mod Reporting

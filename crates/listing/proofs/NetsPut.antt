@@ -7,11 +7,11 @@ use lib.ListN.{length, length-append}
 use Rattle.words.specs.Writing.{written}
 use Rattle.words.proofs.Writing.{written-none, written-length, written-more}
 use Rattle.network.specs.declared.Network.{Network}
-use Rattle.diagnosis.specs.declared.Finding.{Finding}
-use Rattle.diagnosis.specs.Findings.{finding}
-use Rattle.listing.specs.Decimal.{decimal, spaced, numbers-end}
+use Rattle.findings.specs.declared.Finding.{Finding}
+use Rattle.findings.specs.Findings.{finding}
+use Rattle.decimal.specs.Decimal.{decimal, spaced, numbers-end}
 use Rattle.listing.specs.Report.{net-line, net-lines}
-use Rattle.listing.proofs.Numerals.{decimal-most}
+use Rattle.decimal.proofs.Numerals.{decimal-most}
 
 -- a net's line has at most 84 bytes
 line-most : (i : ℕ) (found : Finding) → length (net-line i found) ≤ 84

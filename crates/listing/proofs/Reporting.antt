@@ -17,15 +17,15 @@ use Rattle.diagnosis.specs.declared.Diagnosed.{Diagnosed}
 use Rattle.diagnosis.specs.declared.Diagnosed.the-variants.{Wrote, Refused}
 use Rattle.diagnosis.specs.Diagnosis.{DiagnosisRows, diagnosis-answer, meaning}
 use Rattle.diagnosis.proofs.DiagnosisLaws.{diagnosis-by-table}
-use Rattle.jobfile.specs.declared.Job.{Job}
-use Rattle.jobfile.specs.declared.ReadJob.{ReadJob}
-use Rattle.jobfile.specs.declared.ReadJob.the-variants.{Content, Refused as Stopped}
-use Rattle.jobfile.specs.Reader.{JobContent, content, ReaderRows, read-answer, vectors-read, responses-read, counted, read-meaning}
-use Rattle.jobfile.proofs.ReaderLaws.{read-by-table}
-use Rattle.jobfile.proofs.ReaderAnswers.{read-counted-refused, read-counted-full}
-use Rattle.listing.specs.Decimal.{spaced, numbers-end}
+use Rattle.reader.specs.declared.Job.{Job}
+use Rattle.reader.specs.declared.ReadJob.{ReadJob}
+use Rattle.reader.specs.declared.ReadJob.the-variants.{Content, Refused as Stopped}
+use Rattle.reader.specs.Reader.{JobContent, content, ReaderRows, read-answer, vectors-read, responses-read, counted, read-meaning}
+use Rattle.reader.proofs.ReaderLaws.{read-by-table}
+use Rattle.reader.proofs.ReaderAnswers.{read-counted-refused, read-counted-full}
+use Rattle.decimal.specs.Decimal.{spaced, numbers-end}
 use Rattle.listing.specs.Report.{refused-line, verdict-line, diagnosis-text, responses-text, content-text, job-text, report}
-use Rattle.listing.proofs.Numerals.{decimal-most}
+use Rattle.decimal.proofs.Numerals.{decimal-most}
 
 -- ---- the diagnosis
 

@@ -7,11 +7,11 @@ use Rattle.network.specs.declared.Network.{Network}
 use Rattle.checker.specs.declared.Verdict.{Verdict}
 use Rattle.checker.specs.declared.Verdict.the-variants.{Pass, Pair}
 use Rattle.checker.specs.Rule.{verdict}
-use Rattle.diagnosis.specs.declared.Finding.{Finding}
+use Rattle.findings.specs.declared.Finding.{Finding}
 use Rattle.diagnosis.specs.Diagnosis.{diagnosis-answer}
-use Rattle.diagnosis.specs.Findings.{finding}
-use Rattle.jobfile.specs.Reader.{JobContent, read-answer}
-use Rattle.listing.specs.Decimal.{decimal, numbers-end}
+use Rattle.findings.specs.Findings.{finding}
+use Rattle.reader.specs.Reader.{JobContent, read-answer}
+use Rattle.decimal.specs.Decimal.{decimal, numbers-end}
 
 -- `refused N`
 unfoldable pub refused-line : ℕ → List ℕ

@@ -8,12 +8,11 @@ ghost use Rattle.network.specs.Rows.{SetRows};
 ghost use Rattle.diagnosis.specs.Diagnosis.{«diagnosis-answer»};
 ghost use Rattle.listing.specs.Report.{«diagnosis-text», «content-text», report};
 
-mod decimal;
 mod lines;
 
 use diagnosis::Diagnosed;
-use jobfile::ReadJob;
 use network::Network;
+use reader::ReadJob;
 
 // A text: its bytes from the first on, this many. 4,142 bytes hold the longest report: 110 for line one, and 84 for each of 48 nets.
 pub struct Text {
@@ -69,7 +68,7 @@ pub fn report(file: &[u8]) -> Text
     let mut vectors = [0u64; 64];
     let mut responses = [0u64; 64];
     let mut bytes = [0u8; 4142];
-    let read = jobfile::read_job(file, &mut vectors, &mut responses);
+    let read = reader::read_job(file, &mut vectors, &mut responses);
     match read {
         ReadJob::Refused(number) => {
             let count = lines::put_refused(&mut bytes, 0, number);

@@ -5,9 +5,8 @@ ghost use lib.ListN.{length};
 ghost use Rattle.words.specs.Writing.{written};
 ghost use Rattle.network.specs.States.{State};
 ghost use Rattle.listing.specs.Report.{«refused-line», «verdict-line», «net-line», «net-lines»};
-use crate::decimal;
 use checker::Verdict;
-use diagnosis::Finding;
+use findings::Finding;
 use network::Network;
 
 // The line of a refusal; returns the index past it.
@@ -61,7 +60,7 @@ pub fn put_nets(text: &mut [u8], at: usize, net: Network, state: &[u64]) -> usiz
     let mut end = at;
     let mut i: u64 = 0;
     while i < net.nets {
-        let found = diagnosis::findings::finding_of(net, state, i);
+        let found = findings::finding_of(net, state, i);
         end = put_net(text, end, i, found);
         i += 1;
     }

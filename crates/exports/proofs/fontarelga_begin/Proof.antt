@@ -8,7 +8,7 @@ use Rattle.words.proofs.Answers.{owed-refused}
 use Rattle.session.specs.declared.Session.{Session}
 use Rattle.session.specs.declared.Stepped.{Stepped}
 use Rattle.session.specs.Calls.{stepped, begin-answer, begun}
-use Rattle.exports.specs.Exported.{network-of, session-size}
+use Rattle.packing.specs.Packed.{network-of, session-size}
 use Rattle.exports.proofs.CallLaws.{other-length, code-refused, words-refused, step-code, step-words, step-lent}
 use Rattle.exports.proofs.fontarelga_begin.Statement.{statement}
 use Rattle.exports.proofs.fontarelga_begin.Tie as tie

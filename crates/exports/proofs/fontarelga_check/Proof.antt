@@ -4,7 +4,8 @@ use Rattle.words.specs.Answers.{refused, full}
 use Rattle.checker.specs.declared.Verdict.{Verdict}
 use Rattle.checker.specs.declared.Verdict.the-variants.{Pass, Pair}
 use Rattle.checker.specs.Check.{check-answer, meaning}
-use Rattle.exports.specs.Exported.{verdict-words, check-exported, network-of}
+use Rattle.packing.specs.Packed.{verdict-words, network-of}
+use Rattle.exports.specs.Exported.{check-exported}
 use Rattle.exports.proofs.CallLaws.{other-length, right-length, code-refused, words-refused, code-full, words-full}
 use Rattle.exports.proofs.fontarelga_check.Statement.{statement}
 use Rattle.exports.proofs.fontarelga_check.Tie as tie

@@ -2,7 +2,8 @@ use borrow.Author.Needs.{needs}
 use mathlib.Core.Path.{sym, ap, _∙_}
 use lib.ListN.{length}
 use Rattle.diagnosis.specs.Diagnosis.{diagnosis-answer, meaning}
-use Rattle.exports.specs.Exported.{code, network-of}
+use Rattle.packing.specs.Packed.{network-of}
+use Rattle.exports.specs.Exported.{code}
 use Rattle.exports.proofs.CallLaws.{code-counted}
 use Rattle.exports.proofs.fontarelga_diagnose.Statement.{statement}
 use Rattle.exports.proofs.fontarelga_diagnose.Tie as tie

@@ -8,7 +8,7 @@ use Rattle.words.proofs.Answers.{owed-refused}
 use Rattle.session.specs.declared.Session.{Session}
 use Rattle.session.specs.declared.Stepped.{Stepped}
 use Rattle.session.specs.Calls.{stepped, first-answer, first-answered}
-use Rattle.exports.specs.Exported.{session-size, session-of}
+use Rattle.packing.specs.Packed.{session-size, session-of}
 use Rattle.exports.proofs.CallLaws.{other-length, code-refused, words-refused, step-code, step-words, step-lent}
 use Rattle.exports.proofs.fontarelga_first_answers.Statement.{statement}
 use Rattle.exports.proofs.fontarelga_first_answers.Tie as tie

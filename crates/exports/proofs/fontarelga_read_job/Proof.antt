@@ -5,9 +5,10 @@ use mathlib.Core.List.{List}
 use lib.ListN.{length}
 use Rattle.words.specs.Answers.{Answer, refused, full, lent-after}
 use Rattle.words.proofs.Answers.{owed-refused}
-use Rattle.jobfile.specs.Reader.{read-answer, read-meaning, counted, vectors-read, responses-read}
-use Rattle.jobfile.proofs.ReaderAnswers.{read-counted-refused}
-use Rattle.exports.specs.Exported.{code, job-words}
+use Rattle.reader.specs.Reader.{read-answer, read-meaning, counted, vectors-read, responses-read}
+use Rattle.reader.proofs.ReaderAnswers.{read-counted-refused}
+use Rattle.packing.specs.Packed.{job-words}
+use Rattle.exports.specs.Exported.{code}
 use Rattle.exports.proofs.CallLaws.{other-length, right-length, code-refused, words-refused, code-read, read-words}
 use Rattle.exports.proofs.fontarelga_read_job.Statement.{statement}
 use Rattle.exports.proofs.fontarelga_read_job.Tie as tie

@@ -2,7 +2,8 @@ use borrow.Author.Needs.{needs}
 use mathlib.Core.Path.{sym, ap, _∙_}
 use lib.ListN.{length}
 use Rattle.network.specs.Respond.{response-answer, meaning}
-use Rattle.exports.specs.Exported.{code, network-of}
+use Rattle.packing.specs.Packed.{network-of}
+use Rattle.exports.specs.Exported.{code}
 use Rattle.exports.proofs.CallLaws.{code-counted}
 use Rattle.exports.proofs.fontarelga_respond.Statement.{statement}
 use Rattle.exports.proofs.fontarelga_respond.Tie as tie

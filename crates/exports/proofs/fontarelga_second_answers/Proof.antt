@@ -6,7 +6,7 @@ use Rattle.words.specs.Answers.{Answer}
 use Rattle.session.specs.declared.Session.{Session}
 use Rattle.session.specs.declared.Stepped.{Stepped}
 use Rattle.session.specs.Calls.{stepped, second-answer, second-answered}
-use Rattle.exports.specs.Exported.{session-size, session-of}
+use Rattle.packing.specs.Packed.{session-size, session-of}
 use Rattle.exports.proofs.CallLaws.{other-length, code-refused, words-refused, step-code, step-words}
 use Rattle.exports.proofs.fontarelga_second_answers.Statement.{statement}
 use Rattle.exports.proofs.fontarelga_second_answers.Tie as tie

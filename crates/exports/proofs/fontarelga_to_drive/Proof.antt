@@ -4,7 +4,8 @@ use mathlib.Core.Path.{ap, _∙_}
 use lib.ListN.{length}
 use Rattle.session.specs.declared.Session.{Session}
 use Rattle.session.specs.Drive.{to-drive}
-use Rattle.exports.specs.Exported.{session-size, drive-count}
+use Rattle.packing.specs.Packed.{session-size}
+use Rattle.exports.specs.Exported.{drive-count}
 use Rattle.exports.proofs.fontarelga_to_drive.Statement.{statement}
 use Rattle.exports.proofs.fontarelga_to_drive.Tie as tie
 

@@ -5,8 +5,9 @@ use mathlib.Core.List.{List}
 use lib.ListN.{length}
 use Rattle.words.specs.Answers.{Answer, refused, full, lent-after, count-of}
 use Rattle.words.proofs.Answers.{counted-refused, owed-refused}
-use Rattle.jobfile.specs.Writer.{write-answer, meaning}
-use Rattle.exports.specs.Exported.{code, network-of, size-words}
+use Rattle.writer.specs.Writer.{write-answer, meaning}
+use Rattle.packing.specs.Packed.{network-of, size-words}
+use Rattle.exports.specs.Exported.{code}
 use Rattle.exports.proofs.CallLaws.{other-length, right-length, code-refused, words-refused, code-counted, counted-size}
 use Rattle.exports.proofs.fontarelga_write_job.Statement.{statement}
 use Rattle.exports.proofs.fontarelga_write_job.Tie as tie

@@ -8,7 +8,7 @@ use lib.Seq.{length-take-le}
 use Rattle.words.specs.Answers.{full, lent-after}
 use Rattle.words.specs.Writing.{written}
 use Rattle.words.proofs.Writing.{written-front}
-use Rattle.jobfile.specs.declared.Job.{Job}
+use Rattle.reader.specs.declared.Job.{Job}
 use Rattle.listing.specs.Report.{refused-line, content-text, report}
 use Rattle.listing.proofs.Reporting.{ReadContent, read-refused, read-content}
 use Rattle.listing.proofs.report.Statement.{statement}

@@ -1,7 +1,7 @@
 use borrow.Author.Needs.{needs}
 use Prim.Native.Nat.{_<_}
 use native.Mathlib.Omega.{arith}
-use Rattle.diagnosis.proofs.FindingsLaws.{table-accepted}
+use Rattle.findings.proofs.FindingsLaws.{table-accepted}
 use Rattle.cases.proofs.finding.one_net.Statement.{statement}
 use Rattle.cases.proofs.finding.one_net.Tie as tie
 

@@ -1,6 +1,6 @@
 use borrow.Author.Needs.{needs}
 use Prim.Native.Nat.{_≤_}
-use Rattle.diagnosis.proofs.FindingsLaws.{table-accepted}
+use Rattle.findings.proofs.FindingsLaws.{table-accepted}
 use Rattle.cases.proofs.finding.whole_table.Statement.{statement}
 use Rattle.cases.proofs.finding.whole_table.Tie as tie
 

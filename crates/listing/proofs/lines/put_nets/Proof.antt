@@ -4,7 +4,7 @@ use mathlib.Core.Path.{ap, _∙_}
 use lib.ListN.{length}
 use borrow.Author.Needs.{needs}
 use Rattle.words.specs.Writing.{written}
-use Rattle.diagnosis.specs.declared.Finding.{Finding}
+use Rattle.findings.specs.declared.Finding.{Finding}
 use Rattle.listing.specs.Report.{net-line}
 use Rattle.listing.proofs.NetsPut.{NetsPut, nets-none, nets-one, nets-all}
 use Rattle.listing.proofs.lines.put_nets.Statement.{statement}

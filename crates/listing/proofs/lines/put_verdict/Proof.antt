@@ -7,7 +7,7 @@ use Rattle.words.specs.Writing.{written}
 use Rattle.network.specs.declared.Network.{Network}
 use Rattle.checker.specs.declared.Verdict.{Verdict}
 use Rattle.checker.specs.declared.Verdict.the-variants.{Pass, Pair}
-use Rattle.listing.specs.Decimal.{numbers-end}
+use Rattle.decimal.specs.Decimal.{numbers-end}
 use Rattle.listing.specs.Report.{verdict-line}
 use Rattle.listing.proofs.lines.put_verdict.Statement.{statement}
 use Rattle.listing.proofs.lines.put_verdict.Tie as tie

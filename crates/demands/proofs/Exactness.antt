@@ -1,0 +1,179 @@
+-- The reader accepts exactly the writer's files and returns their content.
+use mathlib.Core.Path.{_≡_, refl, sym, ap, ap₂, _∙_, subst}
+use mathlib.Core.Bool.{Bool, true, false, not, cond, _&&_, _||_, false≢true}
+use mathlib.Core.Logic.{_≢_, inl, inr, ⊎-elim}
+use mathlib.Core.List.{List, [], _∷_, _++_}
+use Prim.Native.Nat.{ℕ, _%_, _^_, _≤_, _<_}
+use native.Mathlib.Nat.{not-suc-le-zero}
+use native.Mathlib.Omega.{arith}
+use lib.Dec.{eqb}
+use lib.ListN.{length, take}
+use lib.Pow.{pow-mono}
+use borrow.Author.Tests.{eqb-true, le-ltb, not-false}
+use Rattle.words.specs.Bits.{at}
+use Rattle.words.specs.Answers.{refused, full, by-tests}
+use Rattle.words.proofs.Tests.{equal-if-not-unequal}
+use Rattle.words.proofs.Answers.{refused-not-full}
+use Rattle.network.specs.declared.Network.{Network}
+use Rattle.network.specs.Rows.{bad-vector-count, has-high-bit, bad-response-count, no-room, set-tests}
+use Rattle.network.proofs.Rows.{decides-row-5, decides-row-7, decides-high-bit, nets-admitted, vectors-admitted, no-high-bit}
+use Rattle.jobfile.specs.Bytes.{AllBytes}
+use Rattle.jobfile.specs.Layout.{mark, entry-count, body-length, same-bytes, bad-mark, bad-layout, bad-bodies, file-network, file-class, body-words, has-responses, file-responses}
+use Rattle.writer.specs.Writer.{file-of, given, writer-tests, write-answer}
+use Rattle.reader.specs.Reader.{JobContent, content, file-tests, list-tests, read-answer}
+use Rattle.writer.proofs.WriterLaws.{responses-most}
+use Rattle.jobfile.proofs.FileRows.{same-if-equal, decides-same-bytes, test→layout, layout→test, decides-row-3}
+use Rattle.demands.proofs.MadeFile.{Admitted, mark-made, layout-made, bodies-pass, content-made, given-made}
+use Rattle.demands.proofs.StandingFile.{AdmittedFile, two-entries-stand, three-entries-stand}
+
+-- ---- a full answer, and tests that all fail
+
+abbrev AllFail : List (ℕ × Bool) → Type 0
+AllFail [] = Unit {0}
+AllFail ((number, test) ∷ tests) = (test ≡ false) × AllFail tests
+
+-- a full answer is the result, and no test passed
+none-passed : {A : Type 0} (tests : List (ℕ × Bool)) (x y : A) → by-tests tests x ≡ full y → AllFail tests × (x ≡ y)
+unfolding by-tests
+none-passed [] x y e = (tt, cc)
+none-passed ((number, test) ∷ tests) x y e = go test e (none-passed tests x y)
+  where
+    go : (t : Bool) → cond t (refused number) (by-tests tests x) ≡ full y → (by-tests tests x ≡ full y → AllFail tests × (x ≡ y))
+        → ((t ≡ false) × AllFail tests) × (x ≡ y)
+    go true q later = refused-not-full refl q
+    go false q later = let r = later q in ((refl, r .0), r .1)
+
+full-answer : {A : Type 0} (tests : List (ℕ × Bool)) (x : A) → AllFail tests → by-tests tests x ≡ full x
+unfolding by-tests
+full-answer [] x h = refl
+full-answer ((number, test) ∷ tests) x (e, h) = rw e (full-answer tests x h)
+
+-- the reader's tests of a file, with this content
+abbrev reader-tests : List ℕ → JobContent → (first second : ℕ) → List (ℕ × Bool)
+reader-tests file job first second =
+    file-tests file ++ set-tests (job .network) (job .class) (job .vectors) ++ list-tests file job first second
+
+-- ---- the writer's file, read
+
+-- words that rows 8 and 10 admit fit into 8 bytes
+words-fit : (net : Network) (words : List ℕ) → net .nets ≤ 48 → has-high-bit net words ≡ false → (t : ℕ) → t < length words → at words t < 256 ^ 8
+words-fit net words most e t l =
+    let narrow = no-high-bit net words (decides-high-bit net words .1 e) t l in
+    let power : 2 ^ (net .nets) ≤ 2 ^ 48 = pow-mono {j = 48} most in
+    omega arith
+
+given-fit : (net : Network) (responses : List ℕ) → net .nets ≤ 48 → given responses && has-high-bit net responses ≡ false
+    → (t : ℕ) → t < length responses → at responses t < 256 ^ 8
+given-fit net [] most e t l = absurd (not-suc-le-zero l)
+given-fit net (word ∷ words) most e t l = words-fit net (word ∷ words) most e t l
+
+module _ (net : Network) (k : ℕ) (vectors responses : List ℕ) (room : ℕ) where
+  admitted : AllFail (writer-tests net k vectors responses room) → Admitted vectors responses
+  admitted (t5, (t6, (t7, (t8, (t9, (t10, t12)))))) =
+      let nets = nets-admitted net (decides-row-5 net .1 t5) in
+      let most = vectors-admitted vectors (decides-row-7 vectors .1 t7) in
+      let few = responses-most vectors responses t9 in record {
+        vectors-most = most;
+        responses-most = omega arith;
+        vectors-fit = words-fit net vectors (nets .1) t8;
+        responses-fit = given-fit net responses (nets .1) t10;
+      }
+
+  made-is-read : (first second : ℕ) → length vectors ≤ first → length responses ≤ second → AllFail (writer-tests net k vectors responses room)
+      → read-answer (file-of net k vectors responses) first second ≡ full (record { network = net; class = k; vectors = vectors; responses = responses })
+  unfolding read-answer
+  made-is-read first second lv lr (t5, (t6, (t7, (t8, (t9, (t10, t12)))))) =
+      let h = admitted (t5, (t6, (t7, (t8, (t9, (t10, t12)))))) in
+      let file = file-of net k vectors responses in
+      let job : JobContent = record { network = net; class = k; vectors = vectors; responses = responses } in
+      let third = given-made net k vectors responses h in
+      let u1 : bad-mark file ≡ false = ap not (same-if-equal (take 4 file) mark (mark-made net k vectors responses h)) in
+      let u2 = layout→test file (layout-made net k vectors responses h) in
+      let u3 = bodies-pass net k vectors responses h in
+      let u9 = ap (λ (b : Bool). b && bad-response-count (length vectors) (length responses)) third ∙ t9 in
+      let u10 = ap (λ (b : Bool). b && has-high-bit net responses) third ∙ t10 in
+      let u12 = ap₂ (λ (a b : Bool). a || b) (le-ltb first (length vectors) lv) (le-ltb second (length responses) lr) in
+      ap (λ (c : JobContent). by-tests (reader-tests file c first second) c) (content-made net k vectors responses h)
+      ∙ full-answer (reader-tests file job first second) job (u1, (u2, (u3, (t5, (t6, (t7, (t8, (u9, (u10, (u12, tt))))))))))
+
+-- what the writer wrote is read back
+pub written-is-read : (net : Network) (k : ℕ) (vectors responses : List ℕ) (room first second : ℕ) (file : List ℕ)
+    → write-answer net k vectors responses room ≡ full file → length vectors ≤ first → length responses ≤ second
+    → read-answer file first second ≡ full (record { network = net; class = k; vectors = vectors; responses = responses })
+unfolding write-answer
+written-is-read net k vectors responses room first second file e lv lr =
+    let p = none-passed (writer-tests net k vectors responses room) (file-of net k vectors responses) file e in
+    subst (λ (bytes : List ℕ). read-answer bytes first second ≡ full (record { network = net; class = k; vectors = vectors; responses = responses })) (p .1)
+    (made-is-read net k vectors responses room first second lv lr (p .0))
+
+-- ---- the reader's file, written
+
+admitted-file : (file : List ℕ) → AllBytes file → bad-mark file ≡ false → bad-layout file ≡ false → bad-bodies file ≡ false → AdmittedFile file
+admitted-file file small t1 t2 t3 =
+    let bodies = decides-row-3 file .1 t3 in record {
+      small = small;
+      marked = decides-same-bytes (take 4 file) mark .0 (not-false (same-bytes (take 4 file) mark) t1);
+      laid = test→layout file t2;
+      nets-body = equal-if-not-unequal (body-length file 0) 2 (λ n. bodies (inl n));
+      whole = λ i l p. equal-if-not-unequal (body-length file i % 8) 0 (λ n. bodies (inr (i, p, l, n)));
+    }
+
+-- a test behind a weaker condition
+behind-weaker : (a b c : Bool) → (a ≡ true → b ≡ true) → b && c ≡ false → a && c ≡ false
+behind-weaker true b c h e = sym (ap (λ (t : Bool). t && c) (h refl)) ∙ e
+behind-weaker false b c h e = refl
+
+given-if : (third : Bool) (words : List ℕ) → given (cond third words []) ≡ true → third ≡ true
+given-if true words e = refl
+given-if false words e = absurd (false≢true e)
+
+module _ (file : List ℕ) where
+  third-there : given (file-responses file) ≡ true → has-responses file ≡ true
+  unfolding file-responses
+  third-there e = given-if (has-responses file) (body-words file 2) e
+
+  no-third : entry-count file ≡ 2 → file-responses file ≡ []
+  unfolding file-responses
+  no-third q = ap (λ (n : ℕ). cond (eqb n 3) (body-words file 2) []) q
+
+  third-read : entry-count file ≡ 3 → file-responses file ≡ body-words file 2
+  unfolding file-responses
+  third-read q = ap (λ (n : ℕ). cond (eqb n 3) (body-words file 2) []) q
+
+  -- where rows 7 and 9 do not hold, a third body has words
+  some-responses : bad-vector-count (body-words file 1) ≡ false → has-responses file && bad-response-count (length (body-words file 1)) (length (file-responses file)) ≡ false
+      → entry-count file ≡ 3 → 0 < length (body-words file 2)
+  some-responses t7 t9 q =
+      let none : length (body-words file 1) < 1 → ⊥ = λ l. decides-row-7 (body-words file 1) .1 t7 (inl l) in
+      let test : not (eqb (length (body-words file 2)) (length (body-words file 1))) ≡ false =
+      sym (ap₂ (λ (n : ℕ) (words : List ℕ). eqb n 3 && not (eqb (length words) (length (body-words file 1)))) q (third-read q)) ∙ t9 in
+      let equal = eqb-true (length (body-words file 2)) (length (body-words file 1)) (not-false (eqb (length (body-words file 2)) (length (body-words file 1))) test) in
+      omega (arith, none)
+
+  content-stands : AdmittedFile file → (entry-count file ≡ 3 → 0 < length (body-words file 2))
+      → file-of (file-network file) (file-class file) (body-words file 1) (file-responses file) ≡ file
+  content-stands s some =
+      let put = file-of (file-network file) (file-class file) (body-words file 1) in
+      ⊎-elim (λ q. ap put (no-third q) ∙ sym (two-entries-stand file s q)) (λ q. ap put (third-read q) ∙ sym (three-entries-stand file s q (some q))) (s .laid .entries)
+
+  content-is-written : (first second room : ℕ) → AllBytes file → AllFail (reader-tests file (content file) first second) → length file ≤ room
+      → write-answer (content file .network) (content file .class) (content file .vectors) (content file .responses) room ≡ full file
+  unfolding write-answer content
+  content-is-written first second room small (t1, (t2, (t3, (t5, (t6, (t7, (t8, (t9, (t10, t12))))))))) l =
+      let responses = file-responses file in
+      let whole = content-stands (admitted-file file small t1 t2 t3) (some-responses t7 t9) in
+      let made = file-of (file-network file) (file-class file) (body-words file 1) responses in
+      let u9 = behind-weaker (given responses) (has-responses file) (bad-response-count (length (body-words file 1)) (length responses)) third-there t9 in
+      let u10 = behind-weaker (given responses) (has-responses file) (has-high-bit (file-network file) responses) third-there t10 in
+      let u12 : no-room (length made) room ≡ false = le-ltb room (length made) (rw whole l) in
+      full-answer (writer-tests (file-network file) (file-class file) (body-words file 1) responses room) made (t5, (t6, (t7, (t8, (u9, (u10, (u12, tt)))))))
+      ∙ ap full whole
+
+-- what the reader accepts is what the writer writes of its content
+pub read-is-written : (file : List ℕ) (first second room : ℕ) (job : JobContent) → AllBytes file → read-answer file first second ≡ full job → length file ≤ room
+    → write-answer (job .network) (job .class) (job .vectors) (job .responses) room ≡ full file
+unfolding read-answer
+read-is-written file first second room job small e l =
+    let p = none-passed (reader-tests file (content file) first second) (content file) job e in
+    subst (λ (c : JobContent). write-answer (c .network) (c .class) (c .vectors) (c .responses) room ≡ full file) (p .1)
+    (content-is-written file first second room small (p .0) l)

@@ -1,0 +1,124 @@
+-- The call *findings* answers as its rows and its result say, and nothing is left open. And the table as a loop fills it.
+use mathlib.Core.Path.{_≡_, refl, sym, ap, _∙_, subst}
+use mathlib.Core.List.{List, [], _++_, map}
+use Prim.Native.Nat.{ℕ, zero, suc, _+_, _-_, _≤_, _<_}
+use native.Mathlib.Omega.{arith}
+use lib.ListN.{length, take, drop, set, length-map, length-append, length-drop}
+use lib.Seq.{ext-getD, length-take-le}
+use Rattle.words.specs.Answers.{Answer, refused, full, ByTable, NoneHolds, Decided, lent-after, count-of}
+use Rattle.words.specs.Bits.{at}
+use Rattle.words.specs.Turning.{tabulate}
+use Rattle.words.proofs.Answers.{tests-by-table, table-determined, table-skip, let-through, counted-refused, counted-full}
+use Rattle.words.proofs.Tests.{test-fails}
+use Rattle.words.proofs.Making.{map-at, map-fill, map-filled}
+use Rattle.words.proofs.Columns.{length-tabulate, tabulate-at}
+use Rattle.network.specs.declared.Network.{Network}
+use Rattle.network.specs.States.{State}
+use Rattle.network.proofs.States.{test→state, decides-not-a-state}
+use Rattle.network.proofs.Rows.{decides-row-5, decides-row-12, nets-admitted}
+use Rattle.findings.specs.declared.Finding.{Finding}
+use Rattle.findings.specs.Findings.{finding}
+use Rattle.findings.specs.FindingsTable.{FindingsRows, Findings, findings-tests, findings, findings-answer, table-meaning}
+
+-- ---- the answer
+
+module _ (net : Network) (state : List ℕ) where
+  pub findings-size : length (findings net state) ≡ length state
+  unfolding findings
+  findings-size = length-map (tabulate (length state) _) (finding net state) ∙ length-tabulate (length state) _
+
+  pub findings-is : Findings net state (findings net state)
+  unfolding findings
+  findings-is = record {
+    one-a-net = findings-size;
+    found = λ i l other.
+        map-at (finding net state) other (tabulate (length state) (λ j. j)) i (rw (length-tabulate (length state) (λ j. j)) l)
+        ∙ ap (finding net state) (tabulate-at (length state) (λ j. j) i l);
+  }
+
+  tables-equal : (s t : List Finding) → Findings net state s → Findings net state t → s ≡ t
+  tables-equal s t p q =
+      ext-getD (record { kind = 0; reach = 0; partners = 0 }) s t (p .one-a-net ∙ sym (q .one-a-net))
+      (λ i l. let m : i < length state = rw (p .one-a-net) at l in p .found i m _ ∙ sym (q .found i m _))
+
+module _ (net : Network) (state : List ℕ) (room : ℕ) where
+  decides-rows : Decided (FindingsRows net state room) (findings-tests net state room)
+  decides-rows =
+      (refl, decides-row-5 net, λ _. (refl, decides-not-a-state net (net .nets) state, λ _. (refl, decides-row-12 (net .nets) room, λ _. tt)))
+
+  pub findings-by-table : ByTable (FindingsRows net state room) (Findings net state) (findings-answer net state room)
+  unfolding findings-answer
+  findings-by-table =
+      tests-by-table (Findings net state) (FindingsRows net state room) (findings-tests net state room) (findings net state) decides-rows (λ _. findings-is net state)
+
+  pub findings-determined : (a b : Answer (List Finding)) → ByTable (FindingsRows net state room) (Findings net state) a
+      → ByTable (FindingsRows net state room) (Findings net state) b → a ≡ b
+  findings-determined a b = table-determined (Findings net state) (FindingsRows net state room) a b (λ _. tables-equal net state)
+
+-- ---- what the number returned tells
+
+-- what an accepted call is given, and its answer
+pub record Accepted (net : Network) (state : List ℕ) (room : ℕ) : Type 0 where
+  pub few : net .nets ≤ 48
+  pub is-state : State net (net .nets) state
+  pub fits : length state ≤ room
+  pub answer : findings-answer net state room ≡ full (findings net state)
+
+module _ (net : Network) (state : List ℕ) (room : ℕ) where
+  through : findings-answer net state room ≡ full (findings net state) → NoneHolds (FindingsRows net state room) → Accepted net state room
+  through answer (five, (eleven, (twelve, _))) =
+      let is-state : State net (net .nets) state =
+      test→state net (net .nets) state (test-fails (decides-not-a-state net (net .nets) state) eleven) in
+      let size = is-state .size in
+      record { few = nets-admitted net five .1; is-state = is-state; fits = omega (arith, twelve, size); answer = answer }
+
+  accepted-0 : table-meaning net 0 ≡ count-of (findings-answer net state room) → Accepted net state room
+  unfolding table-meaning findings-answer
+  accepted-0 said =
+      let counted = counted-full (findings-answer net state room) (net .nets) (sym said) in
+      let none = let-through (FindingsRows net state room) (findings-tests net state room) (findings net state) (counted .0) (decides-rows net state room) (counted .1) in
+      let result = table-skip (Findings net state) (FindingsRows net state room) [] (findings-answer net state room) none (findings-by-table net state room) in
+      through (result .1 ∙ ap full (tables-equal net state (result .0) (findings net state) (result .2) (findings-is net state))) none
+
+  -- 0: accepted
+  pub table-accepted : (number : ℕ) → number ≡ 0 → table-meaning net number ≡ count-of (findings-answer net state room) → Accepted net state room
+  table-accepted number z said = accepted-0 (subst (λ (n : ℕ). table-meaning net n ≡ count-of (findings-answer net state room)) z said)
+
+  -- any other number: the refusal
+  pub table-refused : (number : ℕ) → ¬ (number ≡ 0) → table-meaning net number ≡ count-of (findings-answer net state room) → findings-answer net state room ≡ refused number
+  unfolding table-meaning
+  table-refused zero n said = absurd (n refl)
+  table-refused (suc k) n said = counted-refused (findings-answer net state room) (suc k) (sym said)
+
+-- ---- the table as a loop fills it
+
+-- the first i records are in place, and the rest is as it was
+unfoldable pub filled : Network → (state : List ℕ) → ℕ → List Finding → List Finding
+filled net state i table = map (finding net state) (take i (tabulate (length state) (λ j. j))) ++ drop i table
+
+module _ (net : Network) (state : List ℕ) (table : List Finding) where
+  pub filled-none : table ≡ filled net state 0 table
+  unfolding filled
+  filled-none = refl
+
+  pub filled-next : (i : ℕ) → i < length state → i < length table → set (filled net state i table) i (finding net state i) ≡ filled net state (i + 1) table
+  unfolding filled
+  filled-next i l m =
+      let place : at (tabulate (length state) (λ j. j)) i ≡ i = tabulate-at (length state) (λ j. j) i l in
+      ap (λ (x : ℕ). set (filled net state i table) i (finding net state x)) (sym place)
+      ∙ map-fill (finding net state) (tabulate (length state) (λ j. j)) table i (rw (length-tabulate (length state) (λ j. j)) l) m
+
+  pub filled-length : (i : ℕ) → i ≤ length state → i ≤ length table → length (filled net state i table) ≡ length table
+  unfolding filled
+  filled-length i l m =
+      let nets = tabulate (length state) (λ j. j) in
+      let size : length nets ≡ length state = length-tabulate (length state) (λ j. j) in
+      let front : length (map (finding net state) (take i nets)) ≡ i = length-map (take i nets) (finding net state) ∙ length-take-le i nets (omega arith) in
+      let back : length (drop i table) ≡ length table - i = length-drop i table in
+      length-append (map (finding net state) (take i nets)) (drop i table) ∙ omega arith
+
+  pub filled-all : (i : ℕ) → i ≡ length state → filled net state i table ≡ lent-after (full (findings net state)) table
+  unfolding filled lent-after findings
+  filled-all i e =
+      let size : length (tabulate (length state) (λ j. j)) ≡ length state = length-tabulate (length state) (λ j. j) in
+      map-filled (finding net state) (tabulate (length state) (λ j. j)) table i (omega arith) (omega arith)

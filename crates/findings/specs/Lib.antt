@@ -1,0 +1,3 @@
+pub mod Findings
+pub mod FindingsTable
+pub mod Open

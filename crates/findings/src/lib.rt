@@ -1,0 +1,132 @@
+// What is found on the nets of a wiring state. `finding_of` and `table_refusal` are helpers between crates; `finding_of` asks that the
+// state is one of the network's.
+ghost use mathlib.Core.Path.{_≡_};
+ghost use Prim.Native.Nat.{_<_, _≤_};
+ghost use lib.ListN.{length};
+ghost use Rattle.words.specs.Answers.{«count-of», «lent-after»};
+ghost use Rattle.network.specs.States.{State};
+ghost use Rattle.findings.specs.Findings.{partners, finding};
+ghost use Rattle.findings.specs.FindingsTable.{«findings-answer», «table-meaning», «blank-table»};
+use network::Network;
+
+// What is found on one net: kind 0 sound, 1 open, 2 short, 3 both.
+pub struct Finding {
+    pub kind: u64,
+    pub reach: u64,
+    pub partners: u64,
+}
+
+// What the call *findings* answers: 0 if it is accepted, or the refusal's number; and the table after it.
+pub struct Tabled {
+    pub code: u64,
+    pub table: [Finding; 48],
+}
+
+// The other nets whose receivers one driver reaches together with this one's.
+fn partners_of(net: Network, state: &[u64], i: u64) -> u64
+    requires { ⌜ (net .nets ≤ 48) × (i < net .nets) × State net (net .nets) (now state) ⌝ }
+    ensures { λ r. ⌜ r ≡ partners net (now (state .entry)) i ⌝ }
+{
+    let own = state[i as usize];
+    let mut partners: u64 = 0;
+    let mut j: u64 = 0;
+    while j < net.nets {
+        let meets = network::receivers::meets(net, own, state[j as usize]);
+        if (i != j) & meets {
+            partners |= 1u64 << j;
+        }
+        j += 1;
+    }
+    partners
+}
+
+// The finding of net i.
+pub fn finding_of(net: Network, state: &[u64], i: u64) -> Finding
+    requires { ⌜ (net .nets ≤ 48) × (i < net .nets) × State net (net .nets) (now state) ⌝ }
+    ensures { λ r. ⌜ r ≡ finding net (now (state .entry)) i ⌝ }
+{
+    let reach = state[i as usize];
+    let partners = partners_of(net, state, i);
+    if (reach >> i) % 2 == 1 {
+        if partners == 0 {
+            return Finding {
+                kind: 0,
+                reach: reach,
+                partners: partners,
+            };
+        }
+        return Finding {
+            kind: 2,
+            reach: reach,
+            partners: partners,
+        };
+    }
+    if partners == 0 {
+        return Finding {
+            kind: 1,
+            reach: reach,
+            partners: partners,
+        };
+    }
+    Finding {
+        kind: 3,
+        reach: reach,
+        partners: partners,
+    }
+}
+
+// The finding of net i, a place of the table.
+fn finding_at(net: Network, state: &[u64], i: usize) -> Finding
+    requires { ⌜ (net .nets ≤ 48) × (i < net .nets) × State net (net .nets) (now state) ⌝ }
+    ensures { λ r. ⌜ r ≡ finding net (now (state .entry)) i ⌝ }
+{
+    finding_of(net, state, i as u64)
+}
+
+// The first of rows 5, 11 and 12 that holds, or 0.
+pub fn table_refusal(net: Network, state: &[u64], room: usize) -> u64
+    ensures { λ r. ⌜ table-meaning net r ≡ count-of (findings-answer net (now (state .entry)) room) ⌝ }
+{
+    if network::refusals::bad_net_count(net) {
+        return 5;
+    }
+    if network::refusals::not_a_state(net, net.nets, state) {
+        return 11;
+    }
+    if network::refusals::no_room(net.nets as usize, room) {
+        return 12;
+    }
+    0
+}
+
+// The call *findings*: a record a net into the front of `table`. Rows 5, 11 with k = n, and 12; 0 is accepted.
+pub fn findings(net: Network, state: &[u64], table: &mut [Finding]) -> u64
+    ensures { λ r. ⌜ (table-meaning net r ≡ count-of (findings-answer net (now (state .entry)) (length (now (table .entry))))) × (now (table .exit) ≡ lent-after (findings-answer net (now (state .entry)) (length (now (table .entry)))) (now (table .entry))) ⌝ }
+{
+    let code = table_refusal(net, state, table.len());
+    if code != 0 {
+        return code;
+    }
+    let mut i = 0;
+    while i < state.len() {
+        table[i] = finding_at(net, state, i);
+        i += 1;
+    }
+    0
+}
+
+// The call *findings* by value, with a blank table lent.
+pub fn by_value(net: Network, state: &[u64]) -> Tabled
+    ensures { λ r. ⌜ (table-meaning net (r .code) ≡ count-of (findings-answer net (now (state .entry)) 48)) × (r .table ≡ lent-after (findings-answer net (now (state .entry)) 48) blank-table) ⌝ }
+{
+    let mut table = [Finding {
+        kind: 0,
+        reach: 0,
+        partners: 0,
+    }; 48];
+    let code = findings(net, state, &mut table);
+    Tabled {
+        code: code,
+        table: table,
+    }
+}

@@ -1,0 +1,64 @@
+-- Words put into lists, and a session's record as words, there and back.
+use native.Mathlib.Omega.{arith}
+use Prim.Native.Nat.{ℕ, _+_, _-_}
+use mathlib.Core.Path.{_≡_, sym, ap, ap₂, _∙_}
+use mathlib.Core.List.{List, [], _∷_, _++_, append-assoc, append-nil}
+use lib.ListN.{length, take, drop, length-append, length-drop, take-append-drop, drop-of-length-le}
+use lib.Seq.{take-all, drop-drop, drop-cons}
+use Rattle.words.specs.Bits.{at}
+use Rattle.words.specs.Answers.{full, lent-after}
+use Rattle.words.specs.Writing.{written}
+use Rattle.words.proofs.Writing.{written-next, written-front}
+use Rattle.session.specs.declared.Session.{Session}
+use Rattle.packing.specs.Packed.{session-words, session-of, session-size}
+
+-- words put into the part of a list from a place on
+pub part-written : (out from part : List ℕ) (place : ℕ) → part ≡ lent-after (full from) (take (length out - place) (drop place out))
+    → take place out ++ (part ++ drop (length out - place) (drop place out)) ≡ written out place from
+unfolding written lent-after
+part-written out from part place e =
+    let size = length-drop place out in
+    let whole : take (length out - place) (drop place out) ≡ drop place out = take-all (length out - place) (drop place out) (omega arith) in
+    let none : drop (length out - place) (drop place out) ≡ [] = drop-of-length-le (drop place out) {i = length out - place} (omega arith) in
+    let tail : drop (length from) (drop place out) ≡ drop (place + length from) out = drop-drop (length from) place out in
+    ap₂ (λ (p t : List ℕ). take place out ++ (p ++ t)) (e ∙ ap (λ (rest : List ℕ). from ++ drop (length from) rest) whole ∙ ap (λ (rest : List ℕ). from ++ rest) tail) none
+    ∙ ap (λ (l : List ℕ). take place out ++ l) (append-nil (from ++ drop (place + length from) out))
+    ∙ sym (append-assoc (take place out) from (drop (place + length from) out))
+
+-- a list that is filled to its end
+pub all-written : (words lent : List ℕ) → length words ≡ length lent → lent-after (full words) lent ≡ words
+unfolding lent-after
+all-written words lent e = ap (λ (rest : List ℕ). words ++ rest) (drop-of-length-le lent {i = length words} (omega arith)) ∙ append-nil words
+
+-- the four parts of a record, put one after the other
+pub session-written : (session : Session) (lent headed answered reached all : List ℕ) → length (session .first) ≡ 8 → length (session .reaches) ≡ 48
+    → headed ≡ written lent 0 (session .step ∷ session .network .nets ∷ []) → answered ≡ written headed 2 (session .first)
+    → reached ≡ written answered 10 (session .reaches) → all ≡ written reached 58 (session .spent ∷ [])
+    → all ≡ lent-after (full (session-words session)) lent
+unfolding session-words
+session-written session lent headed answered reached all first-size reaches-size a b c d =
+    let head = session .step ∷ session .network .nets ∷ [] in
+    let two : answered ≡ written lent 0 (head ++ session .first) = written-next lent headed answered 0 2 head (session .first) a b (omega arith) (omega arith) in
+    let three : reached ≡ written lent 0 (head ++ session .first ++ session .reaches) =
+    written-next lent answered reached 0 10 (head ++ session .first) (session .reaches) two c (omega arith) (omega arith) in
+    let size = length-append (session .first) (session .reaches) in
+    written-next lent reached all 0 58 (head ++ session .first ++ session .reaches) (session .spent ∷ []) three d (omega arith) (omega arith)
+    ∙ written-front lent (session-words session)
+
+-- the words of the record that 59 words are
+pub session-there : (words : List ℕ) → length words ≡ session-size → session-words (session-of words) ≡ words
+unfolding session-words session-of
+session-there words e =
+    let step : words ≡ at words 0 ∷ drop 1 words = drop-cons words 0 0 (omega arith) in
+    let nets : drop 1 words ≡ at words 1 ∷ drop 2 words = drop-cons words 1 0 (omega arith) in
+    let first : take 8 (drop 2 words) ++ drop 10 words ≡ drop 2 words =
+    ap (λ (rest : List ℕ). take 8 (drop 2 words) ++ rest) (sym (drop-drop 8 2 words)) ∙ take-append-drop 8 (drop 2 words) in
+    let reaches : take 48 (drop 10 words) ++ drop 58 words ≡ drop 10 words =
+    ap (λ (rest : List ℕ). take 48 (drop 10 words) ++ rest) (sym (drop-drop 48 10 words)) ∙ take-append-drop 48 (drop 10 words) in
+    let spent : drop 58 words ≡ at words 58 ∷ [] =
+    drop-cons words 58 0 (omega arith) ∙ ap (λ (rest : List ℕ). at words 58 ∷ rest) (drop-of-length-le words {i = 59} (omega arith)) in
+    let tail : take 8 (drop 2 words) ++ take 48 (drop 10 words) ++ at words 58 ∷ [] ≡ drop 2 words =
+    append-assoc (take 8 (drop 2 words)) (take 48 (drop 10 words)) (at words 58 ∷ [])
+    ∙ ap (λ (rest : List ℕ). take 8 (drop 2 words) ++ (take 48 (drop 10 words) ++ rest)) (sym spent)
+    ∙ ap (λ (rest : List ℕ). take 8 (drop 2 words) ++ rest) reaches ∙ first in
+    ap (λ (rest : List ℕ). at words 0 ∷ at words 1 ∷ rest) tail ∙ ap (λ (rest : List ℕ). at words 0 ∷ rest) (sym nets) ∙ sym step

@@ -1,0 +1,76 @@
+use borrow.Author.Needs.{needs}
+use Prim.Native.Nat.{ℕ}
+use mathlib.Core.Path.{_≡_, ap₂, _∙_}
+use mathlib.Core.List.{List}
+use lib.ListN.{take, drop}
+use Rattle.words.specs.Bits.{at}
+use Rattle.packing.specs.Packed.{session-of}
+use Rattle.packing.proofs.Words.{all-written}
+use Rattle.packing.proofs.record.session_of.Statement.{statement}
+use Rattle.packing.proofs.record.session_of.Tie as tie
+
+sub-copy-words : tie.Need-sub-copy-words
+sub-copy-words c = search needs
+
+part-copy-words-start : tie.Need-part-copy-words-start
+part-copy-words-start c = search needs
+
+part-copy-words-end : tie.Need-part-copy-words-end
+part-copy-words-end c = search needs
+
+slice-aggregate-copy-words : tie.Need-slice-aggregate-copy-words
+slice-aggregate-copy-words c = search needs
+
+copy-words-requires : tie.Need-copy-words-requires
+copy-words-requires c κs = search needs
+
+sub-copy-words-2 : tie.Need-sub-copy-words-2
+sub-copy-words-2 c = search needs
+
+part-copy-words-start-2 : tie.Need-part-copy-words-start-2
+part-copy-words-start-2 c = search needs
+
+part-copy-words-end-2 : tie.Need-part-copy-words-end-2
+part-copy-words-end-2 c = search needs
+
+slice-aggregate-copy-words-2 : tie.Need-slice-aggregate-copy-words-2
+slice-aggregate-copy-words-2 c = search needs
+
+copy-words-requires-2 : tie.Need-copy-words-requires-2
+copy-words-requires-2 c κs = search needs
+
+shared-slice-read-t17 : tie.Need-shared-slice-read-t17
+shared-slice-read-t17 c = search needs
+
+shared-slice-read-t19 : tie.Need-shared-slice-read-t19
+shared-slice-read-t19 c = search needs
+
+shared-slice-read-t24 : tie.Need-shared-slice-read-t24
+shared-slice-read-t24 c = search needs
+
+returns : tie.Need-returns
+unfolding session-of
+returns c =
+    let a = c .before .before .before .before .before .before .before .before .before .before .before .before .args in
+    let first : _ ≡ take 8 (drop 2 (a .words .now)) = c .before .before .before .before .before .before .before .before .copy-words .ensures ∙ all-written _ _ (search needs) in
+    let reaches : _ ≡ take 48 (drop 10 (a .words .now)) = c .before .before .before .before .copy-words2 .ensures ∙ all-written _ _ (search needs) in
+    ap₂ (λ (f r : List ℕ). record { step = at (a .words .now) 0; network = record { nets = at (a .words .now) 1 }; first = f; reaches = r; spent = at (a .words .now) 58 }) first reaches
+
+pub session-of-spec : {M : Type 1} → statement M
+session-of-spec =
+    tie.close
+    (tie.spec
+    sub-copy-words
+    part-copy-words-start
+    part-copy-words-end
+    slice-aggregate-copy-words
+    copy-words-requires
+    sub-copy-words-2
+    part-copy-words-start-2
+    part-copy-words-end-2
+    slice-aggregate-copy-words-2
+    copy-words-requires-2
+    shared-slice-read-t17
+    shared-slice-read-t19
+    shared-slice-read-t24
+    returns)

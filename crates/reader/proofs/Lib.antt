@@ -1,0 +1,3 @@
+pub mod ReadLoops
+pub mod ReaderAnswers
+pub mod ReaderLaws

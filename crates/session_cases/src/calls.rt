@@ -1,0 +1,227 @@
+// The calls on a session's record. A line is one of these:
+//     1 n room                    begin; `room` is the length of the list lent, at most 64
+//     2 room: answers             first answers
+//     3: answers                  second answers
+//     4: words; words             the vectors to drive next, of these two lists
+//     5 step n first reach spent  no call: the record is filled with these numbers
+ghost use mathlib.Core.Path.{_≡_};
+ghost use Prim.Native.Nat.{_≤_};
+ghost use lib.ListN.{length};
+use network::Network;
+use session::Session;
+use tables::lent::MARKER;
+use tables::lent::refused;
+use tables::lent::wrote;
+use tables::read;
+use tables::read::END;
+use tables::read::MOST;
+use tables::show;
+
+// A record with these numbers, in every entry of its lists too.
+fn filled(step: u64, nets: u64, first: u64, reach: u64, spent: u64) -> Session {
+    Session {
+        step: step,
+        network: Network { nets: nets },
+        first: [first; 8],
+        reaches: [reach; 48],
+        spent: spent,
+    }
+}
+
+// A record that is no call's.
+pub fn junk() -> Session {
+    filled(7, 9, 5, 3, 4)
+}
+
+// The record, shown and filled.
+fn try_record(step: u64, nets: u64, first: u64, reach: u64, spent: u64) -> Session {
+    show::entry(b"record: step", step);
+    show::entry(b", nets", nets);
+    show::entry(b", first answers all", first);
+    show::entry(b", reaches all", reach);
+    show::entry(b", spent", spent);
+    filled(step, nets, first, reach, spent)
+}
+
+// What an accepted call left: what the record waits for, or its reaches and the count spent.
+fn standing(after: Session) {
+    if after.step == 1 {
+        show::text(b" waits for first answers");
+        return;
+    }
+    if after.step == 2 {
+        show::text(b" waits for second answers");
+        return;
+    }
+    let reaches = after.reaches;
+    show::text(b" finished");
+    show::part(&reaches, 0, after.network.nets as usize);
+    show::entry(b", spent", after.spent);
+}
+
+// The vectors to drive next.
+fn next(vectors: &[u64]) {
+    if vectors.len() == 0 {
+        show::text(b" nothing to drive");
+        return;
+    }
+    show::text(b" drive");
+    show::part(vectors, 0, vectors.len());
+}
+
+// An accepted call with a lent list: the words written, as many as are to be driven, and the entries left; then the record.
+fn accepted(after: Session, vectors: &[u64], list: &[u64]) {
+    if vectors.len() == 0 {
+        show::text(b" no words");
+    }
+    wrote(vectors.len() as u64, list);
+    show::text(b";");
+    standing(after);
+    show::text(b";");
+    next(vectors);
+}
+
+// An accepted *begin*: the list written is the first one.
+fn begun(after: Session, list: &[u64]) {
+    accepted(
+        after,
+        session::drive::to_drive(after, list, &list[..0]),
+        list,
+    );
+}
+
+// Accepted first answers: the list written is the second one.
+fn answered(after: Session, list: &[u64]) {
+    accepted(
+        after,
+        session::drive::to_drive(after, &list[..0], list),
+        list,
+    );
+}
+
+// Makes the call *begin* and shows its answer and the lent list.
+fn begin_into(before: Session, nets: u64, list: &mut [u64]) -> Session {
+    let done = session::by_value::begin(before, Network { nets: nets }, list);
+    if done.code != 0 {
+        refused(done.code, list);
+    } else {
+        begun(done.session, list);
+    }
+    done.session
+}
+
+// Makes the call *first answers* and shows its answer and the lent list.
+fn first_into(before: Session, answers: &[u64], list: &mut [u64]) -> Session {
+    let done = session::by_value::first_answers(before, answers, list);
+    if done.code != 0 {
+        refused(done.code, list);
+    } else {
+        answered(done.session, list);
+    }
+    done.session
+}
+
+// The call *begin*, with `room` entries lent.
+fn try_begin(before: Session, nets: u64, room: usize) -> Session
+    requires { ⌜ room ≤ 64 ⌝ }
+{
+    let mut list = [MARKER; 64];
+    show::entry(b"begin", nets);
+    show::entry(b"; lent", room as u64);
+    show::text(b" ->");
+    begin_into(before, nets, &mut list[0..room])
+}
+
+// The call *first answers*, with `room` entries lent.
+fn try_first(before: Session, answers: &[u64], room: usize) -> Session
+    requires { ⌜ room ≤ 64 ⌝ }
+{
+    let mut list = [MARKER; 64];
+    show::text(b"first answers:");
+    show::words(answers, b" words");
+    show::entry(b"; lent", room as u64);
+    show::text(b" ->");
+    first_into(before, answers, &mut list[0..room])
+}
+
+// The call *second answers*.
+fn try_second(before: Session, answers: &[u64]) -> Session {
+    show::text(b"second answers:");
+    show::words(answers, b" words");
+    show::text(b" ->");
+    let done = session::by_value::second_answers(before, answers);
+    let after = done.session;
+    if done.code != 0 {
+        show::entry(b" refused", done.code);
+        return after;
+    }
+    standing(after);
+    show::text(b";");
+    next(session::drive::to_drive(after, answers, answers));
+    after
+}
+
+// The vectors to drive next, of these two lists.
+fn try_drive<'a>(before: Session, first: &'a [u64], second: &'a [u64]) {
+    show::text(b"lists:");
+    show::words(first, b" words");
+    show::text(b";");
+    show::words(second, b" words");
+    show::text(b" ->");
+    next(session::drive::to_drive(before, first, second));
+}
+
+// A line with no colon: *begin*, or a record that is filled.
+fn try_numbers(before: Session, head: &[u64; MOST], count: usize) -> Session
+    requires { ⌜ length (now head) ≡ 65 ⌝ }
+{
+    let room = head[2];
+    if (count == 3) & (head[0] == 1) && room <= 64 {
+        return try_begin(before, head[1], room as usize);
+    }
+    if (count == 6) & (head[0] == 5) {
+        return try_record(head[1], head[2], head[3], head[4], head[5]);
+    }
+    show::unreadable();
+    before
+}
+
+// A line with a colon, from the index past it on: first answers, second answers, or two lists to drive of. `count` is that of the numbers before it.
+fn try_lists(before: Session, head: &[u64; MOST], count: usize, line: &[u8], at: usize) -> Session
+    requires { ⌜ (length (now head) ≡ 65) × (at ≤ length (now line)) ⌝ }
+{
+    let mut words = [0u64; MOST];
+    let mut others = [0u64; MOST];
+    let list = read::list_at(line, at, &mut words);
+    let second = read::list_at(line, list.end, &mut others);
+    let most = list.count;
+    let more = second.count;
+    let room = head[1];
+    let single = list.mark == END;
+    if single & (count == 2) & (head[0] == 2) && room <= 64 {
+        return try_first(before, &words[0..most], room as usize);
+    }
+    if single & (count == 1) & (head[0] == 3) {
+        return try_second(before, &words[0..most]);
+    }
+    if (list.mark == b';') & (second.mark == END) & (count == 1) & (head[0] == 4) {
+        try_drive(before, &words[0..most], &others[0..more]);
+        return before;
+    }
+    show::unreadable();
+    before
+}
+
+// Tries a line, and returns the record after it.
+pub fn try_line(before: Session, line: &[u8]) -> Session {
+    let mut head = [0u64; MOST];
+    let start = read::list_at(line, 0, &mut head);
+    if start.mark == b':' {
+        return try_lists(before, &head, start.count, line, start.end);
+    }
+    if start.mark == END {
+        return try_numbers(before, &head, start.count);
+    }
+    show::unreadable();
+    before
+}

@@ -1,0 +1,52 @@
+// The bench examples of document 01 for the session, its refusals, and records that no calls leave. Standard input has them, a call a line (calls.rt).
+// After a line `session`, the lines are calls on one record, which is junk at first. A line a call: what it was given, and what it answered. `lent` gives the
+// length of the list lent, and after `kept` stand its entries that the call left as they were; after an accepted call stand what the record then says, and
+// the vectors to drive next.
+mod calls;
+
+use session::Session;
+use tables::Line;
+use tables::show;
+
+// A line `session` starts a record of junk.
+fn begun(line: &[u8]) -> Session {
+    if check::same(line, b"session") {
+        show::text(b"session\n");
+    } else {
+        show::text(b"unreadable line\n");
+    }
+    calls::junk()
+}
+
+// Makes the call that a line gives, and returns the record after it.
+fn called(before: Session, line: &[u8]) -> Session {
+    let after = calls::try_line(before, line);
+    show::text(b"\n");
+    after
+}
+
+// Tries a line, and returns the record after it.
+fn try_line(before: Session, line: &[u8]) -> Session {
+    match tables::kind_of(line) {
+        Line::Skipped => before,
+        Line::Name => begun(line),
+        Line::Call => called(before, line),
+    }
+}
+
+// Tries the lines of a text one by one.
+fn try_each(text: &[u8]) {
+    let mut record = calls::junk();
+    let mut at: usize = 0;
+    while at < text.len() {
+        let end = bytes::scan::find(text, at, text.len(), b'\n');
+        record = try_line(record, &text[at..end]);
+        at = end + 1;
+    }
+}
+
+fn main() {
+    let mut buffer = io::large_buffer();
+    let count = tables::input(&mut buffer);
+    try_each(&buffer[..count]);
+}

@@ -1,0 +1,2 @@
+pub mod WriteLoops
+pub mod WriterLaws

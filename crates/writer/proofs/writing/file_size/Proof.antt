@@ -1,0 +1,42 @@
+use borrow.Author.Needs.{needs}
+use native.Mathlib.Omega.{arith}
+use Rattle.writer.proofs.WriterLaws.{entries-range, file-size}
+use Rattle.writer.proofs.writing.file_size.Statement.{statement}
+use Rattle.writer.proofs.writing.file_size.Tie as tie
+
+bodies-at-requires : tie.Need-bodies-at-requires
+bodies-at-requires c κs = search needs
+
+add-result : tie.Need-add-result
+add-result c = let few = entries-range (c .before .before .before .args .responses .now) .1 in let is = c .bodies-at .ensures in omega arith
+
+mul-result : tie.Need-mul-result
+mul-result c = search needs
+
+add-result-2 : tie.Need-add-result-2
+add-result-2 c = let few = entries-range (c .before .before .before .args .responses .now) .1 in let is = c .bodies-at .ensures in omega arith
+
+mul-result-2 : tie.Need-mul-result-2
+mul-result-2 c = search needs
+
+add-result-3 : tie.Need-add-result-3
+add-result-3 c = let few = entries-range (c .before .before .before .args .responses .now) .1 in let is = c .bodies-at .ensures in omega arith
+
+returns : tie.Need-returns
+returns c = λ net k.
+    let a = c .before .before .before .args in
+    let is = c .bodies-at .ensures in
+    let size = file-size (a .vectors .now) (a .responses .now) net k in
+    omega arith
+
+pub file-size-spec : {M : Type 1} → statement M
+file-size-spec =
+    tie.close
+    (tie.spec
+    bodies-at-requires
+    add-result
+    mul-result
+    add-result-2
+    mul-result-2
+    add-result-3
+    returns)
