@@ -184,11 +184,11 @@ unfolding lent-after
 read-call file vectors responses =
     let call : PublicCall = read file vectors responses in
     let f = reads-files file vectors responses in
-    let first-list : Answer JobContent → List ℕ = λ a. lent-after (vectors-read a) vectors in
-    let second-list : Answer JobContent → List ℕ = λ a. lent-after (responses-read a) responses in
+    let vectors-after : Answer JobContent → List ℕ = λ a. lent-after (vectors-read a) vectors in
+    let responses-after : Answer JobContent → List ℕ = λ a. lent-after (responses-read a) responses in
     either (λ (job : JobContent). job ≡ content file) (RefusedWith ours call) (FullResult ours call) (Rows ours call) (f .answer)
-    (λ number e. (f .returned ∙ ap counted e, f .first-list ∙ ap first-list e, f .second-list ∙ ap second-list e))
-    (λ job e r. let q = e ∙ ap full r in (f .returned ∙ ap counted q, f .first-list ∙ ap first-list q, f .second-list ∙ ap second-list q)) (f .allowed)
+    (λ number e. (f .returned ∙ ap counted e, f .vectors-after ∙ ap vectors-after e, f .responses-after ∙ ap responses-after e))
+    (λ job e r. let q = e ∙ ap full r in (f .returned ∙ ap counted q, f .vectors-after ∙ ap vectors-after q, f .responses-after ∙ ap responses-after q)) (f .allowed)
 
 advance-call : (session : Session) (call : Call) → RefusedOrFull ours (advance session call)
 unfolding lent-after

@@ -49,9 +49,9 @@ full-answer [] x h = refl
 full-answer ((number, test) ∷ tests) x (e, h) = rw e (full-answer tests x h)
 
 -- the reader's tests of a file, with this content
-abbrev reader-tests : List ℕ → JobContent → (first second : ℕ) → List (ℕ × Bool)
-reader-tests file job first second =
-    file-tests file ++ set-tests (job .network) (job .class) (job .vectors) ++ list-tests file job first second
+abbrev reader-tests : List ℕ → JobContent → (vectors-room responses-room : ℕ) → List (ℕ × Bool)
+reader-tests file job vectors-room responses-room =
+    file-tests file ++ set-tests (job .network) (job .class) (job .vectors) ++ list-tests file job vectors-room responses-room
 
 -- ---- the writer's file, read
 
@@ -79,10 +79,10 @@ module _ (net : Network) (k : ℕ) (vectors responses : List ℕ) (room : ℕ) w
         responses-fit = given-fit net responses (nets .1) t10;
       }
 
-  made-is-read : (first second : ℕ) → length vectors ≤ first → length responses ≤ second → AllFail (writer-tests net k vectors responses room)
-      → read-answer (file-of net k vectors responses) first second ≡ full (record { network = net; class = k; vectors = vectors; responses = responses })
+  made-is-read : (vectors-room responses-room : ℕ) → length vectors ≤ vectors-room → length responses ≤ responses-room → AllFail (writer-tests net k vectors responses room)
+      → read-answer (file-of net k vectors responses) vectors-room responses-room ≡ full (record { network = net; class = k; vectors = vectors; responses = responses })
   unfolding read-answer
-  made-is-read first second lv lr (t5, (t6, (t7, (t8, (t9, (t10, t12)))))) =
+  made-is-read vectors-room responses-room lv lr (t5, (t6, (t7, (t8, (t9, (t10, t12)))))) =
       let h = admitted (t5, (t6, (t7, (t8, (t9, (t10, t12)))))) in
       let file = file-of net k vectors responses in
       let job : JobContent = record { network = net; class = k; vectors = vectors; responses = responses } in
@@ -92,19 +92,19 @@ module _ (net : Network) (k : ℕ) (vectors responses : List ℕ) (room : ℕ) w
       let u3 = bodies-pass net k vectors responses h in
       let u9 = ap (λ (b : Bool). b && bad-response-count (length vectors) (length responses)) third ∙ t9 in
       let u10 = ap (λ (b : Bool). b && has-high-bit net responses) third ∙ t10 in
-      let u12 = ap₂ (λ (a b : Bool). a || b) (le-ltb first (length vectors) lv) (le-ltb second (length responses) lr) in
-      ap (λ (c : JobContent). by-tests (reader-tests file c first second) c) (content-made net k vectors responses h)
-      ∙ full-answer (reader-tests file job first second) job (u1, (u2, (u3, (t5, (t6, (t7, (t8, (u9, (u10, (u12, tt))))))))))
+      let u12 = ap₂ (λ (a b : Bool). a || b) (le-ltb vectors-room (length vectors) lv) (le-ltb responses-room (length responses) lr) in
+      ap (λ (c : JobContent). by-tests (reader-tests file c vectors-room responses-room) c) (content-made net k vectors responses h)
+      ∙ full-answer (reader-tests file job vectors-room responses-room) job (u1, (u2, (u3, (t5, (t6, (t7, (t8, (u9, (u10, (u12, tt))))))))))
 
 -- what the writer wrote is read back
-pub written-is-read : (net : Network) (k : ℕ) (vectors responses : List ℕ) (room first second : ℕ) (file : List ℕ)
-    → write-answer net k vectors responses room ≡ full file → length vectors ≤ first → length responses ≤ second
-    → read-answer file first second ≡ full (record { network = net; class = k; vectors = vectors; responses = responses })
+pub written-is-read : (net : Network) (k : ℕ) (vectors responses : List ℕ) (room vectors-room responses-room : ℕ) (file : List ℕ)
+    → write-answer net k vectors responses room ≡ full file → length vectors ≤ vectors-room → length responses ≤ responses-room
+    → read-answer file vectors-room responses-room ≡ full (record { network = net; class = k; vectors = vectors; responses = responses })
 unfolding write-answer
-written-is-read net k vectors responses room first second file e lv lr =
+written-is-read net k vectors responses room vectors-room responses-room file e lv lr =
     let p = none-passed (writer-tests net k vectors responses room) (file-of net k vectors responses) file e in
-    subst (λ (bytes : List ℕ). read-answer bytes first second ≡ full (record { network = net; class = k; vectors = vectors; responses = responses })) (p .1)
-    (made-is-read net k vectors responses room first second lv lr (p .0))
+    subst (λ (bytes : List ℕ). read-answer bytes vectors-room responses-room ≡ full (record { network = net; class = k; vectors = vectors; responses = responses })) (p .1)
+    (made-is-read net k vectors responses room vectors-room responses-room lv lr (p .0))
 
 -- ---- the reader's file, written
 
@@ -156,10 +156,10 @@ module _ (file : List ℕ) where
       let put = file-of (file-network file) (file-class file) (body-words file 1) in
       ⊎-elim (λ q. ap put (no-third q) ∙ sym (two-entries-stand file s q)) (λ q. ap put (third-read q) ∙ sym (three-entries-stand file s q (some q))) (s .laid .entries)
 
-  content-is-written : (first second room : ℕ) → AllBytes file → AllFail (reader-tests file (content file) first second) → length file ≤ room
+  content-is-written : (vectors-room responses-room room : ℕ) → AllBytes file → AllFail (reader-tests file (content file) vectors-room responses-room) → length file ≤ room
       → write-answer (content file .network) (content file .class) (content file .vectors) (content file .responses) room ≡ full file
   unfolding write-answer content
-  content-is-written first second room small (t1, (t2, (t3, (t5, (t6, (t7, (t8, (t9, (t10, t12))))))))) l =
+  content-is-written vectors-room responses-room room small (t1, (t2, (t3, (t5, (t6, (t7, (t8, (t9, (t10, t12))))))))) l =
       let responses = file-responses file in
       let whole = content-stands (admitted-file file small t1 t2 t3) (some-responses t7 t9) in
       let made = file-of (file-network file) (file-class file) (body-words file 1) responses in
@@ -170,10 +170,10 @@ module _ (file : List ℕ) where
       ∙ ap full whole
 
 -- what the reader accepts is what the writer writes of its content
-pub read-is-written : (file : List ℕ) (first second room : ℕ) (job : JobContent) → AllBytes file → read-answer file first second ≡ full job → length file ≤ room
+pub read-is-written : (file : List ℕ) (vectors-room responses-room room : ℕ) (job : JobContent) → AllBytes file → read-answer file vectors-room responses-room ≡ full job → length file ≤ room
     → write-answer (job .network) (job .class) (job .vectors) (job .responses) room ≡ full file
 unfolding read-answer
-read-is-written file first second room job small e l =
-    let p = none-passed (reader-tests file (content file) first second) (content file) job e in
+read-is-written file vectors-room responses-room room job small e l =
+    let p = none-passed (reader-tests file (content file) vectors-room responses-room) (content file) job e in
     subst (λ (c : JobContent). write-answer (c .network) (c .class) (c .vectors) (c .responses) room ≡ full file) (p .1)
-    (content-is-written file first second room small (p .0) l)
+    (content-is-written file vectors-room responses-room room small (p .0) l)

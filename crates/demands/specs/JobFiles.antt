@@ -37,8 +37,8 @@ pub record ReadByTable (file vectors responses : List ℕ) (did : ReadDone) : Ty
   pub answer : Answer JobContent
   pub allowed : ByTable (ReaderRows file (length vectors) (length responses)) (λ job. job ≡ content file) answer
   pub returned : did .returned ≡ counted answer
-  pub first-list : did .vectors ≡ lent-after (vectors-read answer) vectors
-  pub second-list : did .responses ≡ lent-after (responses-read answer) responses
+  pub vectors-after : did .vectors ≡ lent-after (vectors-read answer) vectors
+  pub responses-after : did .responses ≡ lent-after (responses-read answer) responses
 
 abbrev pub Reads : ReaderProgram → Type 0
 Reads program = (file vectors responses : List ℕ) → ReadByTable file vectors responses (program file vectors responses)
@@ -51,14 +51,14 @@ file-written did count = take count (did .list)
 
 pub record Exact (reader : ReaderProgram) (writer : WriterProgram) : Type 0 where
   -- a file that was written is read, with what was written
-  pub written-is-read : (net : Network) (k : ℕ) (vectors responses lent first second : List ℕ) (count : ℕ) → writer net k vectors responses lent .returned ≡ full count
-      → length vectors ≤ length first → length responses ≤ length second
-      → let did = reader (file-written (writer net k vectors responses lent) count) first second in
+  pub written-is-read : (net : Network) (k : ℕ) (vectors responses lent vectors-lent responses-lent : List ℕ) (count : ℕ) → writer net k vectors responses lent .returned ≡ full count
+      → length vectors ≤ length vectors-lent → length responses ≤ length responses-lent
+      → let did = reader (file-written (writer net k vectors responses lent) count) vectors-lent responses-lent in
       (did .returned ≡ full (record { network = net; class = k; vectors = length vectors; responses = length responses }))
       × (take (length vectors) (did .vectors) ≡ vectors)
       × (take (length responses) (did .responses) ≡ responses)
   -- and a file that is read is the one that is written with what was read
-  pub read-is-written : (file first second lent : List ℕ) (job : Job) → AllBytes file → reader file first second .returned ≡ full job → length file ≤ length lent
-      → let did = reader file first second in
+  pub read-is-written : (file vectors-lent responses-lent lent : List ℕ) (job : Job) → AllBytes file → reader file vectors-lent responses-lent .returned ≡ full job → length file ≤ length lent
+      → let did = reader file vectors-lent responses-lent in
       let wrote = writer (job .network) (job .class) (take (job .vectors) (did .vectors)) (take (job .responses) (did .responses)) lent in
       (wrote .returned ≡ full (length file)) × (file-written wrote (length file) ≡ file)

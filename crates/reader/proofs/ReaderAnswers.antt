@@ -33,21 +33,21 @@ pub content-same : (file : List ℕ) (net : Network) (k : ℕ) (vectors response
 content-same file net k vectors responses given a b c d e = rw (a, b, c, d, e)
 
 -- row 12: either list
-abbrev pub file-no-room : List ℕ → (first second : ℕ) → Bool
-file-no-room file first second = no-room (length (body-words file 1)) first || no-room (length (file-responses file)) second
+abbrev pub file-no-room : List ℕ → (vectors-room responses-room : ℕ) → Bool
+file-no-room file vectors-room responses-room = no-room (length (body-words file 1)) vectors-room || no-room (length (file-responses file)) responses-room
 
-module _ (file : List ℕ) (first second : ℕ) where
-  pub by-row-1 : bad-mark file ≡ true → read-answer file first second ≡ refused 1
+module _ (file : List ℕ) (vectors-room responses-room : ℕ) where
+  pub by-row-1 : bad-mark file ≡ true → read-answer file vectors-room responses-room ≡ refused 1
   unfolding read-answer by-tests
   by-row-1 e = rw e
 
   module _ (mark : bad-mark file ≡ false) where
-    pub by-row-2 : bad-layout file ≡ true → read-answer file first second ≡ refused 2
+    pub by-row-2 : bad-layout file ≡ true → read-answer file vectors-room responses-room ≡ refused 2
     unfolding read-answer by-tests
     by-row-2 e = rw (mark, e)
 
     module _ (layout : bad-layout file ≡ false) where
-      pub by-row-3 : bad-bodies file ≡ true → read-answer file first second ≡ refused 3
+      pub by-row-3 : bad-bodies file ≡ true → read-answer file vectors-room responses-room ≡ refused 3
       unfolding read-answer by-tests
       by-row-3 e = rw (mark, layout, e)
 
@@ -55,22 +55,22 @@ module _ (file : List ℕ) (first second : ℕ) where
         abbrev rows-5-to-10 : List (ℕ × Bool)
         rows-5-to-10 = content-tests (file-network file) (file-class file) (body-words file 1) (file-responses file) (has-responses file)
 
-        by-content : read-answer file first second ≡ by-tests (rows-5-to-10 ++ (12, file-no-room file first second) ∷ []) (content file)
+        by-content : read-answer file vectors-room responses-room ≡ by-tests (rows-5-to-10 ++ (12, file-no-room file vectors-room responses-room) ∷ []) (content file)
         unfolding read-answer by-tests content
         by-content = rw (mark, layout, bodies)
 
-        pub by-rows-5-to-10 : (number : ℕ) → file-admission file ≡ refused number → read-answer file first second ≡ refused number
-        by-rows-5-to-10 number e = by-content ∙ shared-refuse tt (content file) rows-5-to-10 ((12, file-no-room file first second) ∷ []) number e
+        pub by-rows-5-to-10 : (number : ℕ) → file-admission file ≡ refused number → read-answer file vectors-room responses-room ≡ refused number
+        by-rows-5-to-10 number e = by-content ∙ shared-refuse tt (content file) rows-5-to-10 ((12, file-no-room file vectors-room responses-room) ∷ []) number e
 
         module _ (admitted : file-admission file ≡ full tt) where
-          by-own : read-answer file first second ≡ by-tests ((12, file-no-room file first second) ∷ []) (content file)
-          by-own = by-content ∙ shared-pass tt (content file) rows-5-to-10 ((12, file-no-room file first second) ∷ []) tt admitted
+          by-own : read-answer file vectors-room responses-room ≡ by-tests ((12, file-no-room file vectors-room responses-room) ∷ []) (content file)
+          by-own = by-content ∙ shared-pass tt (content file) rows-5-to-10 ((12, file-no-room file vectors-room responses-room) ∷ []) tt admitted
 
-          pub by-row-12 : file-no-room file first second ≡ true → read-answer file first second ≡ refused 12
+          pub by-row-12 : file-no-room file vectors-room responses-room ≡ true → read-answer file vectors-room responses-room ≡ refused 12
           unfolding by-tests
           by-row-12 e = by-own ∙ rw e
 
-          pub by-none : file-no-room file first second ≡ false → read-answer file first second ≡ full (content file)
+          pub by-none : file-no-room file vectors-room responses-room ≡ false → read-answer file vectors-room responses-room ≡ full (content file)
           unfolding by-tests
           by-none e = by-own ∙ rw e
 
@@ -91,9 +91,9 @@ unfolding lent-after
 owed-refused-both a number vectors responses e = rw e (refl, (refl, refl))
 
 module _ (file : List ℕ) where
-  pub owed-content : (a : Answer JobContent) (job : Job) (vectors responses first second : List ℕ) → a ≡ full (content file)
+  pub owed-content : (a : Answer JobContent) (job : Job) (vectors responses vectors-after responses-after : List ℕ) → a ≡ full (content file)
       → job ≡ record { network = file-network file; class = file-class file; vectors = length (body-words file 1); responses = length (file-responses file) }
-      → first ≡ lent-after (full (body-words file 1)) vectors → second ≡ lent-after (full (file-responses file)) responses
-      → (full job ≡ counted a) × ((first ≡ lent-after (vectors-read a) vectors) × (second ≡ lent-after (responses-read a) responses))
+      → vectors-after ≡ lent-after (full (body-words file 1)) vectors → responses-after ≡ lent-after (full (file-responses file)) responses
+      → (full job ≡ counted a) × ((vectors-after ≡ lent-after (vectors-read a) vectors) × (responses-after ≡ lent-after (responses-read a) responses))
   unfolding content
-  owed-content a job vectors responses first second e j p q = rw e (ap full j, (p, q))
+  owed-content a job vectors responses vectors-after responses-after e j p q = rw e (ap full j, (p, q))

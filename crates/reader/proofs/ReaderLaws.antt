@@ -17,42 +17,42 @@ use Rattle.reader.specs.Reader.{JobContent, content, FileRows, ListRows,
 decides-given-row : (file : List ℕ) {b : Bool} {B : Type 0} → Decides b B → Decides (has-responses file && b) ((has-responses file ≡ true) × B)
 decides-given-row file d = decides-and (λ e. e, λ e h. contrary h e) d
 
-decides-either-room : (first-size first second-size second : ℕ)
-    → Decides (no-room first-size first || no-room second-size second) (Row12 first-size first ⊎ Row12 second-size second)
-decides-either-room first-size first second-size second = decides-or (decides-row-12 first-size first) (decides-row-12 second-size second)
+decides-either-room : (vectors-size vectors-room responses-size responses-room : ℕ)
+    → Decides (no-room vectors-size vectors-room || no-room responses-size responses-room) (Row12 vectors-size vectors-room ⊎ Row12 responses-size responses-room)
+decides-either-room vectors-size vectors-room responses-size responses-room = decides-or (decides-row-12 vectors-size vectors-room) (decides-row-12 responses-size responses-room)
 
-module _ (file : List ℕ) (first second : ℕ) where
+module _ (file : List ℕ) (vectors-room responses-room : ℕ) where
   decides-file : Decided (FileRows file) (file-tests file)
   decides-file = (refl, decides-row-1 file, λ _. (refl, decides-row-2 file, λ _. (refl, decides-row-3 file, λ _. tt)))
 
-  decides-lists : (job : JobContent) → Decided (ListRows file job first second) (list-tests file job first second)
+  decides-lists : (job : JobContent) → Decided (ListRows file job vectors-room responses-room) (list-tests file job vectors-room responses-room)
   decides-lists job = (
     refl,
     decides-given-row file (decides-row-9 (length (job .vectors)) (length (job .responses))),
     λ _. (
       refl,
       decides-given-row file (decides-high-bit (job .network) (job .responses)),
-      λ _. (refl, decides-either-room (length (job .vectors)) first (length (job .responses)) second, λ _. tt),
+      λ _. (refl, decides-either-room (length (job .vectors)) vectors-room (length (job .responses)) responses-room, λ _. tt),
     ),
   )
 
-  decides-rows : Decided (ReaderRows file first second)
-      (file-tests file ++ set-tests (content file .network) (content file .class) (content file .vectors) ++ list-tests file (content file) first second)
+  decides-rows : Decided (ReaderRows file vectors-room responses-room)
+      (file-tests file ++ set-tests (content file .network) (content file .class) (content file .vectors) ++ list-tests file (content file) vectors-room responses-room)
   decides-rows =
       let job = content file in
-      decided-append (FileRows file) (SetRows (job .network) (job .class) (job .vectors) ++ ListRows file job first second) (file-tests file)
-      (set-tests (job .network) (job .class) (job .vectors) ++ list-tests file job first second) decides-file
+      decided-append (FileRows file) (SetRows (job .network) (job .class) (job .vectors) ++ ListRows file job vectors-room responses-room) (file-tests file)
+      (set-tests (job .network) (job .class) (job .vectors) ++ list-tests file job vectors-room responses-room) decides-file
       (λ _.
-      decided-append (SetRows (job .network) (job .class) (job .vectors)) (ListRows file job first second) (set-tests (job .network) (job .class) (job .vectors))
-      (list-tests file job first second) (decides-set (job .network) (job .class) (job .vectors)) (λ _. decides-lists job))
+      decided-append (SetRows (job .network) (job .class) (job .vectors)) (ListRows file job vectors-room responses-room) (set-tests (job .network) (job .class) (job .vectors))
+      (list-tests file job vectors-room responses-room) (decides-set (job .network) (job .class) (job .vectors)) (λ _. decides-lists job))
 
-  pub read-by-table : ByTable (ReaderRows file first second) (λ job. job ≡ content file) (read-answer file first second)
+  pub read-by-table : ByTable (ReaderRows file vectors-room responses-room) (λ job. job ≡ content file) (read-answer file vectors-room responses-room)
   unfolding read-answer
   read-by-table =
-      tests-by-table (λ job. job ≡ content file) (ReaderRows file first second)
-      (file-tests file ++ set-tests (content file .network) (content file .class) (content file .vectors) ++ list-tests file (content file) first second)
+      tests-by-table (λ job. job ≡ content file) (ReaderRows file vectors-room responses-room)
+      (file-tests file ++ set-tests (content file .network) (content file .class) (content file .vectors) ++ list-tests file (content file) vectors-room responses-room)
       (content file) decides-rows (λ _. refl)
 
-  pub read-determined : (a b : Answer JobContent) → ByTable (ReaderRows file first second) (λ job. job ≡ content file) a
-      → ByTable (ReaderRows file first second) (λ job. job ≡ content file) b → a ≡ b
-  read-determined a b = table-determined (λ job. job ≡ content file) (ReaderRows file first second) a b (λ _ x y p q. p ∙ sym q)
+  pub read-determined : (a b : Answer JobContent) → ByTable (ReaderRows file vectors-room responses-room) (λ job. job ≡ content file) a
+      → ByTable (ReaderRows file vectors-room responses-room) (λ job. job ≡ content file) b → a ≡ b
+  read-determined a b = table-determined (λ job. job ≡ content file) (ReaderRows file vectors-room responses-room) a b (λ _ x y p q. p ∙ sym q)

@@ -212,8 +212,9 @@ pub fn admit_job(
 }
 
 // Row 12: either list shorter than its words.
-pub fn no_room(vectors: usize, first: usize, responses: usize, second: usize) -> bool
-    ensures { λ r. ⌜ r ≡ no-room vectors first || no-room responses second ⌝ }
+pub fn no_room(vectors: usize, vectors_room: usize, responses: usize, responses_room: usize) -> bool
+    ensures { λ r. ⌜ r ≡ no-room vectors «vectors_room» || no-room responses «responses_room» ⌝ }
 {
-    network::refusals::no_room(vectors, first) | network::refusals::no_room(responses, second)
+    network::refusals::no_room(vectors, vectors_room)
+        | network::refusals::no_room(responses, responses_room)
 }

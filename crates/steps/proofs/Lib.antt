@@ -1,5 +1,5 @@
 pub mod WordsApart
 pub mod StepOneWords
-pub mod WordsGathered
+pub mod WordsTaken
 pub mod StepTwoVectors
 pub mod BothSteps

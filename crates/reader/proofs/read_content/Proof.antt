@@ -141,10 +141,10 @@ module _ (c : tie.After-no-room) where
 
   twelve : file-no-room whole (length (begun .args .vectors .now)) (length (begun .args .responses .now)) ≡ c .no-room .result
   twelve =
-      let first = length (begun .args .vectors .now) in
-      let second = length (begun .args .responses .now) in
+      let vectors-room = length (begun .args .vectors .now) in
+      let responses-room = length (begun .args .responses .now) in
       sym (c .no-room .ensures
-      ∙ ap₂ (λ (x y : ℕ). no-room x first || no-room y second) (read asked .before .before .word-count .ensures .0) (read asked .response-count .ensures .0))
+      ∙ ap₂ (λ (x y : ℕ). no-room x vectors-room || no-room y responses-room) (read asked .before .before .word-count .ensures .0) (read asked .response-count .ensures .0))
 
 returns-2 : tie.Need-returns-2
 returns-2 c =

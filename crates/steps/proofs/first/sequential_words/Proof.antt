@@ -7,7 +7,7 @@ use lib.Pow.{pow-mono}
 use lib.ListN.{length}
 use Rattle.steps.specs.FirstStep.{word-length}
 use Rattle.steps.proofs.StepOneWords.{length-bounds}
-use Rattle.steps.proofs.WordsGathered.{WordsTaken, gathered-none, more-to-try, gathered-taken, gathered-left, gathered-all}
+use Rattle.steps.proofs.WordsTaken.{WordsTaken, none-taken, more-to-try, word-taken, word-left, all-taken}
 use Rattle.steps.proofs.first.sequential_words.Statement.{statement}
 use Rattle.steps.proofs.first.sequential_words.Tie as tie
 
@@ -25,7 +25,7 @@ loop-holds : tie.Need-loop-holds Inv-loop μ-loop
 loop-holds c =
     let net = c .before .args .net in
     let half : c .word-length .result / 2 ≡ word-length net / 2 = ap (λ (p : ℕ). p / 2) (c .word-length .ensures) in
-    (search needs, search needs, half, pow-mono (length-bounds net (c .before .pre .0) (c .before .pre .1) .1), gathered-none net _)
+    (search needs, search needs, half, pow-mono (length-bounds net (c .before .pre .0) (c .before .pre .1) .1), none-taken net _)
 
 count-of-ones-requires : tie.Need-count-of-ones-requires Inv-loop μ-loop
 count-of-ones-requires c κs = search needs
@@ -68,14 +68,14 @@ loop-again c =
       search needs,
       half,
       l .inv .3,
-      gathered-taken net (s .pre .0) (s .pre .1) (l .words) (l .count) (l .word) (l .inv .4) (b .if1 .taken) (omega arith) (sym tried ∙ w .0 .taken ∙ half),
+      word-taken net (s .pre .0) (s .pre .1) (l .words) (l .count) (l .word) (l .inv .4) (b .if1 .taken) (omega arith) (sym tried ∙ w .0 .taken ∙ half),
     ))
     (λ w. rw (w .1, w .2) (
       l .inv .0,
       l .inv .1,
       half,
       l .inv .3,
-      gathered-left net (s .pre .0) (s .pre .1) (l .words) (l .count) (l .word) (l .inv .4) (b .if1 .taken) (λ e. w .0 .left (tried ∙ e ∙ sym half)),
+      word-left net (s .pre .0) (s .pre .1) (l .words) (l .count) (l .word) (l .inv .4) (b .if1 .taken) (λ e. w .0 .left (tried ∙ e ∙ sym half)),
     ))
     (c .if2 .came)
 
@@ -84,7 +84,7 @@ returns c =
     let l = c .before .before .loop in
     let s = c .before .before .before .before in
     let all : l .count ≡ s .args .net .nets = omega arith in
-    (l .inv .1, gathered-all (s .args .net) (s .pre .0) (s .pre .1) (l .words) (l .count) (l .word) (l .inv .4) all)
+    (l .inv .1, all-taken (s .args .net) (s .pre .0) (s .pre .1) (l .words) (l .count) (l .word) (l .inv .4) all)
 
 pub sequential-words-spec : {M : Type 1} → statement M
 sequential-words-spec =

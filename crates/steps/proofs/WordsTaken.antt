@@ -23,9 +23,9 @@ module _ (net : Network) where
     pub counted : length (passing (balanced net) word) ≡ count
     pub front : take count words ≡ passing (balanced net) word
 
-  pub gathered-none : (words : List ℕ) → WordsTaken words 0 0
+  pub none-taken : (words : List ℕ) → WordsTaken words 0 0
   unfolding passing
-  gathered-none words = record { inside = zero-le; counted = refl; front = refl }
+  none-taken words = record { inside = zero-le; counted = refl; front = refl }
 
   module _ (two : 2 ≤ net .nets) (most : net .nets ≤ 48) (words : List ℕ) (count word : ℕ) (so-far : WordsTaken words count word) where
     -- while words are missing there are numbers to try
@@ -35,8 +35,8 @@ module _ (net : Network) where
         let not-all : word ≡ 2 ^ word-length net → ⊥ = λ e. let c = rw e at (so-far .counted) in omega (arith, enough-words net two most) in
         omega (arith, so-far .inside, not-all)
 
-    pub gathered-taken : count < net .nets → count < length words → ones word ≡ word-length net / 2 → WordsTaken (set words count word) (count + 1) (word + 1)
-    gathered-taken l room e =
+    pub word-taken : count < net .nets → count < length words → ones word ≡ word-length net / 2 → WordsTaken (set words count word) (count + 1) (word + 1)
+    word-taken l room e =
         let low : word < 2 ^ word-length net = more-to-try l in
         let passes : balanced net word ≡ true = eq-eqb _ _ (ones-counted (word-length net) word low ∙ e) in
         rw (add-one count, add-one word) (record {
@@ -45,8 +45,8 @@ module _ (net : Network) where
           front = take-suc-set words count word room ∙ ap (λ (l : List ℕ). l ++ word ∷ []) (so-far .front) ∙ sym (passing-yes (balanced net) word passes);
         })
 
-    pub gathered-left : count < net .nets → (ones word ≡ word-length net / 2 → ⊥) → WordsTaken words count (word + 1)
-    gathered-left l d =
+    pub word-left : count < net .nets → (ones word ≡ word-length net / 2 → ⊥) → WordsTaken words count (word + 1)
+    word-left l d =
         let low : word < 2 ^ word-length net = more-to-try l in
         let fails : balanced net word ≡ false = ne-eqb _ _ (λ e. d (sym (ones-counted (word-length net) word low) ∙ e)) in
         rw (add-one word) (record {
@@ -55,9 +55,9 @@ module _ (net : Network) where
           front = so-far .front ∙ sym (passing-no (balanced net) word fails);
         })
 
-    pub gathered-all : count ≡ net .nets → take (net .nets) words ≡ sequential-words net
+    pub all-taken : count ≡ net .nets → take (net .nets) words ≡ sequential-words net
     unfolding sequential-words balanced-words
-    gathered-all e =
+    all-taken e =
         let c : length (passing (balanced net) word) ≡ net .nets = so-far .counted ∙ e in
         ap (λ (n : ℕ). take n words) (sym e) ∙ so-far .front ∙ sym (passing-front (balanced net) word (2 ^ word-length net) (so-far .inside))
         ∙ ap (λ (n : ℕ). take n (balanced-words (word-length net))) c
