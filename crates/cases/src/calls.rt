@@ -27,7 +27,8 @@ fn named(line: &[u8]) -> Call {
     if check::same(line, b"findings") {
         return Call::Findings;
     }
-    show::text(b"unreadable line\n");
+    show::unreadable();
+    show::end_line();
     Call::Unknown
 }
 
@@ -40,7 +41,7 @@ fn called(call: Call, line: &[u8]) {
         Call::Findings => finding::try_line(line),
         Call::Unknown => show::unreadable(),
     }
-    show::text(b"\n");
+    show::end_line();
 }
 
 // Tries a line, and returns the call that the next one makes.

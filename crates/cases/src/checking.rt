@@ -14,14 +14,14 @@ fn answer(checked: Checked) {
             show::number(b);
         }
         Checked::Refused(number) => {
-            show::entry(b" refused", number);
+            show::refusal(number);
         }
     }
 }
 
 fn try_check(nets: u64, class: u64, vectors: &[u64]) {
     show::set(b"check", nets, class, vectors);
-    show::text(b" ->");
+    show::arrow();
     answer(checker::check(Network { nets: nets }, class, vectors));
 }
 

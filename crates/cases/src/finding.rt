@@ -2,6 +2,7 @@
 ghost use Prim.Native.Nat.{_≤_};
 use findings::Finding;
 use network::Network;
+use tables::lent;
 use tables::read;
 use tables::read::END;
 use tables::read::MOST;
@@ -57,7 +58,7 @@ fn whole_table(net: Network, state: &[u64]) {
     let done = findings::by_value(net, state);
     let table = done.table;
     if done.code != 0 {
-        show::entry(b" refused", done.code);
+        show::refusal(done.code);
         rest(table, 0);
         return;
     }
@@ -70,7 +71,7 @@ fn whole_table(net: Network, state: &[u64]) {
 fn one_net(net: Network, i: u64, state: &[u64]) {
     let done = findings::by_value(net, state);
     if done.code != 0 {
-        show::entry(b" refused", done.code);
+        show::refusal(done.code);
         return;
     }
     if net.nets <= i {
@@ -88,8 +89,8 @@ fn one_net(net: Network, i: u64, state: &[u64]) {
 fn try_findings(nets: u64, state: &[u64]) {
     show::entry(b"findings", nets);
     show::text(b":");
-    show::words(state, b" reaches");
-    show::text(b"; lent 48 ->");
+    show::reaches(state);
+    lent::room(48);
     whole_table(Network { nets: nets }, state);
 }
 
@@ -97,8 +98,8 @@ fn try_finding(nets: u64, i: u64, state: &[u64]) {
     show::entry(b"finding", nets);
     show::entry(b" net", i);
     show::text(b":");
-    show::words(state, b" reaches");
-    show::text(b" ->");
+    show::reaches(state);
+    show::arrow();
     one_net(Network { nets: nets }, i, state);
 }
 

@@ -3,9 +3,8 @@ ghost use Prim.Native.Nat.{_≤_};
 use diagnosis::Diagnosed;
 use network::Network;
 use network::Responded;
+use tables::lent;
 use tables::lent::MARKER;
-use tables::lent::refused;
-use tables::lent::wrote;
 use tables::read;
 use tables::read::END;
 use tables::read::MOST;
@@ -14,16 +13,16 @@ use tables::show;
 // Makes the call *response from a state* and shows its answer and the lent list.
 fn respond(net: Network, class: u64, vectors: &[u64], state: &[u64], list: &mut [u64]) {
     match network::response_from_state(net, class, vectors, state, list) {
-        Responded::Wrote(count) => wrote(count, list),
-        Responded::Refused(number) => refused(number, list),
+        Responded::Wrote(count) => lent::wrote(count, list),
+        Responded::Refused(number) => lent::refused(number, list),
     }
 }
 
 // Makes the call *diagnosis* and shows its answer and the lent list.
 fn read_back(net: Network, class: u64, vectors: &[u64], responses: &[u64], list: &mut [u64]) {
     match diagnosis::diagnose(net, class, vectors, responses, list) {
-        Diagnosed::Wrote(count) => wrote(count, list),
-        Diagnosed::Refused(number) => refused(number, list),
+        Diagnosed::Wrote(count) => lent::wrote(count, list),
+        Diagnosed::Refused(number) => lent::refused(number, list),
     }
 }
 
@@ -45,15 +44,14 @@ fn try_call(back: bool, nets: u64, class: u64, vectors: &[u64], words: &[u64], r
 {
     if back {
         show::set(b"diagnosis", nets, class, vectors);
-        show::text(b";");
+        show::semicolon();
         show::words(words, b" responses");
     } else {
         show::set(b"response", nets, class, vectors);
-        show::text(b";");
-        show::words(words, b" reaches");
+        show::semicolon();
+        show::reaches(words);
     }
-    show::entry(b"; lent", room as u64);
-    show::text(b" ->");
+    lent::room(room);
     lend(back, Network { nets: nets }, class, vectors, words, room);
 }
 

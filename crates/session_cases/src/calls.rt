@@ -9,9 +9,8 @@ ghost use Prim.Native.Nat.{_≤_};
 ghost use lib.ListN.{length};
 use network::Network;
 use session::Session;
+use tables::lent;
 use tables::lent::MARKER;
-use tables::lent::refused;
-use tables::lent::wrote;
 use tables::read;
 use tables::read::END;
 use tables::read::MOST;
@@ -41,6 +40,10 @@ fn try_record(step: u64, nets: u64, first: u64, reach: u64, spent: u64) -> Sessi
     show::entry(b", reaches all", reach);
     show::entry(b", spent", spent);
     filled(step, nets, first, reach, spent)
+}
+
+fn answer_words(words: &[u64]) {
+    show::words(words, b" words");
 }
 
 // What an accepted call left: what the record waits for, or its reaches and the count spent.
@@ -74,10 +77,10 @@ fn accepted(after: Session, vectors: &[u64], list: &[u64]) {
     if vectors.len() == 0 {
         show::text(b" no words");
     }
-    wrote(vectors.len() as u64, list);
-    show::text(b";");
+    lent::wrote(vectors.len() as u64, list);
+    show::semicolon();
     standing(after);
-    show::text(b";");
+    show::semicolon();
     next(vectors);
 }
 
@@ -103,7 +106,7 @@ fn answered(after: Session, list: &[u64]) {
 fn begin_into(before: Session, nets: u64, list: &mut [u64]) -> Session {
     let done = session::by_value::begin(before, Network { nets: nets }, list);
     if done.code != 0 {
-        refused(done.code, list);
+        lent::refused(done.code, list);
     } else {
         begun(done.session, list);
     }
@@ -114,7 +117,7 @@ fn begin_into(before: Session, nets: u64, list: &mut [u64]) -> Session {
 fn first_into(before: Session, answers: &[u64], list: &mut [u64]) -> Session {
     let done = session::by_value::first_answers(before, answers, list);
     if done.code != 0 {
-        refused(done.code, list);
+        lent::refused(done.code, list);
     } else {
         answered(done.session, list);
     }
@@ -127,8 +130,7 @@ fn try_begin(before: Session, nets: u64, room: usize) -> Session
 {
     let mut list = [MARKER; 64];
     show::entry(b"begin", nets);
-    show::entry(b"; lent", room as u64);
-    show::text(b" ->");
+    lent::room(room);
     begin_into(before, nets, &mut list[0..room])
 }
 
@@ -138,25 +140,24 @@ fn try_first(before: Session, answers: &[u64], room: usize) -> Session
 {
     let mut list = [MARKER; 64];
     show::text(b"first answers:");
-    show::words(answers, b" words");
-    show::entry(b"; lent", room as u64);
-    show::text(b" ->");
+    answer_words(answers);
+    lent::room(room);
     first_into(before, answers, &mut list[0..room])
 }
 
 // The call *second answers*.
 fn try_second(before: Session, answers: &[u64]) -> Session {
     show::text(b"second answers:");
-    show::words(answers, b" words");
-    show::text(b" ->");
+    answer_words(answers);
+    show::arrow();
     let done = session::by_value::second_answers(before, answers);
     let after = done.session;
     if done.code != 0 {
-        show::entry(b" refused", done.code);
+        show::refusal(done.code);
         return after;
     }
     standing(after);
-    show::text(b";");
+    show::semicolon();
     next(session::drive::to_drive(after, answers, answers));
     after
 }
@@ -164,10 +165,10 @@ fn try_second(before: Session, answers: &[u64]) -> Session {
 // The vectors to drive next, of these two lists.
 fn try_drive<'a>(before: Session, first: &'a [u64], second: &'a [u64]) {
     show::text(b"lists:");
-    show::words(first, b" words");
-    show::text(b";");
-    show::words(second, b" words");
-    show::text(b" ->");
+    answer_words(first);
+    show::semicolon();
+    answer_words(second);
+    show::arrow();
     next(session::drive::to_drive(before, first, second));
 }
 

@@ -13,7 +13,8 @@ fn begun(line: &[u8]) -> Session {
     if check::same(line, b"session") {
         show::text(b"session\n");
     } else {
-        show::text(b"unreadable line\n");
+        show::unreadable();
+        show::end_line();
     }
     calls::junk()
 }
@@ -21,7 +22,7 @@ fn begun(line: &[u8]) -> Session {
 // Makes the call that a line gives, and returns the record after it.
 fn called(before: Session, line: &[u8]) -> Session {
     let after = calls::try_line(before, line);
-    show::text(b"\n");
+    show::end_line();
     after
 }
 

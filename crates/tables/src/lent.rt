@@ -4,6 +4,12 @@ use crate::show;
 // What each entry of a lent list holds before the call.
 pub const MARKER: u64 = 99;
 
+// The length of the list that a call is lent, the last of what it was given.
+pub fn room(length: usize) {
+    show::entry(b"; lent", length as u64);
+    show::arrow();
+}
+
 // Whether each word of a list from index `from` on is the marker.
 fn all_marked(list: &[u64], from: usize) -> bool {
     let mut i = from;
@@ -37,6 +43,6 @@ pub fn wrote(count: u64, list: &[u64]) {
 
 // A refusal.
 pub fn refused(number: u64, list: &[u64]) {
-    show::entry(b" refused", number);
+    show::refusal(number);
     rest(list, 0);
 }

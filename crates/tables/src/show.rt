@@ -12,6 +12,20 @@ pub fn unreadable() {
     text(b"unreadable line");
 }
 
+pub fn end_line() {
+    text(b"\n");
+}
+
+// Between two parts of a line.
+pub fn semicolon() {
+    text(b";");
+}
+
+// Between what a call was given and what it answered.
+pub fn arrow() {
+    text(b" ->");
+}
+
 // A number with a space before it.
 pub fn number(n: u64) {
     text(b" ");
@@ -22,6 +36,10 @@ pub fn number(n: u64) {
 pub fn entry(name: &[u8], n: u64) {
     text(name);
     number(n);
+}
+
+pub fn refusal(number: u64) {
+    entry(b" refused", number);
 }
 
 // The words of a list from index `from` on, up to index `end` and without it.
@@ -49,6 +67,11 @@ pub fn words(list: &[u64], name: &[u8]) {
         return;
     }
     part(list, 0, list.len());
+}
+
+// The reaches of a wiring state.
+pub fn reaches(state: &[u64]) {
+    words(state, b" reaches");
 }
 
 // The name of a call, n, k and the vectors.

@@ -8,11 +8,8 @@ use Rattle.cases.proofs.finding.one_net.Tie as tie
 by-value-requires : tie.Need-by-value-requires
 by-value-requires c κs = search needs
 
-slice-aggregate-entry : tie.Need-slice-aggregate-entry
-slice-aggregate-entry c = search needs
-
-entry-requires : tie.Need-entry-requires
-entry-requires c κs = search needs
+refusal-requires : tie.Need-refusal-requires
+refusal-requires c κs = search needs
 
 returns : tie.Need-returns
 returns c = search needs
@@ -41,6 +38,12 @@ mul-finding c = omega (arith, in-table c)
 array-copy-out-finding : tie.Need-array-copy-out-finding
 array-copy-out-finding c = in-table c
 
+slice-aggregate-entry : tie.Need-slice-aggregate-entry
+slice-aggregate-entry c = search needs
+
+entry-requires : tie.Need-entry-requires
+entry-requires c κs = search needs
+
 slice-aggregate-entry-2 : tie.Need-slice-aggregate-entry-2
 slice-aggregate-entry-2 c = search needs
 
@@ -53,12 +56,6 @@ slice-aggregate-entry-3 c = search needs
 entry-requires-3 : tie.Need-entry-requires-3
 entry-requires-3 c κs = search needs
 
-slice-aggregate-entry-4 : tie.Need-slice-aggregate-entry-4
-slice-aggregate-entry-4 c = search needs
-
-entry-requires-4 : tie.Need-entry-requires-4
-entry-requires-4 c κs = search needs
-
 returns-3 : tie.Need-returns-3
 returns-3 c = search needs
 
@@ -67,18 +64,17 @@ one-net-spec =
     tie.close
     (tie.spec
     by-value-requires
-    slice-aggregate-entry
-    entry-requires
+    refusal-requires
     returns
     slice-aggregate-text
     text-requires
     returns-2
     mul-finding
     array-copy-out-finding
+    slice-aggregate-entry
+    entry-requires
     slice-aggregate-entry-2
     entry-requires-2
     slice-aggregate-entry-3
     entry-requires-3
-    slice-aggregate-entry-4
-    entry-requires-4
     returns-3)

@@ -7,11 +7,8 @@ use Rattle.cases.proofs.finding.whole_table.Tie as tie
 by-value-requires : tie.Need-by-value-requires
 by-value-requires c κs = search needs
 
-slice-aggregate-entry : tie.Need-slice-aggregate-entry
-slice-aggregate-entry c = search needs
-
-entry-requires : tie.Need-entry-requires
-entry-requires c κs = search needs
+refusal-requires : tie.Need-refusal-requires
+refusal-requires c κs = search needs
 
 rest-requires : tie.Need-rest-requires
 rest-requires c κs = search needs
@@ -40,8 +37,7 @@ whole-table-spec =
     tie.close
     (tie.spec
     by-value-requires
-    slice-aggregate-entry
-    entry-requires
+    refusal-requires
     rest-requires
     returns
     records-requires
