@@ -11,6 +11,7 @@ pub mod Exactness
 pub mod JobFilesExact
 pub mod Sessions
 pub mod DemandThree
+pub mod ThroughC
 pub mod DemandOne
 pub mod Reporting
 pub mod DrivesAlike

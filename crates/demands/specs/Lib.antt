@@ -7,6 +7,7 @@ pub mod JobFiles
 pub mod Demand1
 pub mod Reports
 pub mod Programs
+pub mod ThroughC
 pub mod Determined
 pub mod Refuted
 pub mod Starred

@@ -4,7 +4,7 @@ use Prim.Native.Nat.{ℕ, _+_, _-_}
 use mathlib.Core.Path.{_≡_, sym, ap, ap₂, _∙_}
 use mathlib.Core.List.{List, [], _∷_, _++_, append-assoc, append-nil}
 use lib.ListN.{length, take, drop, length-append, length-drop, take-append-drop, drop-of-length-le}
-use lib.Seq.{take-all, drop-drop, drop-cons}
+use lib.Seq.{take-all, drop-drop, drop-cons, length-take-le, take-at, drop-at, getD-at}
 use Rattle.words.specs.Bits.{at}
 use Rattle.words.specs.Answers.{full, lent-after}
 use Rattle.words.specs.Writing.{written}
@@ -62,3 +62,51 @@ session-there words e =
     ∙ ap (λ (rest : List ℕ). take 8 (drop 2 words) ++ (take 48 (drop 10 words) ++ rest)) (sym spent)
     ∙ ap (λ (rest : List ℕ). take 8 (drop 2 words) ++ rest) reaches ∙ first in
     ap (λ (rest : List ℕ). at words 0 ∷ at words 1 ∷ rest) tail ∙ ap (λ (rest : List ℕ). at words 0 ∷ rest) (sym nets) ∙ sym step
+
+-- ---- a record with arrays of 8 and 48 words
+
+pub record Sized (session : Session) : Type 0 where
+  pub first-size : length (session .first) ≡ 8
+  pub reaches-size : length (session .reaches) ≡ 48
+
+-- the record that 59 words are is such
+pub session-sized : (words : List ℕ) → length words ≡ session-size → Sized (session-of words)
+unfolding session-of
+session-sized words e = record {
+  first-size = length-take-le 8 (drop 2 words) (omega (arith, length-drop 2 words));
+  reaches-size = length-take-le 48 (drop 10 words) (omega (arith, length-drop 10 words));
+}
+
+module _ (session : Session) (sized : Sized session) where
+  pub words-size : length (session-words session) ≡ session-size
+  unfolding session-words
+  words-size =
+      let lists = length-append (session .first) (session .reaches) in
+      let all = length-append (session .first ++ session .reaches) (session .spent ∷ []) in
+      omega (arith, sized .first-size, sized .reaches-size)
+
+  -- the record that its words are
+  pub session-back : session-of (session-words session) ≡ session
+  unfolding session-words session-of
+  session-back j = record {
+    step = session .step;
+    network = session .network;
+    first = first-back j;
+    reaches = reaches-back j;
+    spent = getD-at (session .first ++ session .reaches) (session .spent) [] 0 56 lists-size j;
+  }
+    where
+      lists-size : length (session .first ++ session .reaches) ≡ 56
+      lists-size = length-append (session .first) (session .reaches) ∙ omega (arith, sized .first-size, sized .reaches-size)
+
+      apart : session .first ++ session .reaches ++ session .spent ∷ [] ≡ session .first ++ (session .reaches ++ session .spent ∷ [])
+      apart = append-assoc (session .first) (session .reaches) (session .spent ∷ [])
+
+      first-back : take 8 (session .first ++ session .reaches ++ session .spent ∷ []) ≡ session .first
+      first-back = ap (take 8) apart ∙ take-at (session .first) (session .reaches ++ session .spent ∷ []) 8 (sized .first-size)
+
+      reaches-back : take 48 (drop 8 (session .first ++ session .reaches ++ session .spent ∷ [])) ≡ session .reaches
+      reaches-back =
+          ap (λ (l : List ℕ). take 48 (drop 8 l)) apart
+          ∙ ap (take 48) (drop-at (session .first) (session .reaches ++ session .spent ∷ []) 8 (sized .first-size))
+          ∙ take-at (session .reaches) (session .spent ∷ []) 48 (sized .reaches-size)

@@ -7,7 +7,7 @@ use Prim.Native.Nat.{ℕ, zero, suc, _-_, _≤_, _<_}
 use native.Mathlib.Nat.{le-refl}
 use native.Mathlib.Omega.{arith}
 use lib.Dec.{eqb}
-use lib.ListN.{length, getD, take, length-drop, drop, replicate, length-append, length-replicate, getD-replicate, take-append-drop}
+use lib.ListN.{length, getD, take, length-drop, drop, replicate, length-replicate, getD-replicate, take-append-drop}
 use lib.Seq.{take-all, ext-getD, take-at, drop-at, length-take-le}
 use borrow.Author.Tests.{eqb-true, eqb-false, eq-eqb, ne-eqb, not-true, not-false}
 use Rattle.words.specs.Bits.{at}
@@ -22,6 +22,7 @@ use Rattle.steps.specs.SecondStep.{unclear}
 use Rattle.steps.proofs.StepOneWords.{length-bounds}
 use Rattle.session.specs.declared.Session.{Session}
 use Rattle.session.specs.Record.{first-answers-held, pad, awaiting-first, awaiting-second, is-zeros, all-hold, held-answers, awaits-first, awaits-second}
+use Rattle.session.proofs.Padding.{pad-size}
 
 -- ---- words that are all 0
 
@@ -119,9 +120,7 @@ pub awaits-second-of : (net : Network) (answers : List ℕ) → bad-net-count ne
     → has-high-bit net answers ≡ false → length (unclear net answers) ≢ 0 → awaits-second (awaiting-second net answers) ≡ true
 unfolding awaits-second all-hold
 awaits-second-of net answers count e l high some =
-    let size : length (pad 8 answers) ≡ 8 =
-    length-append answers (replicate (8 - length answers) 0) ∙ omega (arith, length-replicate {A = ℕ} (8 - length answers) 0)
-    in
+    let size : length (pad 8 answers) ≡ 8 = pad-size 8 answers (omega arith) in
     let rest : drop (word-length net) (pad 8 answers) ≡ replicate (8 - word-length net) 0 =
     drop-at answers (replicate (8 - length answers) 0) (word-length net) e ∙ ap (λ (n : ℕ). replicate (8 - n) 0) e
     in

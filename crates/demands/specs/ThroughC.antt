@@ -1,0 +1,52 @@
+-- The session's calls through the C interface, one after the other: 59 words go through them as the record that they are does.
+use Prim.Native.Nat.{ℕ}
+use mathlib.Core.Path.{_≡_}
+use mathlib.Core.List.{List, [], _∷_}
+use lib.ListN.{length}
+use Rattle.words.specs.Answers.{Answer, lent-after}
+use Rattle.session.specs.declared.Session.{Session}
+use Rattle.packing.specs.Packed.{session-size, session-of}
+use Rattle.exports.specs.Exported.{code, begin-exported, first-exported, second-exported, session-begun, session-first, session-second, drive-count}
+use Rattle.demands.specs.SessionCalls.{Call, begin, first, second, lent, record-after}
+use Rattle.demands.specs.Programs.{our-sessions, our-drive}
+
+-- what one exported call did: the number that it returned, the list lent for vectors after it, the session's words after it
+pub record DidInWords : Type 0 where
+  pub returned : ℕ
+  pub list : List ℕ
+  pub session : List ℕ
+
+-- by the contracts of the C interface: the answer, and the session's words if it is accepted
+abbrev pub exported-answer : List ℕ → Call → Answer (List ℕ)
+exported-answer words (begin net list) = begin-exported words (net .nets) (length list)
+exported-answer words (first answers list) = first-exported words answers (length list)
+exported-answer words (second answers) = second-exported words answers
+
+abbrev pub exported-session : List ℕ → Call → Answer (List ℕ)
+exported-session words (begin net list) = session-begun words (net .nets) (length list)
+exported-session words (first answers list) = session-first words answers (length list)
+exported-session words (second answers) = session-second words answers
+
+abbrev pub exported : List ℕ → Call → DidInWords
+exported words call = record {
+  returned = code (exported-answer words call);
+  list = lent-after (exported-answer words call) (lent call);
+  session = lent-after (exported-session words call) words;
+}
+
+-- the session's words after a list of calls, each with the words as the one before left them
+abbrev pub words-after : List ℕ → List Call → List ℕ
+words-after words [] = words
+words-after words (call ∷ calls) = words-after (exported words call .session) calls
+
+-- After a list of calls they are the words of the record that the calls leave, and a further call returns and writes what it does on that record.
+pub record SameInWords (words : List ℕ) (start : Session) (calls : List Call) : Type 0 where
+  pub size : length (words-after words calls) ≡ session-size
+  pub session : session-of (words-after words calls) ≡ record-after our-sessions start calls
+  pub returned : (call : Call) → exported (words-after words calls) call .returned ≡ code (our-sessions (record-after our-sessions start calls) call .answer)
+  pub list : (call : Call) → exported (words-after words calls) call .list ≡ our-sessions (record-after our-sessions start calls) call .list
+  pub drive : (one two : List ℕ) → drive-count (words-after words calls) one two ≡ length (our-drive (record-after our-sessions start calls) one two)
+
+-- from any 59 words, over every list of calls
+abbrev pub ThroughC : Type 0
+ThroughC = (words : List ℕ) → length words ≡ session-size → (calls : List Call) → SameInWords words (session-of words) calls
