@@ -3,8 +3,8 @@
 use crate::checking;
 use crate::finding;
 use crate::responding;
-use tables::Line;
-use tables::show;
+use trials::Line;
+use trials::show;
 
 enum Call {
     Unknown,
@@ -46,7 +46,7 @@ fn called(call: Call, line: &[u8]) {
 
 // Tries a line, and returns the call that the next one makes.
 fn try_line(call: Call, line: &[u8]) -> Call {
-    match tables::kind_of(line) {
+    match trials::kind_of(line) {
         Line::Skipped => {}
         Line::Name => return named(line),
         Line::Call => called(call, line),

@@ -1,10 +1,10 @@
 // The call *check*.
 use checker::Checked;
 use network::Network;
-use tables::read;
-use tables::read::END;
-use tables::read::MOST;
-use tables::show;
+use trials::read;
+use trials::read::END;
+use trials::read::MOST;
+use trials::show;
 
 fn answer(checked: Checked) {
     match checked {

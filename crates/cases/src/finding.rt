@@ -2,11 +2,11 @@
 ghost use Prim.Native.Nat.{_≤_};
 use findings::Finding;
 use network::Network;
-use tables::lent;
-use tables::read;
-use tables::read::END;
-use tables::read::MOST;
-use tables::show;
+use trials::lent;
+use trials::read;
+use trials::read::END;
+use trials::read::MOST;
+use trials::show;
 
 // Whether a record is as it was lent.
 fn is_blank(finding: Finding) -> bool {

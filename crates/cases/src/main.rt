@@ -8,6 +8,6 @@ mod responding;
 
 fn main() {
     let mut buffer = io::large_buffer();
-    let count = tables::input(&mut buffer);
+    let count = trials::input(&mut buffer);
     calls::try_each(&buffer[..count]);
 }

@@ -3,12 +3,12 @@ ghost use Prim.Native.Nat.{_≤_};
 use diagnosis::Diagnosed;
 use network::Network;
 use network::Responded;
-use tables::lent;
-use tables::lent::MARKER;
-use tables::read;
-use tables::read::END;
-use tables::read::MOST;
-use tables::show;
+use trials::lent;
+use trials::lent::MARKER;
+use trials::read;
+use trials::read::END;
+use trials::read::MOST;
+use trials::show;
 
 // Makes the call *response from a state* and shows its answer and the lent list.
 fn respond(net: Network, class: u64, vectors: &[u64], state: &[u64], list: &mut [u64]) {

@@ -107,7 +107,7 @@ module _ (net : Network) (k : ℕ) (two : 2 ≤ net .nets) where
   unfolding shown-state
   shown-later set i = ⊎-elim (getD-replicate (net .nets - 1) i 0 0) (λ l. List·getD-eq-default (replicate (net .nets - 1) 0) 0 (rw length-replicate l)) (less-or-not i (net .nets - 1))
 
-  pub shown-size : (set : ℕ) → length (shown-state net set) ≡ net .nets
+  shown-size : (set : ℕ) → length (shown-state net set) ≡ net .nets
   unfolding shown-state
   shown-size set = let h = length-replicate {A = ℕ} (net .nets - 1) 0 in omega arith
 

@@ -70,7 +70,7 @@ module _ (net : Network) (k : ℕ) (vectors : List ℕ) where
         go (Found x) (first a b c g) q = let same : x ≡ m = cc in let n = stored .counted in omega (arith, length-read)
         go Missing r q = let z : _≡_ {A = ℕ} 0 1 = cc in absurd (omega arith)
 
-    pub stored-found : (m : ℕ) → set < 2 ^ (net .nets) → position (reads-as set) (take count responses) ≡ Found m
+    stored-found : (m : ℕ) → set < 2 ^ (net .nets) → position (reads-as set) (take count responses) ≡ Found m
         → smaller-alike net k vectors set ≡ Found (at sets m)
     stored-found m l e = go (position (reads-as set) (take count responses)) (position-is (reads-as set) (take count responses)) e
       where
@@ -88,7 +88,7 @@ module _ (net : Network) (k : ℕ) (vectors : List ℕ) where
             ∙ ap Found (ap (at (sets-of-class k set)) same ∙ here)
         go Missing r q = let z : _≡_ {A = ℕ} 0 1 = cc in absurd (omega arith)
 
-    pub stored-missing : set < 2 ^ (net .nets) → position (reads-as set) (take count responses) ≡ Missing → smaller-alike net k vectors set ≡ Missing
+    stored-missing : set < 2 ^ (net .nets) → position (reads-as set) (take count responses) ≡ Missing → smaller-alike net k vectors set ≡ Missing
     stored-missing l e = go (position (reads-as set) (take count responses)) (position-is (reads-as set) (take count responses)) e
       where
         go : (s : Search) → Least (λ t. eqb (at (take count responses) t) (reads-as set)) 0 (length (take count responses)) s → s ≡ Missing

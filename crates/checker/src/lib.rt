@@ -1,7 +1,7 @@
 // The checker: whether a test set tells the wiring states of a class apart.
 ghost use mathlib.Core.Path.{_≡_};
-ghost use Prim.Native.Nat.{_<_, _≤_};
 ghost use mathlib.Core.Logic.{_⊎_};
+ghost use Prim.Native.Nat.{_<_, _≤_};
 ghost use lib.ListN.{length};
 ghost use Rattle.checker.specs.Rule.{verdict};
 ghost use Rattle.checker.specs.Check.{«check-answer», meaning};

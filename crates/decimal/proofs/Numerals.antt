@@ -16,7 +16,7 @@ abbrev pub higher : ℕ → ℕ → List ℕ
 higher most n = cond (eqb n 0) [] (digits most n)
 
 -- a number is its higher digits and then its last one
-pub digits-step : (most n : ℕ) → digits (suc most) n ≡ higher most (n / 10) ++ digit-byte (n % 10) ∷ []
+digits-step : (most n : ℕ) → digits (suc most) n ≡ higher most (n / 10) ++ digit-byte (n % 10) ∷ []
 unfolding digits
 digits-step most n = go (ltb n 10) refl
   where
@@ -30,11 +30,11 @@ digits-step most n = go (ltb n 10) refl
         let l = ltb-false n 10 e in
         let q : n / 10 ≢ 0 = λ z. (omega arith) in rw (ne-eqb (n / 10) 0 q)
 
-pub higher-step : (most n : ℕ) → n ≢ 0 → higher (suc most) n ≡ higher most (n / 10) ++ digit-byte (n % 10) ∷ []
+higher-step : (most n : ℕ) → n ≢ 0 → higher (suc most) n ≡ higher most (n / 10) ++ digit-byte (n % 10) ∷ []
 higher-step most n d = rw (ne-eqb n 0 d) (digits-step most n)
 
 -- the list from an entry on, after that entry is set
-pub drop-set : (list : List ℕ) (i x : ℕ) → i < length list → drop i (set list i x) ≡ x ∷ drop (suc i) list
+drop-set : (list : List ℕ) (i x : ℕ) → i < length list → drop i (set list i x) ≡ x ∷ drop (suc i) list
 drop-set [] i x l = absurd (not-suc-le-zero l)
 drop-set (y ∷ list) zero x l = refl
 drop-set (y ∷ list) (suc i) x l = drop-set list i x (le-of-suc-le-suc l)

@@ -1,4 +1,4 @@
-// Numbers as text in base ten. Helpers: each asks that the text has room.
+// Numbers as text in base ten. Helpers between crates: each asks that the text has room.
 ghost use mathlib.Core.Path.{_≡_};
 ghost use mathlib.Core.List.{_++_};
 ghost use Prim.Native.Nat.{_+_, _*_, _≤_};
@@ -46,7 +46,7 @@ pub fn put_decimal(text: &mut [u8], at: usize, n: u64) -> usize
 }
 
 // A space and a number into a text from an index on; returns the index past them.
-pub fn put_number(text: &mut [u8], at: usize, n: u64) -> usize
+fn put_spaced(text: &mut [u8], at: usize, n: u64) -> usize
     requires { ⌜ at + 21 ≤ length (now text) ⌝ }
     ensures { λ r. ⌜ (r ≡ at + length (spaced n)) × (now (text .exit) ≡ written (now (text .entry)) at (spaced n)) ⌝ }
 {
@@ -62,7 +62,7 @@ pub fn put_numbers(text: &mut [u8], at: usize, numbers: &[u64]) -> usize
     let mut end = at;
     let mut i: usize = 0;
     while i < numbers.len() {
-        end = put_number(text, end, numbers[i]);
+        end = put_spaced(text, end, numbers[i]);
         i += 1;
     }
     put_bytes(text, end, b"\n");

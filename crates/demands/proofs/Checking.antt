@@ -50,7 +50,7 @@ module _ (net : Network) (k : ℕ) (vectors : List ℕ) (none : NoneHolds (SetRo
         shows = λ c d e. let p : a ≡ c = cc in let q : b ≡ d = cc in rw (p, q) at both;
       }
 
-pub rule-checks : (p : CheckProgram) → ChecksByRule p → Checks p
+rule-checks : (p : CheckProgram) → ChecksByRule p → Checks p
 rule-checks p h net k vectors =
     table-implies (Rule net k vectors) (Judged net k vectors) (SetRows net k vectors) (p net k vectors)
     (λ none v r. let s = admitted-set net k vectors none in judged net k vectors none v (rule-shows net k vectors v (s .two) (s .narrow) r)) (h net k vectors)

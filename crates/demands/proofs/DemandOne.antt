@@ -21,8 +21,8 @@ use Rattle.steps.specs.SecondStep.{unclear, second-vectors}
 use Rattle.session.specs.declared.Session.{Session}
 use Rattle.session.specs.Record.{held-answers, awaits-first, awaits-second}
 use Rattle.session.proofs.Records.{held-of}
-use Rattle.writer.specs.Writer.{file-of}
 use Rattle.reader.specs.Reader.{JobContent, content, vectors-read, responses-read, counted}
+use Rattle.writer.specs.Writer.{file-of}
 use Rattle.demands.specs.SessionCalls.{Call, begin, first, second, lent, History, none, waits-first, waits-second, finished-first, finished-second, after-first, accepted, extended, record-after, history-from, history, LeftBy, Awaits, FitsAnswers}
 use Rattle.demands.specs.SessionRecords.{WaitsFor}
 use Rattle.demands.specs.Demand3.{BeginRows, Written, second-words}
@@ -32,7 +32,7 @@ use Rattle.demands.proofs.Responding.{responds}
 use Rattle.demands.proofs.Diagnosing.{diagnoses}
 use Rattle.demands.proofs.Findings.{finds}
 use Rattle.demands.proofs.Checking.{checks-by-rule}
-use Rattle.demands.proofs.JobFilesExact.{writes, reads-files}
+use Rattle.demands.proofs.JobFiles.{writes, reads-files}
 use Rattle.demands.proofs.Telling.{Tells, first-refused, second-refused, begin-by-table, step-of, is-begun, step-told}
 use Rattle.demands.proofs.Sessions.{goes-through, left-tells, row-four, call-by-table, drives}
 

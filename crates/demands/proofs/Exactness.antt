@@ -2,7 +2,7 @@
 use mathlib.Core.Path.{_≡_, refl, sym, ap, ap₂, _∙_, subst}
 use mathlib.Core.Bool.{Bool, true, false, not, cond, _&&_, _||_, false≢true}
 use mathlib.Core.Logic.{_≢_, inl, inr, ⊎-elim}
-use mathlib.Core.List.{List, [], _∷_, _++_}
+use mathlib.Core.List.{List, [], _∷_}
 use Prim.Native.Nat.{ℕ, _%_, _^_, _≤_, _<_}
 use native.Mathlib.Nat.{not-suc-le-zero}
 use native.Mathlib.Omega.{arith}
@@ -11,47 +11,21 @@ use lib.ListN.{length, take}
 use lib.Pow.{pow-mono}
 use borrow.Author.Tests.{eqb-true, le-ltb, not-false}
 use Rattle.words.specs.Bits.{at}
-use Rattle.words.specs.Answers.{refused, full, by-tests}
+use Rattle.words.specs.Answers.{full, by-tests}
 use Rattle.words.proofs.Tests.{equal-if-not-unequal}
-use Rattle.words.proofs.Answers.{refused-not-full}
+use Rattle.words.proofs.Answers.{AllFail, none-passed, full-answer}
 use Rattle.network.specs.declared.Network.{Network}
-use Rattle.network.specs.Rows.{bad-vector-count, has-high-bit, bad-response-count, no-room, set-tests}
+use Rattle.network.specs.Rows.{bad-vector-count, has-high-bit, bad-response-count, no-room}
 use Rattle.network.proofs.Rows.{decides-row-5, decides-row-7, decides-high-bit, nets-admitted, vectors-admitted, no-high-bit}
 use Rattle.jobfile.specs.Bytes.{AllBytes}
 use Rattle.jobfile.specs.Layout.{mark, entry-count, body-length, same-bytes, bad-mark, bad-layout, bad-bodies, file-network, file-class, body-words, has-responses, file-responses}
-use Rattle.writer.specs.Writer.{file-of, given, writer-tests, write-answer}
-use Rattle.reader.specs.Reader.{JobContent, content, file-tests, list-tests, read-answer}
-use Rattle.writer.proofs.WriterLaws.{responses-most}
 use Rattle.jobfile.proofs.FileRows.{same-if-equal, decides-same-bytes, test→layout, layout→test, decides-row-3}
-use Rattle.demands.proofs.MadeFile.{Admitted, mark-made, layout-made, bodies-pass, content-made, given-made}
+use Rattle.reader.specs.Reader.{JobContent, content, reader-tests, read-answer}
+use Rattle.reader.proofs.Bodies.{responses-given, responses-missing}
+use Rattle.writer.specs.Writer.{file-of, given, writer-tests, write-answer}
+use Rattle.writer.proofs.WriterLaws.{responses-most}
+use Rattle.demands.proofs.MadeFile.{AdmittedContent, mark-made, layout-made, bodies-pass, content-made, given-made}
 use Rattle.demands.proofs.StandingFile.{AdmittedFile, two-entries-stand, three-entries-stand}
-
--- ---- a full answer, and tests that all fail
-
-abbrev AllFail : List (ℕ × Bool) → Type 0
-AllFail [] = Unit {0}
-AllFail ((number, test) ∷ tests) = (test ≡ false) × AllFail tests
-
--- a full answer is the result, and no test passed
-none-passed : {A : Type 0} (tests : List (ℕ × Bool)) (x y : A) → by-tests tests x ≡ full y → AllFail tests × (x ≡ y)
-unfolding by-tests
-none-passed [] x y e = (tt, cc)
-none-passed ((number, test) ∷ tests) x y e = go test e (none-passed tests x y)
-  where
-    go : (t : Bool) → cond t (refused number) (by-tests tests x) ≡ full y → (by-tests tests x ≡ full y → AllFail tests × (x ≡ y))
-        → ((t ≡ false) × AllFail tests) × (x ≡ y)
-    go true q later = refused-not-full refl q
-    go false q later = let r = later q in ((refl, r .0), r .1)
-
-full-answer : {A : Type 0} (tests : List (ℕ × Bool)) (x : A) → AllFail tests → by-tests tests x ≡ full x
-unfolding by-tests
-full-answer [] x h = refl
-full-answer ((number, test) ∷ tests) x (e, h) = rw e (full-answer tests x h)
-
--- the reader's tests of a file, with this content
-abbrev reader-tests : List ℕ → JobContent → (vectors-room responses-room : ℕ) → List (ℕ × Bool)
-reader-tests file job vectors-room responses-room =
-    file-tests file ++ set-tests (job .network) (job .class) (job .vectors) ++ list-tests file job vectors-room responses-room
 
 -- ---- the writer's file, read
 
@@ -68,7 +42,7 @@ given-fit net [] most e t l = absurd (not-suc-le-zero l)
 given-fit net (word ∷ words) most e t l = words-fit net (word ∷ words) most e t l
 
 module _ (net : Network) (k : ℕ) (vectors responses : List ℕ) (room : ℕ) where
-  admitted : AllFail (writer-tests net k vectors responses room) → Admitted vectors responses
+  admitted : AllFail (writer-tests net k vectors responses room) → AdmittedContent vectors responses
   admitted (t5, (t6, (t7, (t8, (t9, (t10, t12)))))) =
       let nets = nets-admitted net (decides-row-5 net .1 t5) in
       let most = vectors-admitted vectors (decides-row-7 vectors .1 t7) in
@@ -133,12 +107,10 @@ module _ (file : List ℕ) where
   third-there e = given-if (has-responses file) (body-words file 2) e
 
   no-third : entry-count file ≡ 2 → file-responses file ≡ []
-  unfolding file-responses
-  no-third q = ap (λ (n : ℕ). cond (eqb n 3) (body-words file 2) []) q
+  no-third q = responses-missing file (ap (λ (n : ℕ). eqb n 3) q)
 
   third-read : entry-count file ≡ 3 → file-responses file ≡ body-words file 2
-  unfolding file-responses
-  third-read q = ap (λ (n : ℕ). cond (eqb n 3) (body-words file 2) []) q
+  third-read q = responses-given file (ap (λ (n : ℕ). eqb n 3) q)
 
   -- where rows 7 and 9 do not hold, a third body has words
   some-responses : bad-vector-count (body-words file 1) ≡ false → has-responses file && bad-response-count (length (body-words file 1)) (length (file-responses file)) ≡ false

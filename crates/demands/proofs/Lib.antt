@@ -8,7 +8,7 @@ pub mod ReadBytes
 pub mod MadeFile
 pub mod StandingFile
 pub mod Exactness
-pub mod JobFilesExact
+pub mod JobFiles
 pub mod Sessions
 pub mod DemandThree
 pub mod ThroughC

@@ -12,14 +12,14 @@ use lib.Seq.{drop-at, drop-drop, getD-drop}
 use Rattle.words.specs.Bits.{at}
 use Rattle.words.proofs.Tests.{test-fails}
 use Rattle.network.specs.declared.Network.{Network}
-use Rattle.jobfile.specs.Bytes.{bytes-of, word-bytes}
+use Rattle.jobfile.specs.Bytes.{bytes-of, word-bytes, words-at}
 use Rattle.jobfile.specs.Layout.{mark, entry-count, bodies-at, entry-kind, body-offset, body-length, Layout, bad-bodies, file-network, file-class, body-words, has-responses, file-responses}
-use Rattle.writer.specs.Writer.{entries-for, head-of, file-of, given}
-use Rattle.reader.specs.Reader.{content}
 use Rattle.jobfile.proofs.ByteLaws.{word-bytes-count}
-use Rattle.writer.proofs.WriterLaws.{entries-range, head-size, file-size}
 use Rattle.jobfile.proofs.FileRows.{decides-row-3}
-use Rattle.demands.proofs.ReadBytes.{words-at, number-read, words-read}
+use Rattle.reader.specs.Reader.{content}
+use Rattle.writer.specs.Writer.{entries-for, head-of, file-of, given}
+use Rattle.writer.proofs.WriterLaws.{entries-range, head-size, file-size}
+use Rattle.demands.proofs.ReadBytes.{number-read, words-read}
 
 -- ---- a fact at each number below one, two and three
 
@@ -38,13 +38,13 @@ below-three P p q r (suc i) l = below-two (λ j. P (suc j)) q r i (le-of-suc-le-
 -- ---- its entries and its bodies
 
 -- content that the writer's rows admit
-pub record Admitted (vectors responses : List ℕ) : Type 0 where
+pub record AdmittedContent (vectors responses : List ℕ) : Type 0 where
   pub vectors-most : length vectors ≤ 64
   pub responses-most : length responses ≤ 64
   pub vectors-fit : (t : ℕ) → t < length vectors → at vectors t < 256 ^ 8
   pub responses-fit : (t : ℕ) → t < length responses → at responses t < 256 ^ 8
 
-module _ (net : Network) (k : ℕ) (vectors responses : List ℕ) (h : Admitted vectors responses) where
+module _ (net : Network) (k : ℕ) (vectors responses : List ℕ) (h : AdmittedContent vectors responses) where
   abbrev made : List ℕ
   made = file-of net k vectors responses
 
@@ -129,7 +129,7 @@ module _ (net : Network) (k : ℕ) (vectors responses : List ℕ) (h : Admitted 
   vectors-made = words-made 1 (start + 2) vectors (word-bytes responses) offset-1 length-1 vectors-stand (h .vectors-fit)
 
 -- with no responses
-module _ (net : Network) (k : ℕ) (vectors : List ℕ) (h : Admitted vectors []) where
+module _ (net : Network) (k : ℕ) (vectors : List ℕ) (h : AdmittedContent vectors []) where
   abbrev short : List ℕ
   short = file-of net k vectors []
 
@@ -160,7 +160,7 @@ module _ (net : Network) (k : ℕ) (vectors : List ℕ) (h : Admitted vectors []
       below-two (λ i. 0 < i → body-length short i % 8 ≡ 0) (λ l. absurd (not-suc-le-zero l)) (λ _. omega arith)
 
 -- with responses
-module _ (net : Network) (k : ℕ) (vectors : List ℕ) (word : ℕ) (words : List ℕ) (h : Admitted vectors (word ∷ words)) where
+module _ (net : Network) (k : ℕ) (vectors : List ℕ) (word : ℕ) (words : List ℕ) (h : AdmittedContent vectors (word ∷ words)) where
   abbrev long : List ℕ
   long = file-of net k vectors (word ∷ words)
 
@@ -209,16 +209,16 @@ module _ (net : Network) (k : ℕ) (vectors : List ℕ) (word : ℕ) (words : Li
 
 -- with or without them
 module _ (net : Network) (k : ℕ) (vectors : List ℕ) where
-  pub layout-made : (responses : List ℕ) → Admitted vectors responses → Layout (file-of net k vectors responses)
+  pub layout-made : (responses : List ℕ) → AdmittedContent vectors responses → Layout (file-of net k vectors responses)
   layout-made [] h = layout-short net k vectors h
   layout-made (word ∷ words) h = layout-long net k vectors word words h
 
-  whole-made : (responses : List ℕ) → Admitted vectors responses → (i : ℕ) → i < entry-count (file-of net k vectors responses) → 0 < i
+  whole-made : (responses : List ℕ) → AdmittedContent vectors responses → (i : ℕ) → i < entry-count (file-of net k vectors responses) → 0 < i
       → body-length (file-of net k vectors responses) i % 8 ≡ 0
   whole-made [] h = whole-short net k vectors h
   whole-made (word ∷ words) h = whole-long net k vectors word words h
 
-  responses-made : (responses : List ℕ) → Admitted vectors responses → file-responses (file-of net k vectors responses) ≡ responses
+  responses-made : (responses : List ℕ) → AdmittedContent vectors responses → file-responses (file-of net k vectors responses) ≡ responses
   unfolding file-responses file-of
   responses-made [] h = refl
   responses-made (word ∷ words) h =
@@ -229,7 +229,7 @@ third-given : (responses : List ℕ) → eqb (entries-for responses) 3 ≡ given
 third-given [] = refl
 third-given (word ∷ words) = refl
 
-module _ (net : Network) (k : ℕ) (vectors responses : List ℕ) (h : Admitted vectors responses) where
+module _ (net : Network) (k : ℕ) (vectors responses : List ℕ) (h : AdmittedContent vectors responses) where
   pub bodies-pass : bad-bodies (file-of net k vectors responses) ≡ false
   bodies-pass =
       test-fails (decides-row-3 (file-of net k vectors responses))

@@ -7,14 +7,10 @@ use lib.ListN.{length, take, drop, take-append-drop, length-drop}
 use lib.Seq.{length-take-le, take-at, drop-at, drop-drop, drop-cons, getD-take, getD-drop}
 use Rattle.words.specs.Bits.{at}
 use Rattle.words.specs.Turning.{tabulate}
-use Rattle.jobfile.specs.Bytes.{number-of, bytes-of, word-bytes, number-at, AllBytes}
+use Rattle.jobfile.specs.Bytes.{number-of, bytes-of, word-bytes, number-at, words-at, AllBytes}
 use Rattle.jobfile.specs.Layout.{entry-kind, body-offset, body-length}
-use Rattle.writer.specs.Writer.{entry-bytes}
 use Rattle.jobfile.proofs.ByteLaws.{bytes-count, number-there, bytes-there}
-
--- this many words from an offset on
-abbrev pub words-at : List ℕ → (offset count : ℕ) → List ℕ
-words-at file offset count = tabulate count (λ t. number-at file (offset + 8 * t) 8)
+use Rattle.writer.specs.Writer.{entry-bytes}
 
 tabulate-same : (n : ℕ) (f g : ℕ → ℕ) → ((i : ℕ) → f i ≡ g i) → tabulate n f ≡ tabulate n g
 unfolding tabulate
@@ -55,7 +51,7 @@ words-read file offset (word ∷ words) after e h =
 -- ---- what is read is what stands there
 
 module _ (file : List ℕ) (small : AllBytes file) where
-  pub number-stands : (offset count : ℕ) → offset + count ≤ length file
+  number-stands : (offset count : ℕ) → offset + count ≤ length file
       → drop offset file ≡ bytes-of count (number-at file offset count) ++ drop (offset + count) file
   unfolding number-at
   number-stands offset count l =

@@ -9,11 +9,11 @@ use Rattle.words.specs.Bits.{at}
 use Rattle.words.proofs.Answers.{let-through, table-full, table-not-refused}
 use Rattle.network.specs.Rows.{SetRows, set-tests, set-admission}
 use Rattle.network.proofs.Rows.{decides-set}
-use Rattle.diagnosis.specs.Open.{open-diagnosis}
 use Rattle.checker.specs.declared.Verdict.{Verdict}
 use Rattle.checker.specs.declared.Verdict.the-variants.{Pass, Pair}
 use Rattle.checker.specs.Check.{check-answer}
 use Rattle.checker.proofs.Verdicts.{pair-not-pass}
+use Rattle.diagnosis.specs.Open.{open-diagnosis}
 use Rattle.demands.specs.Demand2.{ResponseProgram, Responds, DiagnosisProgram, Diagnoses}
 use Rattle.demands.specs.Demand3.{CheckProgram, Judged, Checks}
 use Rattle.demands.specs.Refuted.{passes-all-sets, shows-one-pair, refuses-every-set, writes-nothing, drops-tail, writes-when-refused, refuses-every-state, says-14, reads-nothing-back, accepts-conflicts, refuses-every-response, Refuted}

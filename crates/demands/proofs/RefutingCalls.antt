@@ -6,10 +6,10 @@ use mathlib.Core.Logic.{⊎-elim}
 use mathlib.Core.List.{List, [], _∷_}
 use Rattle.words.specs.Bits.{at}
 use Rattle.words.proofs.Answers.{refused-not-full}
-use Rattle.reader.specs.Open.{open-reader}
 use Rattle.session.specs.declared.Session.{Session}
 use Rattle.session.specs.Record.{awaiting-second}
 use Rattle.session.specs.Open.{open-session}
+use Rattle.reader.specs.Open.{open-reader}
 use Rattle.demands.specs.SessionCalls.{second}
 use Rattle.demands.specs.Demand1.{read, advance, Demand1}
 use Rattle.demands.specs.Programs.{our-reader, our-sessions}

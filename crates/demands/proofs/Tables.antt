@@ -8,16 +8,16 @@ use Rattle.session.specs.Open.{open-session}
 use Rattle.demands.specs.SessionCalls.{History, finished-second, history, record-after, OnlyFit}
 use Rattle.demands.specs.Demand3.{Ended}
 use Rattle.demands.specs.Programs.{our-sessions}
-use Rattle.demands.proofs.Sessions.{sessions}
 use Rattle.demands.specs.Determined.{Determined}
 use Rattle.demands.specs.Starred.{four, junk, four-calls, Starred}
 use Rattle.demands.specs.Boundary.{Boundary}
+use Rattle.demands.proofs.Sessions.{sessions}
 use Rattle.demands.proofs.Responding.{response-determined}
 use Rattle.demands.proofs.Diagnosing.{diagnosis-determined-program}
 use Rattle.demands.proofs.Findings.{findings-determined-program}
 use Rattle.demands.proofs.Checking.{check-determined-program}
 use Rattle.demands.proofs.SessionsAlike.{sessions-determined}
-use Rattle.demands.proofs.JobFilesExact.{writer-determined, reader-determined}
+use Rattle.demands.proofs.JobFiles.{writer-determined, reader-determined}
 use Rattle.demands.proofs.DrivesAlike.{drive-determined}
 use Rattle.demands.proofs.Reporting.{report-determined}
 

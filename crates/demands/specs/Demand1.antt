@@ -13,12 +13,12 @@ use Rattle.network.specs.Rows.{SetRows, Row9, HighBit, Row12}
 use Rattle.network.specs.Respond.{ResponseRows}
 use Rattle.checker.specs.declared.Verdict.{Verdict}
 use Rattle.checker.specs.Rule.{Rule}
-use Rattle.findings.specs.declared.Finding.{Finding}
 use Rattle.diagnosis.specs.Diagnosis.{DiagnosisRows}
+use Rattle.findings.specs.declared.Finding.{Finding}
 use Rattle.findings.specs.FindingsTable.{FindingsRows, Findings}
 use Rattle.session.specs.declared.Session.{Session}
-use Rattle.writer.specs.Writer.{WriterRows, file-of}
 use Rattle.reader.specs.Reader.{ReaderRows, content}
+use Rattle.writer.specs.Writer.{WriterRows, file-of}
 use Rattle.demands.specs.Demand2.{ResponseProgram, DiagnosisProgram}
 use Rattle.demands.specs.FindingsCall.{FindingsProgram}
 use Rattle.demands.specs.JobFiles.{WriterProgram, ReadDone, ReaderProgram}

@@ -6,9 +6,9 @@ use Rattle.words.specs.Answers.{ByTable}
 use Rattle.network.specs.declared.Network.{Network}
 use Rattle.network.specs.Rows.{SetRows}
 use Rattle.checker.specs.Rule.{Rule}
-use Rattle.demands.specs.Demand2.{ResponseProgram, Responds, DiagnosisProgram, Diagnoses}
 use Rattle.findings.specs.declared.Finding.{Finding}
 use Rattle.session.specs.declared.Session.{Session}
+use Rattle.demands.specs.Demand2.{ResponseProgram, Responds, DiagnosisProgram, Diagnoses}
 use Rattle.demands.specs.FindingsCall.{FindingsProgram, Finds}
 use Rattle.demands.specs.JobFiles.{WriterProgram, Writes, ReaderProgram, Reads}
 use Rattle.demands.specs.SessionCalls.{Call, begin, SessionProgram, History, none, waits-first, waits-second, finished-first, finished-second, LeftBy}

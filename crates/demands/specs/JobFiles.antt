@@ -6,10 +6,10 @@ use mathlib.Core.List.{List}
 use lib.ListN.{length, take}
 use Rattle.words.specs.Answers.{Answer, full, ByTable, lent-after, Filled, FillsByTable}
 use Rattle.network.specs.declared.Network.{Network}
-use Rattle.reader.specs.declared.Job.{Job}
 use Rattle.jobfile.specs.Bytes.{AllBytes}
-use Rattle.writer.specs.Writer.{WriterRows, file-of}
+use Rattle.reader.specs.declared.Job.{Job}
 use Rattle.reader.specs.Reader.{JobContent, ReaderRows, content, vectors-read, responses-read, counted}
+use Rattle.writer.specs.Writer.{WriterRows, file-of}
 
 -- ---- the writer
 

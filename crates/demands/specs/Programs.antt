@@ -9,12 +9,12 @@ use Rattle.diagnosis.specs.ReadBack.{read-back}
 use Rattle.diagnosis.specs.Diagnosis.{diagnosis-answer}
 use Rattle.findings.specs.FindingsTable.{findings-answer}
 use Rattle.steps.specs.SecondStep.{unclear}
-use Rattle.writer.specs.Writer.{write-answer}
-use Rattle.reader.specs.Reader.{read-answer, vectors-read, responses-read, counted}
 use Rattle.session.specs.declared.Session.{Session}
 use Rattle.session.specs.Record.{awaiting-first, finished}
 use Rattle.session.specs.Calls.{stepped, begin-answer, first-answer, answered-by, second-answer, vectors-driven, all-answers}
 use Rattle.session.specs.Drive.{to-drive}
+use Rattle.reader.specs.Reader.{read-answer, vectors-read, responses-read, counted}
+use Rattle.writer.specs.Writer.{write-answer}
 use Rattle.demands.specs.Demand2.{ResponseProgram, DiagnosisProgram}
 use Rattle.demands.specs.FindingsCall.{FindingsProgram}
 use Rattle.demands.specs.JobFiles.{WriterProgram, ReaderProgram}
@@ -75,6 +75,8 @@ our-sessions session call = record {
 
 abbrev pub our-drive : DriveProgram
 our-drive session one two = to-drive session one two
+
+-- ---- all of them
 
 abbrev pub ours : Programs
 ours = record {

@@ -33,7 +33,7 @@ module _ (net : Network) (k : ℕ) (vectors : List ℕ) where
       go Pass r q = r
       go (Pair a b) r q = absurd (true≢false q)
 
-  pub decides-row-13 : Decides (not-passed (verdict net k vectors)) (Row13 net k vectors)
+  decides-row-13 : Decides (not-passed (verdict net k vectors)) (Row13 net k vectors)
   decides-row-13 = (λ e r. go (verdict net k vectors) (rule-determined net k vectors (verdict net k vectors) Pass (verdict-rule net k vectors) r) e, λ e n. n (passes-rule e))
     where
       go : (v : Verdict) → v ≡ Pass → not-passed v ≡ true → ⊥

@@ -32,13 +32,13 @@ use Rattle.diagnosis.specs.ReadBack.{reach-read, read-back, no-state-fit
 
 module _ (net : Network) (vectors responses : List ℕ) (size : length responses ≡ length vectors) where
   -- a set reads as receiver i answered exactly where it does on each vector
-  pub answers-so : (set i : ℕ) → ((t : ℕ) → t < length vectors → reads net set (at vectors t) ≡ has (at responses t) i)
+  answers-so : (set i : ℕ) → ((t : ℕ) → t < length vectors → reads net set (at vectors t) ≡ has (at responses t) i)
       → sequential-response net vectors set ≡ column responses i
   answers-so set i h =
       words-equal (length vectors) (sequential-response net vectors set) (column responses i) (sequential-below net vectors set) (rw size at (column-below responses i))
       (λ t l. has-sequential net vectors set t l ∙ h t l ∙ sym (has-column responses i t (rw size l)))
 
-  pub answered-so : (set i : ℕ) → sequential-response net vectors set ≡ column responses i → (t : ℕ) → t < length vectors
+  answered-so : (set i : ℕ) → sequential-response net vectors set ≡ column responses i → (t : ℕ) → t < length vectors
       → reads net set (at vectors t) ≡ has (at responses t) i
   answered-so set i e t l = sym (has-sequential net vectors set t l) ∙ ap (λ (w : ℕ). has w t) e ∙ has-column responses i t (rw size l)
 

@@ -1,4 +1,4 @@
--- The calls for C and Rust: a number returned, and lists of words lent.
+-- The calls for C and Rust: a number returned, and lists lent.
 use Prim.Native.Nat.{ℕ, _/_}
 use mathlib.Core.Bool.{cond}
 use mathlib.Core.List.{List}

@@ -1,5 +1,5 @@
 // The calls for C and Rust, where a list is a pointer and a length. Each but `fontarelga_to_drive`, which returns a count, returns 0 if it
-// is accepted, or the number of the refusal. What else it answers goes into lent lists of words; after a refusal they are as they were.
+// is accepted, or the number of the refusal. What else it answers goes into lent lists; after a refusal they are as they were.
 ghost use mathlib.Core.Path.{_≡_};
 ghost use lib.ListN.{length};
 ghost use Rattle.words.specs.Answers.{«lent-after»};

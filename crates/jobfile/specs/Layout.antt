@@ -8,9 +8,8 @@ use lib.Dec.{eqb, ltb}
 use lib.ListN.{length, take}
 use Rattle.words.specs.Bits.{at}
 use Rattle.words.specs.Searching.{any}
-use Rattle.words.specs.Turning.{tabulate}
 use Rattle.network.specs.declared.Network.{Network}
-use Rattle.jobfile.specs.Bytes.{number-at}
+use Rattle.jobfile.specs.Bytes.{number-at, words-at}
 
 -- `BSJ1`
 abbrev pub mark : List ℕ
@@ -101,9 +100,9 @@ file-network file = record { nets = at file (body-offset file 0) }
 unfoldable pub file-class : List ℕ → ℕ
 file-class file = at file (suc (body-offset file 0))
 
--- the words of body i, 8 bytes each
+-- the words of body i
 unfoldable pub body-words : List ℕ → ℕ → List ℕ
-body-words file i = tabulate (body-length file i / 8) (λ t. number-at file (body-offset file i + 8 * t) 8)
+body-words file i = words-at file (body-offset file i) (body-length file i / 8)
 
 abbrev pub has-responses : List ℕ → Bool
 has-responses file = eqb (entry-count file) 3

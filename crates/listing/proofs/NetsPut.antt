@@ -10,8 +10,8 @@ use Rattle.network.specs.declared.Network.{Network}
 use Rattle.findings.specs.declared.Finding.{Finding}
 use Rattle.findings.specs.Findings.{finding}
 use Rattle.decimal.specs.Decimal.{decimal, spaced, numbers-end}
-use Rattle.listing.specs.Report.{net-line, net-lines}
 use Rattle.decimal.proofs.Numerals.{decimal-most}
+use Rattle.listing.specs.Report.{net-line, net-lines}
 
 -- a net's line has at most 84 bytes
 line-most : (i : ℕ) (found : Finding) → length (net-line i found) ≤ 84

@@ -20,12 +20,12 @@ use Rattle.diagnosis.proofs.DiagnosisLaws.{diagnosis-by-table}
 use Rattle.reader.specs.declared.Job.{Job}
 use Rattle.reader.specs.declared.ReadJob.{ReadJob}
 use Rattle.reader.specs.declared.ReadJob.the-variants.{Content, Refused as Stopped}
-use Rattle.reader.specs.Reader.{JobContent, content, ReaderRows, read-answer, vectors-read, responses-read, counted, read-meaning}
+use Rattle.reader.specs.Reader.{JobContent, content, ReaderRows, read-answer, vectors-read, responses-read, counted, meaning as read-meaning}
 use Rattle.reader.proofs.ReaderLaws.{read-by-table}
 use Rattle.reader.proofs.ReaderAnswers.{read-counted-refused, read-counted-full}
 use Rattle.decimal.specs.Decimal.{spaced, numbers-end}
-use Rattle.listing.specs.Report.{refused-line, verdict-line, diagnosis-text, responses-text, content-text, job-text, report}
 use Rattle.decimal.proofs.Numerals.{decimal-most}
+use Rattle.listing.specs.Report.{refused-line, verdict-line, diagnosis-text, responses-text, content-text, job-text, report}
 
 -- ---- the diagnosis
 

@@ -7,8 +7,8 @@ use Rattle.network.specs.declared.Network.{Network}
 use Rattle.checker.specs.declared.Verdict.{Verdict}
 use Rattle.checker.specs.declared.Verdict.the-variants.{Pass, Pair}
 use Rattle.checker.specs.Rule.{verdict}
-use Rattle.findings.specs.declared.Finding.{Finding}
 use Rattle.diagnosis.specs.Diagnosis.{diagnosis-answer}
+use Rattle.findings.specs.declared.Finding.{Finding}
 use Rattle.findings.specs.Findings.{finding}
 use Rattle.reader.specs.Reader.{JobContent, read-answer}
 use Rattle.decimal.specs.Decimal.{decimal, numbers-end}

@@ -23,7 +23,7 @@ decides-class : (net : Network) (k : ℕ)
     → Decides (eqb k 1 || (eqb k 2 || (eqb k 3 || eqb k (net .nets)))) ((k ≡ 1) ⊎ ((k ≡ 2) ⊎ ((k ≡ 3) ⊎ (k ≡ net .nets))))
 decides-class net k = decides-or (decides-equal k 1) (decides-or (decides-equal k 2) (decides-or (decides-equal k 3) (decides-equal k (net .nets))))
 
-pub decides-row-6 : (net : Network) (k : ℕ) → Decides (bad-class net k) (Row6 net k)
+decides-row-6 : (net : Network) (k : ℕ) → Decides (bad-class net k) (Row6 net k)
 decides-row-6 net k = decides-or (decides-not (decides-class net k)) (decides-less (net .nets) k)
 
 pub decides-row-7 : (vectors : List ℕ) → Decides (bad-vector-count vectors) (Row7 vectors)

@@ -40,12 +40,12 @@ module _ (net : Network) (k : ℕ) where
     few = few-drivers-at net k set (and-right (ltb set (2 ^ (net .nets))) _ e);
   }
 
-  pub set→few : (set : ℕ) → DriverSet net k set → ltb set (2 ^ (net .nets)) && few-drivers net k set ≡ true
+  set→few : (set : ℕ) → DriverSet net k set → ltb set (2 ^ (net .nets)) && few-drivers net k set ≡ true
   set→few set h = and-both (lt-ltb set (2 ^ (net .nets)) (h .inside)) (few-drivers-of net k set h)
 
 module _ (net : Network) where
   -- two sets that meet and do not pass as differing are equal
-  pub meet-equal : (a b x : ℕ) → x < net .nets → has a x ≡ true → has b x ≡ true → meet-and-differ net a b ≡ false → a ≡ b
+  meet-equal : (a b x : ℕ) → x < net .nets → has a x ≡ true → has b x ≡ true → meet-and-differ net a b ≡ false → a ≡ b
   unfolding meet-and-differ
   meet-equal a b x l p q e = eqb-true a b (⊎-elim (λ f. f) (λ f. contrary (and-both (meets-at net a b x l p q) (ap not f)) e) (cases (eqb a b)))
 

@@ -1,4 +1,4 @@
--- Results as words, for a caller that knows lists of words only.
+-- Results as words, and a session's record from words, for a caller that knows lists of words only.
 use Prim.Native.Nat.{ℕ}
 use mathlib.Core.List.{List, [], _∷_, _++_}
 use lib.ListN.{length, take, drop}
@@ -31,10 +31,11 @@ job-words job = job .network .nets ∷ job .class ∷ length (job .vectors) ∷ 
 abbrev pub size-words : List ℕ → List ℕ
 size-words file = length file ∷ []
 
--- a session's record: step, nets, 8 words of first answers, 48 reaches, vectors spent
+-- how many words a session's record has
 abbrev pub session-size : ℕ
 session-size = 59
 
+-- step, nets, 8 words of first answers, 48 reaches, vectors spent
 unfoldable pub session-words : Session → List ℕ
 session-words session = session .step ∷ session .network .nets ∷ session .first ++ session .reaches ++ session .spent ∷ []
 

@@ -1,14 +1,14 @@
-// Words put into a lent list. Helpers: each asks for room, or for a list of the length that it fills.
+// Words put into a lent list. Helpers between crates: each asks for room, or for a list of the length that it fills.
 ghost use mathlib.Core.Path.{_≡_};
-ghost use Prim.Native.Nat.{_+_, _≤_};
 ghost use mathlib.Core.List.{[], _∷_};
+ghost use Prim.Native.Nat.{_+_, _≤_};
 ghost use lib.ListN.{length};
 ghost use Rattle.words.specs.Answers.{full, «lent-after»};
 ghost use Rattle.words.specs.Writing.{written};
 use reader::Job;
 
 // Words from a place on; the rest of `out` is kept.
-pub fn put_words(out: &mut [u64], at: usize, from: &[u64])
+pub fn put_at(out: &mut [u64], at: usize, from: &[u64])
     requires { ⌜ at + length (now from) ≤ length (now out) ⌝ }
     ensures { λ r. ⌜ now (out .exit) ≡ written (now (out .entry)) at (now (from .entry)) ⌝ }
 {

@@ -1,4 +1,4 @@
-// A session's record as words. Helpers: each asks for 59 of them.
+// A session's record as words. Helpers between crates: each asks for 59 of them.
 ghost use mathlib.Core.Path.{_≡_};
 ghost use lib.ListN.{length};
 ghost use Rattle.words.specs.Answers.{full, «lent-after»};
@@ -33,8 +33,8 @@ pub fn put_session(session: Session, out: &mut [u64])
     let first = session.first;
     let reaches = session.reaches;
     let tail = [session.spent];
-    crate::lists::put_words(out, 0, &head);
-    crate::lists::put_words(out, 2, &first);
-    crate::lists::put_words(out, 10, &reaches);
-    crate::lists::put_words(out, 58, &tail);
+    crate::lists::put_at(out, 0, &head);
+    crate::lists::put_at(out, 2, &first);
+    crate::lists::put_at(out, 10, &reaches);
+    crate::lists::put_at(out, 58, &tail);
 }

@@ -1,3 +1,4 @@
 pub mod ReadLoops
+pub mod Bodies
 pub mod ReaderAnswers
 pub mod ReaderLaws

@@ -1,4 +1,4 @@
--- Laws for the reader's loops.
+-- The loop that reads a number, from its last byte down.
 use mathlib.Core.Path.{_≡_}
 use mathlib.Core.List.{List}
 use Prim.Native.Nat.{ℕ, suc, _+_, _*_, _-_, _^_, _≤_, _<_}
@@ -9,8 +9,6 @@ use lib.ListN.{length, take, drop}
 use lib.Seq.{drop-cons}
 use Rattle.words.specs.Bits.{at}
 use Rattle.jobfile.specs.Bytes.{number-of, number-at}
-
--- ---- a number, from its last byte down
 
 -- the part of it that bytes from i on make
 abbrev pub number-from : List ℕ → (offset count i : ℕ) → ℕ

@@ -8,8 +8,8 @@ use Rattle.words.specs.Answers.{Answer, refused, full, by-tests, lent-after}
 use Rattle.words.proofs.Answers.{shared-refuse, shared-pass, refused-not-full}
 use Rattle.network.specs.declared.Network.{Network}
 use Rattle.network.specs.Rows.{set-tests, bad-response-count, has-high-bit, no-room}
-use Rattle.reader.specs.declared.Job.{Job}
 use Rattle.jobfile.specs.Layout.{bad-mark, bad-layout, bad-bodies, file-network, file-class, body-words, has-responses, file-responses}
+use Rattle.reader.specs.declared.Job.{Job}
 use Rattle.reader.specs.Reader.{JobContent, content, read-answer, vectors-read, responses-read, counted}
 
 -- rows 5 to 10; 9 and 10 only where responses are given

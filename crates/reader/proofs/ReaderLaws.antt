@@ -12,7 +12,7 @@ use Rattle.network.specs.Rows.{SetRows, Row12, set-tests, no-room}
 use Rattle.network.proofs.Rows.{decides-set, decides-row-9, decides-high-bit, decides-row-12}
 use Rattle.jobfile.specs.Layout.{has-responses}
 use Rattle.jobfile.proofs.FileRows.{decides-row-1, decides-row-2, decides-row-3}
-use Rattle.reader.specs.Reader.{JobContent, content, FileRows, ListRows, ReaderRows, file-tests, list-tests, read-answer}
+use Rattle.reader.specs.Reader.{JobContent, content, FileRows, ListRows, ReaderRows, file-tests, list-tests, reader-tests, read-answer}
 
 decides-given-row : (file : List ℕ) {b : Bool} {B : Type 0} → Decides b B → Decides (has-responses file && b) ((has-responses file ≡ true) × B)
 decides-given-row file d = decides-and (λ e. e, λ e h. contrary h e) d
@@ -37,7 +37,7 @@ module _ (file : List ℕ) (vectors-room responses-room : ℕ) where
   )
 
   decides-rows : Decided (ReaderRows file vectors-room responses-room)
-      (file-tests file ++ set-tests (content file .network) (content file .class) (content file .vectors) ++ list-tests file (content file) vectors-room responses-room)
+      (reader-tests file (content file) vectors-room responses-room)
   decides-rows =
       let job = content file in
       decided-append (FileRows file) (SetRows (job .network) (job .class) (job .vectors) ++ ListRows file job vectors-room responses-room) (file-tests file)
@@ -50,7 +50,7 @@ module _ (file : List ℕ) (vectors-room responses-room : ℕ) where
   unfolding read-answer
   read-by-table =
       tests-by-table (λ job. job ≡ content file) (ReaderRows file vectors-room responses-room)
-      (file-tests file ++ set-tests (content file .network) (content file .class) (content file .vectors) ++ list-tests file (content file) vectors-room responses-room)
+      (reader-tests file (content file) vectors-room responses-room)
       (content file) decides-rows (λ _. refl)
 
   pub read-determined : (a b : Answer JobContent) → ByTable (ReaderRows file vectors-room responses-room) (λ job. job ≡ content file) a

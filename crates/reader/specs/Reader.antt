@@ -8,10 +8,10 @@ use lib.ListN.{length}
 use Rattle.words.specs.Answers.{Answer, refused, full, by-tests}
 use Rattle.network.specs.declared.Network.{Network}
 use Rattle.network.specs.Rows.{SetRows, Row9, HighBit, Row12, set-tests, bad-response-count, has-high-bit, no-room}
+use Rattle.jobfile.specs.Layout.{Row1, Row2, Row3, bad-mark, bad-layout, bad-bodies, file-network, file-class, body-words, has-responses, file-responses}
 use Rattle.reader.specs.declared.Job.{Job}
 use Rattle.reader.specs.declared.ReadJob.{ReadJob}
 use Rattle.reader.specs.declared.ReadJob.the-variants.{Content, Refused}
-use Rattle.jobfile.specs.Layout.{Row1, Row2, Row3, bad-mark, bad-layout, bad-bodies, file-network, file-class, body-words, has-responses, file-responses}
 
 -- what a job file holds
 pub record JobContent : Type 0 where
@@ -48,11 +48,15 @@ list-tests file job vectors-room responses-room =
     ∷ (12, no-room (length (job .vectors)) vectors-room || no-room (length (job .responses)) responses-room)
     ∷ []
 
+-- all tests of a file with this content
+abbrev pub reader-tests : List ℕ → JobContent → (vectors-room responses-room : ℕ) → List (ℕ × Bool)
+reader-tests file job vectors-room responses-room =
+    file-tests file ++ set-tests (job .network) (job .class) (job .vectors) ++ list-tests file job vectors-room responses-room
+
 -- the call's answer, computed
 unfoldable pub read-answer : List ℕ → (vectors-room responses-room : ℕ) → Answer JobContent
 read-answer file vectors-room responses-room =
-    by-tests (file-tests file ++ set-tests (content file .network) (content file .class) (content file .vectors) ++ list-tests file (content file) vectors-room responses-room)
-    (content file)
+    by-tests (reader-tests file (content file) vectors-room responses-room) (content file)
 
 -- what is written to the two lists
 abbrev pub vectors-read : Answer JobContent → Answer (List ℕ)
@@ -69,6 +73,6 @@ counted (refused number) = refused number
 counted (full job) = full (record { network = job .network; class = job .class; vectors = length (job .vectors); responses = length (job .responses) })
 
 -- document 01's number and values for each case of the answer
-abbrev pub read-meaning : ReadJob → Answer Job
-read-meaning (Content job) = full job
-read-meaning (Refused number) = refused number
+abbrev pub meaning : ReadJob → Answer Job
+meaning (Content job) = full job
+meaning (Refused number) = refused number

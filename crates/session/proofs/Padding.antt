@@ -7,7 +7,7 @@ use lib.ListN.{length, drop, replicate, length-append, length-replicate}
 use Rattle.words.specs.Answers.{full, lent-after}
 use Rattle.session.specs.Record.{pad}
 
-pub zeros-left : (count size : ℕ) → drop count (replicate {A = ℕ} size 0) ≡ replicate (size - count) 0
+zeros-left : (count size : ℕ) → drop count (replicate {A = ℕ} size 0) ≡ replicate (size - count) 0
 zeros-left zero size = let e : size - 0 ≡ size = omega arith in rw e
 zeros-left (suc count) zero = let e : 0 - suc count ≡ 0 = omega arith in rw e
 zeros-left (suc count) (suc size) = let e : suc size - suc count ≡ size - count = omega arith in rw e (zeros-left count size)

@@ -38,7 +38,7 @@ zeros-fail size words i l n =
     let some : any (length words) (λ z. not (eqb (at words z) 0)) ≡ true = any-at _ (length words) i l (ap not (ne-eqb _ _ n)) in
     rw some (and-false (eqb (length words) size))
 
-pub zeros-size : (size : ℕ) (words : List ℕ) → is-zeros size words ≡ true → length words ≡ size
+zeros-size : (size : ℕ) (words : List ℕ) → is-zeros size words ≡ true → length words ≡ size
 unfolding is-zeros
 zeros-size size words e = eqb-true _ _ (and-left (eqb (length words) size) _ e)
 
@@ -48,12 +48,12 @@ zeros-at size words e i l =
     eqb-true _ _ (not-false _ (any-false (λ z. not (eqb (at words z) 0)) (length words) i l (not-true _ (and-right (eqb (length words) size) _ e))))
 
 -- they are a list of zeros, and a list of zeros is such
-pub zeros-are : (size : ℕ) (words : List ℕ) → is-zeros size words ≡ true → words ≡ replicate size 0
+zeros-are : (size : ℕ) (words : List ℕ) → is-zeros size words ≡ true → words ≡ replicate size 0
 zeros-are size words e =
     ext-getD 0 words (replicate size 0) (zeros-size size words e ∙ sym (length-replicate {A = ℕ} size 0))
     (λ i l. zeros-at size words e i l ∙ sym (getD-replicate {A = ℕ} size i 0 0 (rw (zeros-size size words e) at l)))
 
-pub zeros-of : (size : ℕ) → is-zeros size (replicate size 0) ≡ true
+zeros-of : (size : ℕ) → is-zeros size (replicate size 0) ≡ true
 zeros-of size =
     zeros-hold size (replicate size 0) (length-replicate {A = ℕ} size 0)
     (λ i l. getD-replicate {A = ℕ} size i 0 0 (rw (length-replicate {A = ℕ} size 0) at l))

@@ -1,11 +1,11 @@
 // The records that accepted calls leave. Helpers: the words fit into the record's arrays.
 ghost use mathlib.Core.Path.{_≡_};
 ghost use Prim.Native.Nat.{_≤_};
+ghost use lib.ListN.{length};
 ghost use Rattle.steps.specs.FirstStep.{«word-length»};
 ghost use Rattle.steps.specs.SecondStep.{unclear, «second-vectors»};
-ghost use Rattle.session.specs.Calls.{«answered-by»};
-ghost use lib.ListN.{length};
 ghost use Rattle.session.specs.Record.{«awaiting-first», «awaiting-second», finished};
+ghost use Rattle.session.specs.Calls.{«answered-by»};
 use crate::Session;
 use network::Network;
 

@@ -9,12 +9,12 @@ ghost use Prim.Native.Nat.{_≤_};
 ghost use lib.ListN.{length};
 use network::Network;
 use session::Session;
-use tables::lent;
-use tables::lent::MARKER;
-use tables::read;
-use tables::read::END;
-use tables::read::MOST;
-use tables::show;
+use trials::lent;
+use trials::lent::MARKER;
+use trials::read;
+use trials::read::END;
+use trials::read::MOST;
+use trials::show;
 
 // A record with these numbers, in every entry of its lists too.
 fn filled(step: u64, nets: u64, first: u64, reach: u64, spent: u64) -> Session {

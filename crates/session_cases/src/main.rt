@@ -5,8 +5,8 @@
 mod calls;
 
 use session::Session;
-use tables::Line;
-use tables::show;
+use trials::Line;
+use trials::show;
 
 // A line `session` starts a record of junk.
 fn begun(line: &[u8]) -> Session {
@@ -28,7 +28,7 @@ fn called(before: Session, line: &[u8]) -> Session {
 
 // Tries a line, and returns the record after it.
 fn try_line(before: Session, line: &[u8]) -> Session {
-    match tables::kind_of(line) {
+    match trials::kind_of(line) {
         Line::Skipped => before,
         Line::Name => begun(line),
         Line::Call => called(before, line),
@@ -48,6 +48,6 @@ fn try_each(text: &[u8]) {
 
 fn main() {
     let mut buffer = io::large_buffer();
-    let count = tables::input(&mut buffer);
+    let count = trials::input(&mut buffer);
     try_each(&buffer[..count]);
 }

@@ -91,6 +91,28 @@ let-through ((number, holds) ∷ rows) ((number′, test) ∷ tests) x y (same, 
     go true no! q later = refused-not-full refl q
     go false no! q later = (no! refl, later (no! refl) q)
 
+-- ---- a full answer, and tests that all fail
+
+abbrev pub AllFail : List (ℕ × Bool) → Type 0
+AllFail [] = Unit {0}
+AllFail ((number, test) ∷ tests) = (test ≡ false) × AllFail tests
+
+-- a full answer is the result, and no test passed
+pub none-passed : {A : Type 0} (tests : List (ℕ × Bool)) (x y : A) → by-tests tests x ≡ full y → AllFail tests × (x ≡ y)
+unfolding by-tests
+none-passed [] x y e = (tt, cc)
+none-passed ((number, test) ∷ tests) x y e = go test e (none-passed tests x y)
+  where
+    go : (t : Bool) → cond t (refused number) (by-tests tests x) ≡ full y → (by-tests tests x ≡ full y → AllFail tests × (x ≡ y))
+        → ((t ≡ false) × AllFail tests) × (x ≡ y)
+    go true q later = refused-not-full refl q
+    go false q later = let r = later q in ((refl, r .0), r .1)
+
+pub full-answer : {A : Type 0} (tests : List (ℕ × Bool)) (x : A) → AllFail tests → by-tests tests x ≡ full x
+unfolding by-tests
+full-answer [] x h = refl
+full-answer ((number, test) ∷ tests) x (e, h) = rw e (full-answer tests x h)
+
 -- first tests that several calls share, then a call's own
 module _ {A B : Type 0} (x : A) (y : B) where
   pub shared-refuse : (tests more : List (ℕ × Bool)) (number : ℕ) → by-tests tests x ≡ refused number → by-tests (tests ++ more) y ≡ refused number

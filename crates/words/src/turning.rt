@@ -1,6 +1,5 @@
 // Turning: from parallel words the sequential word of a net, from sequential words the parallel word of a vector. The
-// two are one exchange of rows and columns. A public function that only other crates' code calls may have a
-// `requires`: each caller's proof shows it.
+// two are one exchange of rows and columns. Helpers between crates: at most 64 words, and an index below 64.
 ghost use mathlib.Core.Path.{_≡_};
 ghost use Prim.Native.Nat.{_<_, _≤_};
 ghost use lib.ListN.{length};

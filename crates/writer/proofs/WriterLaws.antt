@@ -17,8 +17,8 @@ use Rattle.network.specs.Rows.{SetRows, set-tests, bad-response-count}
 use Rattle.network.proofs.Rows.{decides-set, decides-row-9, decides-high-bit, decides-row-12}
 use Rattle.jobfile.specs.Bytes.{bytes-of, word-bytes}
 use Rattle.jobfile.specs.Layout.{mark, bodies-at}
-use Rattle.writer.specs.Writer.{entry-bytes, response-entry, entries-for, head-of, file-of, OwnRows, WriterRows, given, own-tests, writer-tests, write-answer}
 use Rattle.jobfile.proofs.ByteLaws.{bytes-count, word-bytes-count}
+use Rattle.writer.specs.Writer.{entry-bytes, response-entry, entries-for, head-of, file-of, OwnRows, WriterRows, given, own-tests, writer-tests, write-answer}
 
 -- two entries, or three if there are responses
 pub entries-two : (responses : List ℕ) → length responses ≤ 0 → entries-for responses ≡ 2

@@ -7,10 +7,10 @@ use lib.ListN.{length}
 use Rattle.words.specs.Answers.{Answer, refused, full, by-tests}
 use Rattle.network.specs.declared.Network.{Network}
 use Rattle.network.specs.Rows.{SetRows, Row9, HighBit, Row12, set-tests, bad-response-count, has-high-bit, no-room}
-use Rattle.writer.specs.declared.Wrote.{Wrote}
-use Rattle.writer.specs.declared.Wrote.the-variants.{Bytes, Refused}
 use Rattle.jobfile.specs.Bytes.{bytes-of, word-bytes}
 use Rattle.jobfile.specs.Layout.{mark, bodies-at}
+use Rattle.writer.specs.declared.Wrote.{Wrote}
+use Rattle.writer.specs.declared.Wrote.the-variants.{Bytes, Refused}
 
 -- kind, offset and length
 abbrev pub entry-bytes : ℕ → ℕ → ℕ → List ℕ

@@ -3,10 +3,10 @@ use mathlib.Core.Path.{_≡_, sym, ap, _∙_}
 use mathlib.Core.List.{List, []}
 use Prim.Native.Nat.{ℕ}
 use Rattle.words.specs.Answers.{refused, full}
+use Rattle.words.specs.Answers.{by-tests}
 use Rattle.network.specs.declared.Network.{Network}
 use Rattle.network.specs.Rows.{set-admission, admission}
 use Rattle.network.proofs.Rows.{set-refuses, set-admits, set-admitted}
-use Rattle.words.specs.Answers.{by-tests}
 use Rattle.checker.specs.Rule.{verdict}
 use Rattle.checker.specs.Check.{check-answer}
 use Rattle.checker.proofs.check.Statement.{statement}

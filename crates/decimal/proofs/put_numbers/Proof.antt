@@ -15,14 +15,14 @@ abbrev μ-loop : tie.MeasureT-loop
 loop-holds : tie.Need-loop-holds Inv-loop μ-loop
 loop-holds c = let a = c .before .before .args in put-none (a .text .now) (a .at) (a .numbers .now)
 
-mul-put-number : tie.Need-mul-put-number Inv-loop μ-loop
-mul-put-number c = search needs
+mul-put-spaced : tie.Need-mul-put-spaced Inv-loop μ-loop
+mul-put-spaced c = search needs
 
-shared-slice-read-put-number : tie.Need-shared-slice-read-put-number Inv-loop μ-loop
-shared-slice-read-put-number c = search needs
+shared-slice-read-put-spaced : tie.Need-shared-slice-read-put-spaced Inv-loop μ-loop
+shared-slice-read-put-spaced c = search needs
 
-put-number-requires : tie.Need-put-number-requires Inv-loop μ-loop
-put-number-requires c κs =
+put-spaced-requires : tie.Need-put-spaced-requires Inv-loop μ-loop
+put-spaced-requires c κs =
     let g = c .before .before .before in
     let p = g .loop .inv in
     omega (arith, p .size, p .bound, g .before .before .before .pre, c .before .before .loop-test .taken)
@@ -38,7 +38,7 @@ loop-again c =
     let g = c .before .before .before .before .before .before in
     let s = g .before .before .before in
     let a = s .args in
-    let n = c .before .before .put-number in
+    let n = c .before .before .put-spaced in
     put-one (a .text .now) (a .at) (a .numbers .now) (g .loop .text) (g .loop .end) (g .loop .i) (g .loop .inv) (s .pre) (n .last .0) (n .result)
     (c .before .before .before .before .before .loop-test .taken) (n .ensures .0) (n .ensures .1)
 
@@ -80,9 +80,9 @@ put-numbers-spec =
     Inv-loop
     μ-loop
     loop-holds
-    mul-put-number
-    shared-slice-read-put-number
-    put-number-requires
+    mul-put-spaced
+    shared-slice-read-put-spaced
+    put-spaced-requires
     add-i
     loop-less
     loop-again

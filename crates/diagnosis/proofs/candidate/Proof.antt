@@ -2,8 +2,8 @@ use Prim.Native.Nat.{ℕ}
 use native.Mathlib.Omega.{arith}
 use mathlib.Core.Logic.{⊎-elim}
 use mathlib.Core.Path.{sym, subst, _∙_}
-use Rattle.network.proofs.Rows.{AdmittedSet, admitted-set}
 use Rattle.network.specs.States.{DriverSet}
+use Rattle.network.proofs.Rows.{AdmittedSet, admitted-set}
 use Rattle.diagnosis.specs.ReadBack.{Passed}
 use Rattle.diagnosis.proofs.candidate.Statement.{statement}
 use Rattle.diagnosis.proofs.candidate.Tie as tie

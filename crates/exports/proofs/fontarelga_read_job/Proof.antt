@@ -5,7 +5,7 @@ use mathlib.Core.List.{List}
 use lib.ListN.{length}
 use Rattle.words.specs.Answers.{Answer, refused, full, lent-after}
 use Rattle.words.proofs.Answers.{owed-refused}
-use Rattle.reader.specs.Reader.{read-answer, read-meaning, counted, vectors-read, responses-read}
+use Rattle.reader.specs.Reader.{read-answer, meaning, counted, vectors-read, responses-read}
 use Rattle.reader.proofs.ReaderAnswers.{read-counted-refused}
 use Rattle.packing.specs.Packed.{job-words}
 use Rattle.exports.specs.Exported.{code}
@@ -51,7 +51,7 @@ returns-2 c =
     let a = k .before .before .before .before .before .before .before .before .args in
     let answer = read-answer (a .file .now) (length (a .vectors .now)) (length (a .responses .now)) in
     let job = t .content .given .0 .0 in
-    let said : full job ≡ counted answer = sym (ap read-meaning (t .content .given .1)) ∙ k .read-job .ensures .0 in
+    let said : full job ≡ counted answer = sym (ap meaning (t .content .given .1)) ∙ k .read-job .ensures .0 in
     rw (right-length 4 (a .job .now) answer (k .before .before .before .if1 .left)) (
       p .put-job .ensures .0 ∙ code-read answer (full job) said,
       (k .read-job .ensures .1 .0, (k .read-job .ensures .1 .1, p .put-job .ensures .1 ∙ ap (λ (w : Answer (List ℕ)). lent-after w (a .job .now)) (sym (read-words answer job said)))),
@@ -71,7 +71,7 @@ returns-3 c =
     let a = k .before .before .before .before .before .before .before .before .args in
     let answer = read-answer (a .file .now) (length (a .vectors .now)) (length (a .responses .now)) in
     let number = t .number .given .0 .0 in
-    let said : refused number ≡ counted answer = sym (ap read-meaning (t .number .given .1)) ∙ k .read-job .ensures .0 in
+    let said : refused number ≡ counted answer = sym (ap meaning (t .number .given .1)) ∙ k .read-job .ensures .0 in
     rw (right-length 4 (a .job .now) answer (k .before .before .before .if1 .left)) (
       code-read answer (refused number) said,
       (k .read-job .ensures .1 .0, (k .read-job .ensures .1 .1, words-refused answer number (read-counted-refused answer number (sym said)) job-words (a .job .now))),

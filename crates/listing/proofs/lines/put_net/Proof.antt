@@ -5,8 +5,8 @@ use mathlib.Core.List.{[], _∷_}
 use lib.ListN.{length, length-append}
 use Rattle.words.proofs.Writing.{written-length, written-next}
 use Rattle.decimal.specs.Decimal.{decimal, numbers-end}
-use Rattle.listing.specs.Report.{net-line}
 use Rattle.decimal.proofs.Numerals.{decimal-most}
+use Rattle.listing.specs.Report.{net-line}
 use Rattle.listing.proofs.lines.put_net.Statement.{statement}
 use Rattle.listing.proofs.lines.put_net.Tie as tie
 

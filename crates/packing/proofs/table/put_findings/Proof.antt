@@ -26,14 +26,14 @@ loop-holds c = (search needs, refl, refl)
 finding-of-requires : tie.Need-finding-of-requires Inv-loop μ-loop
 finding-of-requires c κs = search needs
 
-mul-put-words : tie.Need-mul-put-words Inv-loop μ-loop
-mul-put-words c = search needs
+mul-put-at : tie.Need-mul-put-at Inv-loop μ-loop
+mul-put-at c = search needs
 
-slice-aggregate-put-words : tie.Need-slice-aggregate-put-words Inv-loop μ-loop
-slice-aggregate-put-words c = search needs
+slice-aggregate-put-at : tie.Need-slice-aggregate-put-at Inv-loop μ-loop
+slice-aggregate-put-at c = search needs
 
-put-words-requires : tie.Need-put-words-requires Inv-loop μ-loop
-put-words-requires c κs = search needs
+put-at-requires : tie.Need-put-at-requires Inv-loop μ-loop
+put-at-requires c κs = search needs
 
 add-i : tie.Need-add-i Inv-loop μ-loop
 add-i c = search needs
@@ -49,7 +49,7 @@ loop-again c =
     let a = f .before .before .before .before .before .args in (
       search needs,
       search needs,
-      findings-turn (a .net) (a .state .now) (l .i) (l .table) (f .finding-of .result) _ (f .finding-of .ensures) (p .put-words .ensures) (omega arith) (omega arith) ∙ l .inv .2,
+      findings-turn (a .net) (a .state .now) (l .i) (l .table) (f .finding-of .result) _ (f .finding-of .ensures) (p .put-at .ensures) (omega arith) (omega arith) ∙ l .inv .2,
     )
 
 same-length : tie.Need-same-length Inv-loop μ-loop
@@ -69,9 +69,9 @@ put-findings-spec =
     μ-loop
     loop-holds
     finding-of-requires
-    mul-put-words
-    slice-aggregate-put-words
-    put-words-requires
+    mul-put-at
+    slice-aggregate-put-at
+    put-at-requires
     add-i
     loop-less
     loop-again

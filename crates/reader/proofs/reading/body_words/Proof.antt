@@ -9,7 +9,7 @@ use lib.Seq.{getD-set-same, getD-set-other}
 use Rattle.words.specs.Bits.{at}
 use Rattle.jobfile.specs.Bytes.{number-at}
 use Rattle.jobfile.specs.Layout.{body-offset, body-length}
-use Rattle.jobfile.proofs.Bodies.{entry-there, word-count, word-inside, begins-with-words}
+use Rattle.reader.proofs.Bodies.{entry-there, word-count, word-inside, begins-with-words}
 use Rattle.reader.proofs.reading.body_words.Statement.{statement}
 use Rattle.reader.proofs.reading.body_words.Tie as tie
 

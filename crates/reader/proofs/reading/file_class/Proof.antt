@@ -4,7 +4,7 @@ use native.Mathlib.Omega.{arith}
 use native.Mathlib.Numerals.{add-one}
 use Rattle.jobfile.specs.Layout.{file-class}
 use Rattle.jobfile.proofs.FileRows.{two-entries}
-use Rattle.jobfile.proofs.Bodies.{entry-there, nets-inside}
+use Rattle.reader.proofs.Bodies.{entry-there, nets-inside}
 use Rattle.reader.proofs.reading.file_class.Statement.{statement}
 use Rattle.reader.proofs.reading.file_class.Tie as tie
 

@@ -1,7 +1,7 @@
 use native.Mathlib.Omega.{arith}
 use Rattle.jobfile.specs.Layout.{file-network}
 use Rattle.jobfile.proofs.FileRows.{two-entries}
-use Rattle.jobfile.proofs.Bodies.{entry-there, nets-inside}
+use Rattle.reader.proofs.Bodies.{entry-there, nets-inside}
 use Rattle.reader.proofs.reading.file_network.Statement.{statement}
 use Rattle.reader.proofs.reading.file_network.Tie as tie
 

@@ -3,7 +3,7 @@ use mathlib.Core.Path.{_≡_, sym, ap, _∙_}
 use mathlib.Core.Bool.{true}
 use lib.ListN.{length}
 use Rattle.jobfile.specs.Layout.{has-responses}
-use Rattle.jobfile.proofs.Bodies.{three-entries, responses-given, responses-missing}
+use Rattle.reader.proofs.Bodies.{three-entries, responses-given, responses-missing}
 use Rattle.reader.proofs.reading.response_count.Statement.{statement}
 use Rattle.reader.proofs.reading.response_count.Tie as tie
 

@@ -2,7 +2,7 @@ use borrow.Author.Needs.{needs}
 use mathlib.Core.Path.{_≡_, sym, _∙_, refl}
 use mathlib.Core.Bool.{true}
 use Rattle.jobfile.specs.Layout.{has-responses}
-use Rattle.jobfile.proofs.Bodies.{three-entries, responses-given, responses-missing}
+use Rattle.reader.proofs.Bodies.{three-entries, responses-given, responses-missing}
 use Rattle.reader.proofs.reading.response_words.Statement.{statement}
 use Rattle.reader.proofs.reading.response_words.Tie as tie
 

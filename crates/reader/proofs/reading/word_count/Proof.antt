@@ -1,7 +1,7 @@
 use Prim.Native.Nat.{ℕ, _/_}
 use mathlib.Core.Path.{_≡_, sym, ap, _∙_}
 use Rattle.jobfile.specs.Layout.{body-length}
-use Rattle.jobfile.proofs.Bodies.{entry-there, word-count, words-most}
+use Rattle.reader.proofs.Bodies.{entry-there, word-count, words-most}
 use Rattle.reader.proofs.reading.word_count.Statement.{statement}
 use Rattle.reader.proofs.reading.word_count.Tie as tie
 

@@ -1,7 +1,7 @@
 use borrow.Author.Needs.{needs}
 use Rattle.packing.proofs.Words.{part-written}
-use Rattle.packing.proofs.lists.put_words.Statement.{statement}
-use Rattle.packing.proofs.lists.put_words.Tie as tie
+use Rattle.packing.proofs.lists.put_at.Statement.{statement}
+use Rattle.packing.proofs.lists.put_at.Tie as tie
 
 mul-copy-words : tie.Need-mul-copy-words
 mul-copy-words c = search needs
@@ -26,8 +26,8 @@ returns c =
     let a = c .before .before .before .before .before .before .args in
     part-written (a .out .now) (a .from .now) _ (a .at) (c .before .before .copy-words .ensures)
 
-pub put-words-spec : {M : Type 1} → statement M
-put-words-spec =
+pub put-at-spec : {M : Type 1} → statement M
+put-at-spec =
     tie.close
     (tie.spec
     mul-copy-words

@@ -6,16 +6,16 @@ use lib.ListN.{length, take}
 use Rattle.words.specs.Answers.{Answer, full, lent-after, count-of}
 use Rattle.words.proofs.Answers.{front-written, fills-determined, counted-full}
 use Rattle.network.specs.declared.Network.{Network}
-use Rattle.reader.specs.declared.Job.{Job}
 use Rattle.jobfile.specs.Bytes.{AllBytes}
-use Rattle.writer.specs.Writer.{WriterRows, file-of, write-answer}
+use Rattle.reader.specs.declared.Job.{Job}
 use Rattle.reader.specs.Reader.{JobContent, read-answer, vectors-read, responses-read, counted}
-use Rattle.writer.proofs.WriterLaws.{write-by-table, write-determined}
 use Rattle.reader.proofs.ReaderLaws.{read-by-table, read-determined}
-use Rattle.demands.proofs.Exactness as law
 use Rattle.reader.proofs.ReaderAnswers.{read-counted-full}
+use Rattle.writer.specs.Writer.{WriterRows, file-of, write-answer}
+use Rattle.writer.proofs.WriterLaws.{write-by-table, write-determined}
 use Rattle.demands.specs.JobFiles.{WriterProgram, Writes, ReaderProgram, Reads, file-written, Exact}
 use Rattle.demands.specs.Programs.{our-reader, our-writer}
+use Rattle.demands.proofs.Exactness as law
 
 pub writes : Writes our-writer
 writes net k vectors responses lent = record {

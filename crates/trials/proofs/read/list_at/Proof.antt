@@ -2,8 +2,8 @@ use borrow.Author.Needs.{needs}
 use mathlib.Core.Path.{_≡_}
 use Prim.Native.Nat.{_+_, _≤_, _-_}
 use lib.ListN.{length}
-use Rattle.tables.proofs.read.list_at.Statement.{statement}
-use Rattle.tables.proofs.read.list_at.Tie as tie
+use Rattle.trials.proofs.read.list_at.Statement.{statement}
+use Rattle.trials.proofs.read.list_at.Tie as tie
 
 abbrev Inv-loop : tie.InvT-loop
 Inv-loop text from words₀ count₀ begun₀ i₀ words count begun i = (count + begun ≤ 65) × (begun ≤ 1) × (i ≤ length text) × (length words ≡ 65)

@@ -6,8 +6,8 @@ use mathlib.Core.List.{[], _∷_}
 use lib.ListN.{length}
 use Rattle.words.proofs.Writing.{written-next}
 use Rattle.decimal.specs.Decimal.{decimal, space}
-use Rattle.decimal.proofs.put_number.Statement.{statement}
-use Rattle.decimal.proofs.put_number.Tie as tie
+use Rattle.decimal.proofs.put_spaced.Statement.{statement}
+use Rattle.decimal.proofs.put_spaced.Tie as tie
 
 slice-aggregate-put-bytes : tie.Need-slice-aggregate-put-bytes
 slice-aggregate-put-bytes c = search needs
@@ -36,5 +36,5 @@ returns c =
           (d .put-decimal .ensures .1) (omega arith) (omega (arith, s .pre)),
     )
 
-pub put-number-spec : {M : Type 1} → statement M
-put-number-spec = tie.close (tie.spec slice-aggregate-put-bytes put-bytes-requires add-put-decimal put-decimal-requires same-length returns)
+pub put-spaced-spec : {M : Type 1} → statement M
+put-spaced-spec = tie.close (tie.spec slice-aggregate-put-bytes put-bytes-requires add-put-decimal put-decimal-requires same-length returns)

@@ -1,8 +1,8 @@
 use borrow.Author.Needs.{needs}
 use Prim.Native.Nat.{_≤_, _-_}
 use lib.ListN.{length}
-use Rattle.tables.proofs.lent.all_marked.Statement.{statement}
-use Rattle.tables.proofs.lent.all_marked.Tie as tie
+use Rattle.trials.proofs.lent.all_marked.Statement.{statement}
+use Rattle.trials.proofs.lent.all_marked.Tie as tie
 
 abbrev Inv-loop : tie.InvT-loop
 Inv-loop list from i₀ i = from ≤ i

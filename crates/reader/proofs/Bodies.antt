@@ -33,7 +33,7 @@ module _ (file : List ℕ) (e : bad-layout file ≡ false) where
       let next : suc i < entry-count file = omega arith in
       omega (arith, layout .no-gaps i next, body-ends d (suc i) (omega arith))
 
-  pub body-inside : (i : ℕ) → i < entry-count file → body-offset file i + body-length file i ≤ length file
+  body-inside : (i : ℕ) → i < entry-count file → body-offset file i + body-length file i ≤ length file
   body-inside i l = body-ends (entry-count file - suc i) i (omega arith)
 
   pub nets-inside : bad-bodies file ≡ false → body-offset file 0 + 2 ≤ length file

@@ -1,7 +1,7 @@
 use borrow.Author.Needs.{needs}
 use Prim.Native.Nat.{_≤_, _-_}
-use Rattle.tables.proofs.show.part.Statement.{statement}
-use Rattle.tables.proofs.show.part.Tie as tie
+use Rattle.trials.proofs.show.part.Statement.{statement}
+use Rattle.trials.proofs.show.part.Tie as tie
 
 abbrev Inv-loop : tie.InvT-loop
 Inv-loop list from end i₀ i = from ≤ i
