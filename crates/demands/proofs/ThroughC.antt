@@ -1,13 +1,17 @@
 -- Through the C interface the session's calls are the calls on the record.
-use borrow.Author.Tests.{eq-eqb, eqb-true, not-false}
+use borrow.Author.Tests.{eq-eqb, ne-eqb, eqb-true, leb-true, not-false}
 use native.Mathlib.Omega.{arith}
 use Prim.Native.Nat.{ℕ, _^_, _≤_}
-use mathlib.Core.Path.{_≡_, refl, sym, ap, _∙_, subst}
+use mathlib.Core.Path.{_≡_, refl, sym, ap, ap₂, _∙_, subst}
+use mathlib.Core.Logic.{_≢_}
 use mathlib.Core.Bool.{Bool, true, false, cond}
 use mathlib.Core.List.{List, [], _∷_}
-use lib.ListN.{length}
+use lib.Dec.{eqb, leb}
+use lib.ListN.{length, take}
+use lib.Seq.{length-take-le}
+use Rattle.words.specs.Bits.{at}
 use Rattle.words.specs.Answers.{Answer, refused, full, by-tests, lent-after}
-use Rattle.words.proofs.Answers.{refused-not-full}
+use Rattle.words.proofs.Answers.{none-passed}
 use Rattle.words.proofs.Columns.{length-tabulate}
 use Rattle.network.specs.declared.Network.{Network}
 use Rattle.network.specs.Rows.{bad-net-count}
@@ -15,26 +19,23 @@ use Rattle.network.proofs.Rows.{decides-row-5, nets-admitted}
 use Rattle.diagnosis.specs.ReadBack.{read-back}
 use Rattle.diagnosis.proofs.ReadingBack.{read-size}
 use Rattle.steps.specs.FirstStep.{first-vectors}
-use Rattle.steps.specs.SecondStep.{unclear, fault-free-state}
+use Rattle.steps.specs.SecondStep.{unclear, second-vectors, fault-free-state}
 use Rattle.steps.proofs.StepOneWords.{length-bounds, first-size}
 use Rattle.session.specs.declared.Session.{Session}
-use Rattle.session.specs.Calls.{stepped, first-answer, answered-by, vectors-driven, all-answers, second-answer}
+use Rattle.session.specs.Record.{held-answers, awaits-first, awaits-second}
+use Rattle.session.specs.Calls.{begin-answer, stepped, first-answer, answered-by, vectors-driven, all-answers, second-answer}
+use Rattle.session.specs.Drive.{front, to-drive}
 use Rattle.session.proofs.Padding.{pad-size}
-use Rattle.session.proofs.Records.{awaits-first-is, awaits-second-nets}
+use Rattle.session.proofs.Records.{awaits-first-step, awaits-first-is, awaits-second-step, awaits-second-nets}
 use Rattle.packing.specs.Packed.{session-size, session-words, session-of}
 use Rattle.packing.proofs.Words.{all-written, session-there, Sized, session-sized, words-size, session-back}
-use Rattle.exports.specs.Exported.{code, in-words, of-length, drive-count}
-use Rattle.exports.proofs.CallLaws.{right-length}
+use Rattle.exports.specs.Exported.{code, in-words, wrong-length, of-length, drive-count}
+use Rattle.exports.proofs.CallLaws.{other-length, right-length}
 use Rattle.demands.specs.SessionCalls.{Call, begin, first, second, lent}
 use Rattle.demands.specs.Programs.{our-answer, our-new, our-sessions}
-use Rattle.demands.specs.ThroughC.{exported-answer, exported-session, exported, SameInWords, ThroughC}
+use Rattle.demands.specs.ThroughC.{exported-answer, exported-session, exported, SameInWords, SessionsThroughC}
 
 -- ---- accepted calls leave records with arrays of 8 and 48 words
-
--- a test that a call has passed
-passed : {A : Type 0} (test : Bool) (number : ℕ) (rest : Answer A) (x : A) → cond test (refused number) rest ≡ full x → (test ≡ false) × (rest ≡ full x)
-passed true number rest x e = refused-not-full refl e
-passed false number rest x e = (refl, e)
 
 nets-most : (net : Network) → bad-net-count net ≡ false → (2 ≤ net .nets) × (net .nets ≤ 48)
 nets-most net e = nets-admitted net (decides-row-5 net .1 e)
@@ -48,18 +49,17 @@ answered-sized net answers [] few most = record {
 answered-sized net answers (i ∷ nets) few most = record { first-size = pad-size 8 answers few; reaches-size = refl }
 
 new-sized : (session : Session) (call : Call) (words : List ℕ) → our-answer session call ≡ full words → Sized (our-new session call)
-unfolding first-answer second-answer by-tests
+unfolding first-answer second-answer
 new-sized session (begin net list) words e = record { first-size = refl; reaches-size = refl }
 new-sized session (first answers list) words e =
     let net = session .network in
-    let row-4 = passed _ 4 _ words e in
-    let row-9 = passed _ 9 _ words (row-4 .1) in
-    let nets = nets-most net (awaits-first-is session (not-false _ (row-4 .0)) .1) in
-    let size : length answers ≡ length (first-vectors net) = eqb-true _ _ (not-false _ (row-9 .0)) in
+    let rows = none-passed _ _ words e .0 in
+    let nets = nets-most net (awaits-first-is session (not-false _ (rows .0)) .1) in
+    let size : length answers ≡ length (first-vectors net) = eqb-true _ _ (not-false _ (rows .1 .0)) in
     answered-sized net answers (unclear net answers) (omega (arith, size, first-size net, length-bounds net (nets .0) (nets .1) .1)) (nets .1)
 new-sized session (second answers) words e =
     let net = session .network in
-    let nets = nets-most net (awaits-second-nets session (not-false _ (passed _ 4 _ words e .0))) in
+    let nets = nets-most net (awaits-second-nets session (not-false _ (none-passed _ _ words e .0 .0))) in
     let state = read-back net (net .nets) (vectors-driven session) (all-answers session answers) in
     let one-a-net : length state ≡ net .nets = read-size net (net .nets) (vectors-driven session) (all-answers session answers) in
     record { first-size = refl; reaches-size = pad-size 48 state (omega (arith, nets .1, one-a-net)) }
@@ -109,18 +109,88 @@ module _ (words : List ℕ) (size : length words ≡ session-size) where
     session-kept : session-of (exported words call .session) ≡ after
     session-kept = ap session-of words-are ∙ session-back after (kept .0)
 
+-- ---- a call that returns 0
+
+abbrev Numbered : List (ℕ × Bool) → Type 0
+Numbered [] = Unit {0}
+Numbered ((number, test) ∷ tests) = (number ≢ 0) × Numbered tests
+
+zero-full : {A : Type 0} (tests : List (ℕ × Bool)) (x : A) → Numbered tests → code (by-tests tests x) ≡ 0 → by-tests tests x ≡ full x
+unfolding by-tests code
+zero-full [] x n e = refl
+zero-full ((number, test) ∷ tests) x (n, more) e = go test e (zero-full tests x more)
+  where
+    go : (t : Bool) → code (cond t (refused number) (by-tests tests x)) ≡ 0 → (code (by-tests tests x) ≡ 0 → by-tests tests x ≡ full x)
+        → cond t (refused number) (by-tests tests x) ≡ full x
+    go true q later = absurd (n q)
+    go false q later = later q
+
+zero-accepted : (session : Session) (call : Call) → code (our-answer session call) ≡ 0 → (written : List ℕ) × (our-answer session call ≡ full written)
+unfolding begin-answer first-answer second-answer
+zero-accepted session (begin net list) e = (_, zero-full _ _ (λ q. omega (arith, q), (λ q. omega (arith, q), tt)) e)
+zero-accepted session (first answers list) e =
+    (_, zero-full _ _ (λ q. omega (arith, q), (λ q. omega (arith, q), (λ q. omega (arith, q), (λ q. omega (arith, q), tt)))) e)
+zero-accepted session (second answers) e =
+    (_, zero-full _ _ (λ q. omega (arith, q), (λ q. omega (arith, q), (λ q. omega (arith, q), (λ q. omega (arith, q), tt)))) e)
+
+-- ---- the part to drive
+
+front-part : (count : ℕ) (list : List ℕ) → take (length (front count list)) list ≡ front count list
+front-part count list = go (leb count (length list)) refl
+  where
+    go : (b : Bool) → leb count (length list) ≡ b → take (length (cond b (take count list) [])) list ≡ cond b (take count list) []
+    go true e = ap (λ (n : ℕ). take n list) (length-take-le count list (leb-true count (length list) e))
+    go false e = refl
+
+module _ (s : Session) (one two : List ℕ) where
+  abbrev first-part : List ℕ
+  first-part = front (length (first-vectors (s .network))) one
+
+  abbrev second-part : List ℕ
+  second-part = front (length (second-vectors (s .network) (held-answers s))) two
+
+  drive-part : take (length (to-drive s one two)) (cond (eqb (s .step) 1) one two) ≡ to-drive s one two
+  unfolding to-drive
+  drive-part = go (awaits-first s) (awaits-second s) refl refl
+    where
+      go : (a b : Bool) → awaits-first s ≡ a → awaits-second s ≡ b
+          → take (length (cond a first-part (cond b second-part []))) (cond (eqb (s .step) 1) one two) ≡ cond a first-part (cond b second-part [])
+      go true b e f = rw (ap (λ (n : ℕ). eqb n 1) (awaits-first-step s e)) (front-part (length (first-vectors (s .network))) one)
+      go false true e f = rw (ap (λ (n : ℕ). eqb n 1) (awaits-second-step s f)) (front-part (length (second-vectors (s .network) (held-answers s))) two)
+      go false false e f = refl
+
+step-is : (words : List ℕ) → session-of words .step ≡ at words 0
+unfolding session-of
+step-is words = refl
+
+-- ---- a list of another length
+
+other : (words : List ℕ) → length words ≢ session-size → (call : Call) → exported words call ≡ record { returned = wrong-length; list = lent call; session = words }
+unfolding code in-words lent-after
+other words n call =
+    let wrong = other-length session-size words (our-answer (session-of words) call) n in
+    let new : List ℕ → List ℕ = λ _. session-words (our-sessions (session-of words) call .session) in
+    ap₂ (λ (a b : Answer (List ℕ)). record { returned = code a; list = lent-after a (lent call); session = lent-after b words })
+    (answer-is words call ∙ wrong) (session-is words call ∙ ap (in-words new) wrong)
+
 -- ---- lists of calls
 
-pub through-c : ThroughC
+same : (words : List ℕ) → length words ≡ session-size → (calls : List Call) → SameInWords words (session-of words) calls
 unfolding drive-count
-through-c words size [] = record {
+same words size [] = record {
   size = size;
   session = refl;
   returned = λ call. ap code (answered words size call);
+  accepted = λ call e. zero-accepted (session-of words) call (sym (ap code (answered words size call)) ∙ e);
   list = λ call. ap (λ (a : Answer (List ℕ)). lent-after a (lent call)) (answered words size call);
-  drive = λ one two. rw (eq-eqb (length words) session-size size);
+  drive-size = λ one two. rw (eq-eqb (length words) session-size size);
+  drive = λ one two. rw (eq-eqb (length words) session-size size, sym (step-is words)) (drive-part (session-of words) one two);
 }
-through-c words size (call ∷ calls) =
+same words size (call ∷ calls) =
     let next = exported words call .session in
-    let r = subst (λ (start : Session). SameInWords next start calls) (session-kept words size call) (through-c next (size-kept words size call) calls) in
-    record { size = r .size; session = r .session; returned = r .returned; list = r .list; drive = r .drive }
+    let r = subst (λ (start : Session). SameInWords next start calls) (session-kept words size call) (same next (size-kept words size call) calls) in
+    record { size = r .size; session = r .session; returned = r .returned; accepted = r .accepted; list = r .list; drive-size = r .drive-size; drive = r .drive }
+
+pub sessions-through-c : SessionsThroughC
+unfolding drive-count
+sessions-through-c = record { same = same; other-length = other; no-drive = λ words one two n. rw (ne-eqb (length words) session-size n) }

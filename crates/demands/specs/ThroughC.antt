@@ -1,12 +1,16 @@
--- The session's calls through the C interface, one after the other: 59 words go through them as the record that they are does.
+-- The session's calls through the C interface, one after the other: what they do to 59 words is what they do to the record that the words are.
 use Prim.Native.Nat.{ℕ}
 use mathlib.Core.Path.{_≡_}
+use mathlib.Core.Logic.{_≢_}
+use mathlib.Core.Bool.{cond}
 use mathlib.Core.List.{List, [], _∷_}
-use lib.ListN.{length}
-use Rattle.words.specs.Answers.{Answer, lent-after}
+use lib.Dec.{eqb}
+use lib.ListN.{length, take}
+use Rattle.words.specs.Bits.{at}
+use Rattle.words.specs.Answers.{Answer, full, lent-after}
 use Rattle.session.specs.declared.Session.{Session}
 use Rattle.packing.specs.Packed.{session-size, session-of}
-use Rattle.exports.specs.Exported.{code, begin-exported, first-exported, second-exported, session-begun, session-first, session-second, drive-count}
+use Rattle.exports.specs.Exported.{code, wrong-length, begin-exported, first-exported, second-exported, session-begun, session-first, session-second, drive-count}
 use Rattle.demands.specs.SessionCalls.{Call, begin, first, second, lent, record-after}
 use Rattle.demands.specs.Programs.{our-sessions, our-drive}
 
@@ -39,14 +43,22 @@ abbrev pub words-after : List ℕ → List Call → List ℕ
 words-after words [] = words
 words-after words (call ∷ calls) = words-after (exported words call .session) calls
 
--- After a list of calls they are the words of the record that the calls leave, and a further call returns and writes what it does on that record.
+-- After a list of calls they are 59 words still, and the record that they are is the one that the calls leave. A further call returns and writes what it does
+-- on that record, and returns 0 only if it is accepted there. The part to drive begins the first list if the first word is 1, else the second.
 pub record SameInWords (words : List ℕ) (start : Session) (calls : List Call) : Type 0 where
   pub size : length (words-after words calls) ≡ session-size
   pub session : session-of (words-after words calls) ≡ record-after our-sessions start calls
   pub returned : (call : Call) → exported (words-after words calls) call .returned ≡ code (our-sessions (record-after our-sessions start calls) call .answer)
+  pub accepted : (call : Call) → exported (words-after words calls) call .returned ≡ 0
+      → (written : List ℕ) × (our-sessions (record-after our-sessions start calls) call .answer ≡ full written)
   pub list : (call : Call) → exported (words-after words calls) call .list ≡ our-sessions (record-after our-sessions start calls) call .list
-  pub drive : (one two : List ℕ) → drive-count (words-after words calls) one two ≡ length (our-drive (record-after our-sessions start calls) one two)
+  pub drive-size : (one two : List ℕ) → drive-count (words-after words calls) one two ≡ length (our-drive (record-after our-sessions start calls) one two)
+  pub drive : (one two : List ℕ)
+      → take (drive-count (words-after words calls) one two) (cond (eqb (at (words-after words calls) 0) 1) one two) ≡ our-drive (record-after our-sessions start calls) one two
 
--- from any 59 words, over every list of calls
-abbrev pub ThroughC : Type 0
-ThroughC = (words : List ℕ) → length words ≡ session-size → (calls : List Call) → SameInWords words (session-of words) calls
+pub record SessionsThroughC : Type 0 where
+  -- from any 59 words, over every list of calls
+  pub same : (words : List ℕ) → length words ≡ session-size → (calls : List Call) → SameInWords words (session-of words) calls
+  -- a list of any other length is refused with 99, nothing lent is changed, and there is nothing to drive
+  pub other-length : (words : List ℕ) → length words ≢ session-size → (call : Call) → exported words call ≡ record { returned = wrong-length; list = lent call; session = words }
+  pub no-drive : (words one two : List ℕ) → length words ≢ session-size → drive-count words one two ≡ 0
