@@ -23,6 +23,7 @@ use Rattle.reader.proofs.ReaderLaws.{read-by-table}
 use Rattle.listing.specs.Report.{refused-line, verdict-line, net-lines, diagnosis-text, responses-text, content-text, job-text, report}
 use Rattle.demands.specs.Demand1.{FirstRow}
 use Rattle.demands.specs.Reports.{ReportProgram, Follows, nothing, a-line-a-net, not-passed, no-state, LineOne, Says, Reports}
+use Rattle.demands.specs.Programs.{our-report}
 use Rattle.demands.proofs.DemandOne.{either}
 
 -- the rows of the reader on responses do not hold, where there are any
@@ -86,7 +87,7 @@ reached file (_, (_, (_, (five, (six, (seven, (eight, (nine, (ten, _))))))))) e 
       whole = ap job-text e;
     }
 
-pub reports : Reports report
+pub reports : Reports our-report
 unfolding report
 reports file =
     ⊎-elim inl (λ w. inr (w .0, reached file (w .0) (w .1)))

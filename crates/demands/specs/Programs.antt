@@ -15,6 +15,7 @@ use Rattle.session.specs.Calls.{stepped, begin-answer, first-answer, answered-b
 use Rattle.session.specs.Drive.{to-drive}
 use Rattle.reader.specs.Reader.{read-answer, vectors-read, responses-read, counted}
 use Rattle.writer.specs.Writer.{write-answer}
+use Rattle.listing.specs.Report.{report}
 use Rattle.demands.specs.Demand2.{ResponseProgram, DiagnosisProgram}
 use Rattle.demands.specs.FindingsCall.{FindingsProgram}
 use Rattle.demands.specs.JobFiles.{WriterProgram, ReaderProgram}
@@ -22,6 +23,7 @@ use Rattle.demands.specs.SessionCalls.{Call, begin, first, second, lent,
 use Rattle.demands.specs.SessionRecords.{DriveProgram}
 use Rattle.demands.specs.Demand1.{Programs}
 use Rattle.demands.specs.Demand3.{CheckProgram}
+use Rattle.demands.specs.Reports.{ReportProgram}
 
 abbrev pub our-response : ResponseProgram
 our-response net k vectors state lent =
@@ -76,7 +78,12 @@ our-sessions session call = record {
 abbrev pub our-drive : DriveProgram
 our-drive session one two = to-drive session one two
 
--- ---- all of them
+-- ---- the report
+
+abbrev pub our-report : ReportProgram
+our-report file = report file
+
+-- ---- all of document 01's calls
 
 abbrev pub ours : Programs
 ours = record {

@@ -49,10 +49,10 @@ module _ {A : Type 0} (a : Answer A) (x : A) (e : a ≡ full x) where
 
 -- ---- a call that returns how much it wrote
 
-pub code-counted : (a : Answer (List ℕ)) (n : Answer ℕ) → n ≡ count-of a → code n ≡ code a
+pub code-counted : {A : Type 0} (a : Answer (List A)) (n : Answer ℕ) → n ≡ count-of a → code n ≡ code a
 unfolding code count-of
 code-counted (refused number) n said = ap code said
-code-counted (full words) n said = ap code said
+code-counted (full xs) n said = ap code said
 
 pub counted-size : (a : Answer (List ℕ)) (count : ℕ) → full count ≡ count-of a → in-words size-words a ≡ full (count ∷ [])
 unfolding in-words
@@ -72,7 +72,7 @@ read-words a job said =
 
 -- ---- a call on a session
 
-stepped-code : (a : Answer (List ℕ)) (new old : Session) → stepped a new old .code ≡ code a
+pub stepped-code : (a : Answer (List ℕ)) (new old : Session) → stepped a new old .code ≡ code a
 unfolding stepped code
 stepped-code (refused number) new old = refl
 stepped-code (full words) new old = refl

@@ -1,0 +1,126 @@
+-- What a call writes as words is the words of what the program writes.
+use native.Mathlib.Omega.{arith}
+use Prim.Native.Nat.{ℕ, _/_, _≤_}
+use mathlib.Core.Path.{_≡_, refl, sym, ap, _∙_}
+use mathlib.Core.Bool.{Bool, true, false, cond}
+use mathlib.Core.List.{List, [], _∷_, _++_}
+use lib.Dec.{eqb}
+use lib.ListN.{length, drop}
+use Rattle.words.specs.Answers.{Answer, refused, full, lent-after, count-of}
+use Rattle.words.proofs.Answers.{table-full, table-none-holds}
+use Rattle.words.proofs.Tests.{test-fails}
+use Rattle.network.specs.declared.Network.{Network}
+use Rattle.network.proofs.States.{test→state, decides-not-a-state}
+use Rattle.findings.specs.declared.Finding.{Finding}
+use Rattle.findings.specs.FindingsTable.{FindingsRows, Findings, findings-answer}
+use Rattle.findings.proofs.FindingsLaws.{findings-by-table}
+use Rattle.reader.specs.Reader.{JobContent, counted}
+use Rattle.packing.specs.Packed.{finding-words, job-words, size-words}
+use Rattle.exports.specs.Exported.{code, in-words, wrong-length, of-length}
+use Rattle.exports.proofs.CallLaws.{code-counted, code-read}
+use Rattle.demands.specs.Programs.{our-findings}
+use Rattle.agreement.specs.InWords.{records-of, rest-of, read-words, wrote-words, with-length}
+
+-- ---- tables
+
+records-size : (words : List ℕ) → length (records-of words) ≡ length words / 3
+unfolding records-of
+records-size [] = refl
+records-size (a ∷ []) = refl
+records-size (a ∷ b ∷ []) = refl
+records-size (a ∷ b ∷ c ∷ words) = let more = records-size words in omega arith
+
+records-there : (words : List ℕ) → finding-words (records-of words) ++ rest-of words ≡ words
+unfolding records-of rest-of finding-words
+records-there [] = refl
+records-there (a ∷ []) = refl
+records-there (a ∷ b ∷ []) = refl
+records-there (a ∷ b ∷ c ∷ words) = ap (λ (more : List ℕ). a ∷ b ∷ c ∷ more) (records-there words)
+
+-- records put into the front of a table of words
+records-put : (records : List Finding) (words : List ℕ) → length records ≤ length (records-of words)
+    → lent-after (full (finding-words records)) words ≡ finding-words (lent-after (full records) (records-of words)) ++ rest-of words
+unfolding records-of rest-of finding-words lent-after
+records-put [] words l = sym (records-there words)
+records-put (found ∷ records) [] l = absurd (omega arith)
+records-put (found ∷ records) (a ∷ []) l = absurd (omega arith)
+records-put (found ∷ records) (a ∷ b ∷ []) l = absurd (omega arith)
+records-put (found ∷ records) (a ∷ b ∷ c ∷ words) l =
+    ap (λ (more : List ℕ). found .kind ∷ found .reach ∷ found .partners ∷ more) (records-put records words (omega arith))
+
+table-words : (a : Answer (List Finding)) (words : List ℕ) → ((records : List Finding) → a ≡ full records → length records ≤ length (records-of words))
+    → lent-after (in-words finding-words a) words ≡ finding-words (lent-after a (records-of words)) ++ rest-of words
+unfolding in-words lent-after
+table-words (refused number) words fits = sym (records-there words)
+table-words (full records) words fits = records-put records words (fits records refl)
+
+-- an accepted call writes no more records than there is room for
+fits-room : (net : Network) (state : List ℕ) (room : ℕ) (records : List Finding) → findings-answer net state room ≡ full records → length records ≤ room
+fits-room net state room records e =
+    let table = findings-by-table net state room in
+    let rows = table-none-holds (Findings net state) (FindingsRows net state room) records (rw e at table) in
+    let is-state = test→state net (net .nets) state (test-fails (decides-not-a-state net (net .nets) state) (rows .1 .0)) in
+    let size = table-full (Findings net state) (FindingsRows net state room) records (rw e at table) .one-a-net in
+    omega (arith, size, is-state .size, rows .1 .1 .0)
+
+pub found-in-words : (net : Network) (state words table : List ℕ) (number : ℕ) → let room = length words / 3 in
+    number ≡ code (findings-answer net state room) → table ≡ lent-after (in-words finding-words (findings-answer net state room)) words
+    → let did = our-findings net state (records-of words) in
+    (number ≡ code (did .returned)) × (table ≡ finding-words (did .list) ++ rest-of words)
+found-in-words net state words table number e f =
+    let a = findings-answer net state (length (records-of words)) in
+    let same : findings-answer net state (length words / 3) ≡ a = ap (findings-answer net state) (sym (records-size words)) in (
+      e ∙ ap code same ∙ sym (code-counted a (count-of a) refl),
+      f ∙ ap (λ (b : Answer (List Finding)). lent-after (in-words finding-words b) words) same ∙ table-words a words (fits-room net state (length (records-of words))),
+    )
+
+-- ---- lists of a fixed length
+
+-- what is told alike of two answers, and of a refusal, is told alike of both with a list that must have a length
+alike-of-length : {A B C : Type 0} (size : ℕ) (list : List ℕ) (a : Answer A) (b : Answer B) (told : Answer A → C) (other : Answer B → C) → told a ≡ other b
+    → told (refused wrong-length) ≡ other (refused wrong-length) → told (of-length size list a) ≡ other (of-length size list b)
+unfolding of-length
+alike-of-length {A} {B} {C} size list a b told other same none = go (eqb (length list) size)
+  where
+    go : (right : Bool) → told (cond right a (refused wrong-length)) ≡ other (cond right b (refused wrong-length))
+    go true = same
+    go false = none
+
+-- a list that is lent besides is as it was if the first has another length
+pub lent-of-length : {A : Type 0} (size : ℕ) (list : List ℕ) (a : Answer A) (written : Answer A → Answer (List ℕ)) (lent : List ℕ) → written (refused wrong-length) ≡ refused wrong-length
+    → lent-after (written (of-length size list a)) lent ≡ with-length size list (lent-after (written a) lent) lent
+unfolding of-length lent-after
+lent-of-length {A} size list a written lent none = go (eqb (length list) size)
+  where
+    go : (right : Bool) → lent-after (written (cond right a (refused wrong-length))) lent ≡ cond right (lent-after (written a) lent) lent
+    go true = refl
+    go false = ap (λ (b : Answer (List ℕ)). lent-after b lent) none
+
+-- ---- what is returned, with a list that must have a length
+
+read-alike : (a : Answer JobContent) → in-words job-words a ≡ in-words read-words (counted a)
+unfolding in-words job-words
+read-alike (refused number) = refl
+read-alike (full job) = refl
+
+wrote-alike : (a : Answer (List ℕ)) → in-words size-words a ≡ in-words wrote-words (count-of a)
+unfolding in-words count-of
+wrote-alike (refused number) = refl
+wrote-alike (full bytes) = refl
+
+module _ (size : ℕ) (list : List ℕ) where
+  pub read-in-words : (a : Answer JobContent)
+      → (code (of-length size list a) ≡ code (of-length size list (counted a))) × (in-words job-words (of-length size list a) ≡ in-words read-words (of-length size list (counted a)))
+  unfolding in-words code
+  read-in-words a = (
+    alike-of-length size list a (counted a) code code (sym (code-read a (counted a) refl)) refl,
+    alike-of-length size list a (counted a) (in-words job-words) (in-words read-words) (read-alike a) refl,
+  )
+
+  pub wrote-in-words : (a : Answer (List ℕ))
+      → (code (of-length size list a) ≡ code (of-length size list (count-of a))) × (in-words size-words (of-length size list a) ≡ in-words wrote-words (of-length size list (count-of a)))
+  unfolding in-words code
+  wrote-in-words a = (
+    alike-of-length size list a (count-of a) code code (sym (code-counted a (count-of a) refl)) refl,
+    alike-of-length size list a (count-of a) (in-words size-words) (in-words wrote-words) (wrote-alike a) refl,
+  )

@@ -1,0 +1,34 @@
+-- A table of findings from words, and what the reader and the writer return, as words.
+use Prim.Native.Nat.{ℕ}
+use mathlib.Core.Bool.{cond}
+use mathlib.Core.List.{List, [], _∷_}
+use lib.Dec.{eqb}
+use lib.ListN.{length}
+use Rattle.findings.specs.declared.Finding.{Finding}
+use Rattle.reader.specs.declared.Job.{Job}
+
+-- the records that the words are, kind, reach and partners each
+unfoldable pub records-of : List ℕ → List Finding
+records-of [] = []
+records-of (a ∷ []) = []
+records-of (a ∷ b ∷ []) = []
+records-of (a ∷ b ∷ c ∷ words) = record { kind = a; reach = b; partners = c } ∷ records-of words
+
+-- the words after the last whole record
+unfoldable pub rest-of : List ℕ → List ℕ
+rest-of [] = []
+rest-of (a ∷ []) = a ∷ []
+rest-of (a ∷ b ∷ []) = a ∷ b ∷ []
+rest-of (a ∷ b ∷ c ∷ words) = rest-of words
+
+-- what the reader returns: nets, class, number of vectors, number of responses
+abbrev pub read-words : Job → List ℕ
+read-words job = job .network .nets ∷ job .class ∷ job .vectors ∷ job .responses ∷ []
+
+-- what the writer returns: how many bytes it wrote
+abbrev pub wrote-words : ℕ → List ℕ
+wrote-words count = count ∷ []
+
+-- one of two lists: by whether a lent list has its fixed length
+abbrev pub with-length : ℕ → (list filled lent : List ℕ) → List ℕ
+with-length size list filled lent = cond (eqb (length list) size) filled lent

@@ -1,0 +1,101 @@
+// The same for the calls of the C interface.
+ghost use mathlib.Core.Path.{_≡_};
+ghost use mathlib.Core.List.{_++_};
+ghost use Rattle.words.specs.Answers.{«lent-after»};
+ghost use Rattle.packing.specs.Packed.{«network-of», «verdict-words», «finding-words»};
+ghost use Rattle.exports.specs.Exported.{code, «in-words», «of-length», «drive-count»};
+ghost use Rattle.demands.specs.SessionCalls.{begin, first, second};
+ghost use Rattle.demands.specs.Programs.{«our-check», «our-response», «our-diagnosis», «our-findings», «our-reader», «our-writer»};
+ghost use Rattle.demands.specs.ThroughC.{exported};
+ghost use Rattle.agreement.specs.InWords.{«records-of», «rest-of», «read-words», «wrote-words», «with-length»};
+
+// *check*
+pub fn check(nets: u64, class: u64, vectors: &[u64], verdict: &mut [u64]) -> u64
+    ensures returned { λ r. ⌜ r ≡ code (of-length 3 (now (verdict .entry)) (our-check (network-of nets) class (now (vectors .entry)))) ⌝ }
+    ensures verdict { λ r. ⌜ now (verdict .exit) ≡ lent-after (in-words verdict-words (of-length 3 (now (verdict .entry)) (our-check (network-of nets) class (now (vectors .entry))))) (now (verdict .entry)) ⌝ }
+{
+    exports::fontarelga_check(nets, class, vectors, verdict)
+}
+
+// *response from a state*
+pub fn respond(nets: u64, class: u64, vectors: &[u64], state: &[u64], response: &mut [u64]) -> u64
+    ensures returned { λ r. ⌜ r ≡ code (our-response (network-of nets) class (now (vectors .entry)) (now (state .entry)) (now (response .entry)) .returned) ⌝ }
+    ensures list { λ r. ⌜ now (response .exit) ≡ our-response (network-of nets) class (now (vectors .entry)) (now (state .entry)) (now (response .entry)) .list ⌝ }
+{
+    exports::fontarelga_respond(nets, class, vectors, state, response)
+}
+
+// *diagnosis*
+pub fn diagnose(nets: u64, class: u64, vectors: &[u64], responses: &[u64], state: &mut [u64]) -> u64
+    ensures returned { λ r. ⌜ r ≡ code (our-diagnosis (network-of nets) class (now (vectors .entry)) (now (responses .entry)) (now (state .entry)) .returned) ⌝ }
+    ensures list { λ r. ⌜ now (state .exit) ≡ our-diagnosis (network-of nets) class (now (vectors .entry)) (now (responses .entry)) (now (state .entry)) .list ⌝ }
+{
+    exports::fontarelga_diagnose(nets, class, vectors, responses, state)
+}
+
+// *findings*
+pub fn find(nets: u64, state: &[u64], table: &mut [u64]) -> u64
+    ensures returned { λ r. ⌜ r ≡ code (our-findings (network-of nets) (now (state .entry)) (records-of (now (table .entry))) .returned) ⌝ }
+    ensures table { λ r. ⌜ now (table .exit) ≡ finding-words (our-findings (network-of nets) (now (state .entry)) (records-of (now (table .entry))) .list) ++ rest-of (now (table .entry)) ⌝ }
+{
+    exports::fontarelga_findings(nets, state, table)
+}
+
+// *begin*
+pub fn begin(session: &mut [u64], nets: u64, list: &mut [u64]) -> u64
+    ensures returned { λ r. ⌜ r ≡ exported (now (session .entry)) (begin (network-of nets) (now (list .entry))) .returned ⌝ }
+    ensures session { λ r. ⌜ now (session .exit) ≡ exported (now (session .entry)) (begin (network-of nets) (now (list .entry))) .session ⌝ }
+    ensures list { λ r. ⌜ now (list .exit) ≡ exported (now (session .entry)) (begin (network-of nets) (now (list .entry))) .list ⌝ }
+{
+    exports::fontarelga_begin(session, nets, list)
+}
+
+// *first answers*
+pub fn first_answers(session: &mut [u64], answers: &[u64], list: &mut [u64]) -> u64
+    ensures returned { λ r. ⌜ r ≡ exported (now (session .entry)) (first (now (answers .entry)) (now (list .entry))) .returned ⌝ }
+    ensures session { λ r. ⌜ now (session .exit) ≡ exported (now (session .entry)) (first (now (answers .entry)) (now (list .entry))) .session ⌝ }
+    ensures list { λ r. ⌜ now (list .exit) ≡ exported (now (session .entry)) (first (now (answers .entry)) (now (list .entry))) .list ⌝ }
+{
+    exports::fontarelga_first_answers(session, answers, list)
+}
+
+// *second answers*
+pub fn second_answers(session: &mut [u64], answers: &[u64]) -> u64
+    ensures returned { λ r. ⌜ r ≡ exported (now (session .entry)) (second (now (answers .entry))) .returned ⌝ }
+    ensures session { λ r. ⌜ now (session .exit) ≡ exported (now (session .entry)) (second (now (answers .entry))) .session ⌝ }
+{
+    exports::fontarelga_second_answers(session, answers)
+}
+
+// the vectors to drive next
+pub fn to_drive<'a>(session: &[u64], one: &'a [u64], two: &'a [u64]) -> u64
+    ensures { λ r. ⌜ r ≡ drive-count (now (session .entry)) (now (one .entry)) (now (two .entry)) ⌝ }
+{
+    exports::fontarelga_to_drive(session, one, two)
+}
+
+// *read a job file*
+pub fn read_job(file: &[u8], vectors: &mut [u64], responses: &mut [u64], job: &mut [u64]) -> u64
+    ensures returned { λ r. ⌜ r ≡ code (of-length 4 (now (job .entry)) (our-reader (now (file .entry)) (now (vectors .entry)) (now (responses .entry)) .returned)) ⌝ }
+    ensures vectors { λ r. ⌜ now (vectors .exit) ≡ with-length 4 (now (job .entry)) (our-reader (now (file .entry)) (now (vectors .entry)) (now (responses .entry)) .vectors) (now (vectors .entry)) ⌝ }
+    ensures responses { λ r. ⌜ now (responses .exit) ≡ with-length 4 (now (job .entry)) (our-reader (now (file .entry)) (now (vectors .entry)) (now (responses .entry)) .responses) (now (responses .entry)) ⌝ }
+    ensures job { λ r. ⌜ now (job .exit) ≡ lent-after (in-words read-words (of-length 4 (now (job .entry)) (our-reader (now (file .entry)) (now (vectors .entry)) (now (responses .entry)) .returned))) (now (job .entry)) ⌝ }
+{
+    exports::fontarelga_read_job(file, vectors, responses, job)
+}
+
+// *write a job file*
+pub fn write_job(
+    nets: u64,
+    class: u64,
+    vectors: &[u64],
+    responses: &[u64],
+    file: &mut [u8],
+    size: &mut [u64],
+) -> u64
+    ensures returned { λ r. ⌜ r ≡ code (of-length 1 (now (size .entry)) (our-writer (network-of nets) class (now (vectors .entry)) (now (responses .entry)) (now (file .entry)) .returned)) ⌝ }
+    ensures file { λ r. ⌜ now (file .exit) ≡ with-length 1 (now (size .entry)) (our-writer (network-of nets) class (now (vectors .entry)) (now (responses .entry)) (now (file .entry)) .list) (now (file .entry)) ⌝ }
+    ensures size { λ r. ⌜ now (size .exit) ≡ lent-after (in-words wrote-words (of-length 1 (now (size .entry)) (our-writer (network-of nets) class (now (vectors .entry)) (now (responses .entry)) (now (file .entry)) .returned))) (now (size .entry)) ⌝ }
+{
+    exports::fontarelga_write_job(nets, class, vectors, responses, file, size)
+}
