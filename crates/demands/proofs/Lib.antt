@@ -14,6 +14,7 @@ pub mod DemandThree
 pub mod ThroughC
 pub mod DemandOne
 pub mod Reporting
+pub mod FirstBytes
 pub mod DrivesAlike
 pub mod SessionsAlike
 pub mod RefutingSessions

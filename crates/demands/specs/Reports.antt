@@ -4,14 +4,14 @@ use Prim.Native.Nat.{ℕ}
 use mathlib.Core.Path.{_≡_}
 use mathlib.Core.Logic.{_⊎_, _≢_}
 use mathlib.Core.List.{List, [], _++_}
-use lib.ListN.{length}
+use lib.ListN.{length, take}
 use Rattle.words.specs.Answers.{NoneHolds}
 use Rattle.network.specs.States.{Fits}
 use Rattle.checker.specs.declared.Verdict.{Verdict}
 use Rattle.checker.specs.Rule.{Rule}
 use Rattle.diagnosis.specs.Diagnosis.{Row13, Row14}
 use Rattle.reader.specs.Reader.{JobContent, content, ReaderRows}
-use Rattle.listing.specs.Report.{refused-line, verdict-line, net-lines}
+use Rattle.listing.specs.Report.{refused-line, verdict-line, net-lines, deciding-bytes}
 use Rattle.demands.specs.Demand1.{FirstRow}
 
 -- a program that writes text for a file's bytes
@@ -43,3 +43,7 @@ Says file text =
 
 abbrev pub Reports : ReportProgram → Type 0
 Reports program = (file : List ℕ) → Says file (program file)
+
+-- a file's first bytes decide what is written, whatever follows them
+abbrev pub FirstBytesDecide : ReportProgram → Type 0
+FirstBytesDecide program = (file : List ℕ) → program (take deciding-bytes file) ≡ program file

@@ -10,6 +10,7 @@ use Rattle.checker.specs.Rule.{verdict}
 use Rattle.diagnosis.specs.Diagnosis.{diagnosis-answer}
 use Rattle.findings.specs.declared.Finding.{Finding}
 use Rattle.findings.specs.Findings.{finding}
+use Rattle.jobfile.specs.Layout.{most-bytes}
 use Rattle.reader.specs.Reader.{JobContent, read-answer}
 use Rattle.decimal.specs.Decimal.{decimal, numbers-end}
 
@@ -50,3 +51,7 @@ job-text (full job) = content-text (job .network) (job .class) (job .vectors) (j
 -- the report on a file; 64 words are enough for the vectors, and for the responses
 unfoldable pub report : List ℕ → List ℕ
 report file = job-text (read-answer file 64 64)
+
+-- how many of a file's first bytes decide its report: one more than a job file may have
+abbrev pub deciding-bytes : ℕ
+deciding-bytes = suc most-bytes

@@ -1,5 +1,7 @@
 // The report on the job file that standard input holds.
+ghost use mathlib.Core.Path.{_≡_};
 ghost use lib.ListN.{length};
+ghost use Rattle.listing.specs.Report.{«deciding-bytes»};
 ghost use Rattle.report.specs.Input.{Within};
 
 // How many bytes were read, or that a read failed.
@@ -8,8 +10,10 @@ enum Input {
     Failed,
 }
 
-// Reads to the end of standard input, or until the buffer is full, in as many reads as it takes.
+// Reads to the end of standard input, or until the buffer is full, in as many reads as it takes. A helper: the buffer
+// has just as many bytes as decide the report.
 fn read_input(buffer: &mut [u8]) -> Input
+    requires { ⌜ length (now buffer) ≡ deciding-bytes ⌝ }
     ensures { λ r. ⌜ Within r (length (now (buffer .entry))) ⌝ }
 {
     let mut count: usize = 0;

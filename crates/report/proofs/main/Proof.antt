@@ -7,6 +7,7 @@ use lib.ListN.{length, replicate}
 use lib.Seq.{length-take-le}
 use Rattle.words.specs.Answers.{full, lent-after}
 use Rattle.words.proofs.Answers.{written-fits}
+use Rattle.listing.specs.Report.{deciding-bytes}
 use Rattle.report.specs.declared.Input.{Input}
 use Rattle.report.specs.Input.{Within}
 use Rattle.report.proofs.main.Statement.{statement}
@@ -37,9 +38,9 @@ returns c = search needs
 read-room : (c : tie.After-input) → c .input .given .0 .0 ≤ length (c .before .before .before .read-input .last .0)
 read-room c =
     let r = c .before .before .before .read-input in
-    let size : length (r .last .0) ≡ 2049 = c .before .before .file2 .given in
-    let most : Within (r .result) 2049 = r .ensures in
-    let count : c .input .given .0 .0 ≤ 2049 = subst (λ (i : Input). Within i 2049) (c .input .given .1) most in
+    let size : length (r .last .0) ≡ deciding-bytes = c .before .before .file2 .given in
+    let most : Within (r .result) deciding-bytes = r .ensures in
+    let count : c .input .given .0 .0 ≤ deciding-bytes = subst (λ (i : Input). Within i deciding-bytes) (c .input .given .1) most in
     omega (arith, size, count)
 
 array-share-prefix-file : tie.Need-array-share-prefix-file
