@@ -2,7 +2,7 @@
 use Prim.Native.Nat.{ℕ}
 use mathlib.Core.Path.{_≡_}
 use mathlib.Core.List.{List, [], _∷_, _++_}
-use lib.ListN.{replicate}
+use lib.ListN.{length, replicate}
 use Rattle.words.specs.Answers.{Answer, refused, full}
 use Rattle.network.specs.declared.Network.{Network}
 use Rattle.network.specs.Respond.{response-answer}
@@ -10,6 +10,7 @@ use Rattle.checker.specs.declared.Verdict.{Verdict}
 use Rattle.checker.specs.declared.Verdict.the-variants.{Pass, Pair}
 use Rattle.checker.specs.Check.{check-answer}
 use Rattle.diagnosis.specs.Diagnosis.{diagnosis-answer}
+use Rattle.steps.specs.SecondStep.{unclear}
 use Rattle.session.specs.declared.Session.{Session}
 use Rattle.session.specs.Record.{finished}
 use Rattle.demands.specs.SessionCalls.{Call, begin, first, second, finished-second, record-after, history, OnlyFit}
@@ -114,6 +115,9 @@ pub record Starred : Type 0 where
   pub session-record : record-after our-sessions junk four-calls ≡ finished four (3 ∷ 3 ∷ 0 ∷ 8 ∷ []) 8
   pub session-history : history our-sessions junk four-calls
       ≡ finished-second four (11 ∷ 5 ∷ 6 ∷ 8 ∷ []) (15 ∷ 7 ∷ 7 ∷ 12 ∷ []) (0 ∷ 1 ∷ 2 ∷ 4 ∷ []) (4 ∷ 7 ∷ 7 ∷ 4 ∷ [])
+  -- after its first answers net 3 is clear, and document 01's F, the count of the others, is 3
+  pub net-3-clear : unclear four (15 ∷ 7 ∷ 7 ∷ 12 ∷ []) ≡ 0 ∷ 1 ∷ 2 ∷ []
+  pub three-unclear : length (unclear four (15 ∷ 7 ∷ 7 ∷ 12 ∷ [])) ≡ 3
   -- demand 3 applied to it
   pub session-state : OnlyFit (finished-second four (11 ∷ 5 ∷ 6 ∷ 8 ∷ []) (15 ∷ 7 ∷ 7 ∷ 12 ∷ []) (0 ∷ 1 ∷ 2 ∷ 4 ∷ []) (4 ∷ 7 ∷ 7 ∷ 4 ∷ []))
       (3 ∷ 3 ∷ 0 ∷ 8 ∷ [])
