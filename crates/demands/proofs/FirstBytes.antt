@@ -1,4 +1,5 @@
--- What follows the first bytes of a file does not change its report: a file with more is refused by its mark or as too long.
+-- What follows the first bytes of a file does not change its report: a file with more is refused by its mark or as too
+-- long.
 use Prim.Native.Nat.{ℕ, _<_}
 use native.Mathlib.Omega.{arith}
 use mathlib.Core.Path.{_≡_, sym, ap, _∙_}

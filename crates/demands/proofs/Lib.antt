@@ -21,3 +21,4 @@ pub mod RefutingSessions
 pub mod RefutingFindings
 pub mod RefutingCalls
 pub mod Tables
+pub mod FileTables

@@ -12,3 +12,4 @@ pub mod Determined
 pub mod Refuted
 pub mod Starred
 pub mod Boundary
+pub mod FileExamples

@@ -1,0 +1,117 @@
+-- Job files and the reports on them, byte for byte. Each is worked out by hand from document 01; none is a program's
+-- output.
+use Prim.Native.Nat.{ℕ, _+_, _*_}
+use Prim.Native.Char.{code}
+use Prim.Native.String.{String, [] as []ˢ, _∷_ as _∷ˢ_}
+use mathlib.Core.Path.{_≡_}
+use mathlib.Core.List.{List, [], _∷_, _++_}
+use lib.ListN.{length}
+use Rattle.words.specs.Answers.{full}
+use Rattle.reader.specs.Reader.{read-answer}
+use Rattle.writer.specs.Writer.{file-of}
+use Rattle.listing.specs.Report.{report}
+use Rattle.demands.specs.Starred.{two, four}
+
+-- a text as bytes
+abbrev pub text : String → List ℕ
+text []ˢ = []
+text (letter ∷ˢ rest) = code letter ∷ text rest
+
+-- ---- files: a line each for the mark with the number of entries, for an entry, for the nets body, and for a word
+
+-- document 01's example: n = 4, k = 4, vectors 0 1 2 4 8, responses 4 7 7 4 12
+abbrev pub example-file : List ℕ
+example-file =
+    66 ∷ 83 ∷ 74 ∷ 49 ∷ 3 ∷ []
+    ++ 1 ∷ 32 ∷ 0 ∷ 0 ∷ 0 ∷ 2 ∷ 0 ∷ 0 ∷ 0 ∷ []
+    ++ 2 ∷ 34 ∷ 0 ∷ 0 ∷ 0 ∷ 40 ∷ 0 ∷ 0 ∷ 0 ∷ []
+    ++ 3 ∷ 74 ∷ 0 ∷ 0 ∷ 0 ∷ 40 ∷ 0 ∷ 0 ∷ 0 ∷ []
+    ++ 4 ∷ 4 ∷ []
+    ++ 0 ∷ 0 ∷ 0 ∷ 0 ∷ 0 ∷ 0 ∷ 0 ∷ 0 ∷ []
+    ++ 1 ∷ 0 ∷ 0 ∷ 0 ∷ 0 ∷ 0 ∷ 0 ∷ 0 ∷ []
+    ++ 2 ∷ 0 ∷ 0 ∷ 0 ∷ 0 ∷ 0 ∷ 0 ∷ 0 ∷ []
+    ++ 4 ∷ 0 ∷ 0 ∷ 0 ∷ 0 ∷ 0 ∷ 0 ∷ 0 ∷ []
+    ++ 8 ∷ 0 ∷ 0 ∷ 0 ∷ 0 ∷ 0 ∷ 0 ∷ 0 ∷ []
+    ++ 4 ∷ 0 ∷ 0 ∷ 0 ∷ 0 ∷ 0 ∷ 0 ∷ 0 ∷ []
+    ++ 7 ∷ 0 ∷ 0 ∷ 0 ∷ 0 ∷ 0 ∷ 0 ∷ 0 ∷ []
+    ++ 7 ∷ 0 ∷ 0 ∷ 0 ∷ 0 ∷ 0 ∷ 0 ∷ 0 ∷ []
+    ++ 4 ∷ 0 ∷ 0 ∷ 0 ∷ 0 ∷ 0 ∷ 0 ∷ 0 ∷ []
+    ++ 12 ∷ 0 ∷ 0 ∷ 0 ∷ 0 ∷ 0 ∷ 0 ∷ 0 ∷ []
+
+-- both receivers reached by driver 1: n = 2, k = 2, vectors 0 1 2, and the responses 0 0 3 of the state 2 2
+abbrev pub both-file : List ℕ
+both-file =
+    66 ∷ 83 ∷ 74 ∷ 49 ∷ 3 ∷ []
+    ++ 1 ∷ 32 ∷ 0 ∷ 0 ∷ 0 ∷ 2 ∷ 0 ∷ 0 ∷ 0 ∷ []
+    ++ 2 ∷ 34 ∷ 0 ∷ 0 ∷ 0 ∷ 24 ∷ 0 ∷ 0 ∷ 0 ∷ []
+    ++ 3 ∷ 58 ∷ 0 ∷ 0 ∷ 0 ∷ 24 ∷ 0 ∷ 0 ∷ 0 ∷ []
+    ++ 2 ∷ 2 ∷ []
+    ++ 0 ∷ 0 ∷ 0 ∷ 0 ∷ 0 ∷ 0 ∷ 0 ∷ 0 ∷ []
+    ++ 1 ∷ 0 ∷ 0 ∷ 0 ∷ 0 ∷ 0 ∷ 0 ∷ 0 ∷ []
+    ++ 2 ∷ 0 ∷ 0 ∷ 0 ∷ 0 ∷ 0 ∷ 0 ∷ 0 ∷ []
+    ++ 0 ∷ 0 ∷ 0 ∷ 0 ∷ 0 ∷ 0 ∷ 0 ∷ 0 ∷ []
+    ++ 0 ∷ 0 ∷ 0 ∷ 0 ∷ 0 ∷ 0 ∷ 0 ∷ 0 ∷ []
+    ++ 3 ∷ 0 ∷ 0 ∷ 0 ∷ 0 ∷ 0 ∷ 0 ∷ 0 ∷ []
+
+-- walking ones without vector 0, and no responses: n = 4, k = 4, vectors 1 2 4 8
+abbrev pub walking-file : List ℕ
+walking-file =
+    66 ∷ 83 ∷ 74 ∷ 49 ∷ 2 ∷ []
+    ++ 1 ∷ 23 ∷ 0 ∷ 0 ∷ 0 ∷ 2 ∷ 0 ∷ 0 ∷ 0 ∷ []
+    ++ 2 ∷ 25 ∷ 0 ∷ 0 ∷ 0 ∷ 32 ∷ 0 ∷ 0 ∷ 0 ∷ []
+    ++ 4 ∷ 4 ∷ []
+    ++ 1 ∷ 0 ∷ 0 ∷ 0 ∷ 0 ∷ 0 ∷ 0 ∷ 0 ∷ []
+    ++ 2 ∷ 0 ∷ 0 ∷ 0 ∷ 0 ∷ 0 ∷ 0 ∷ 0 ∷ []
+    ++ 4 ∷ 0 ∷ 0 ∷ 0 ∷ 0 ∷ 0 ∷ 0 ∷ 0 ∷ []
+    ++ 8 ∷ 0 ∷ 0 ∷ 0 ∷ 0 ∷ 0 ∷ 0 ∷ 0 ∷ []
+
+-- ---- a short form for such files, whose bytes, words, offsets and lengths are below 256
+
+-- the mark and the number of entries
+abbrev pub start : ℕ → List ℕ
+start entries = text "BSJ1" ++ entries ∷ []
+
+abbrev pub entry : (kind offset size : ℕ) → List ℕ
+entry kind offset size = kind ∷ offset ∷ 0 ∷ 0 ∷ 0 ∷ size ∷ 0 ∷ 0 ∷ 0 ∷ []
+
+abbrev pub words : List ℕ → List ℕ
+words [] = []
+words (word ∷ rest) = word ∷ 0 ∷ 0 ∷ 0 ∷ 0 ∷ 0 ∷ 0 ∷ 0 ∷ words rest
+
+-- with responses
+abbrev pub job-file : (n k : ℕ) → (vectors responses : List ℕ) → List ℕ
+job-file n k vectors responses =
+    start 3
+    ++ entry 1 32 2
+    ++ entry 2 34 (8 * length vectors)
+    ++ entry 3 (34 + 8 * length vectors) (8 * length responses)
+    ++ n ∷ k ∷ words vectors
+    ++ words responses
+
+-- and without
+abbrev pub set-file : (n k : ℕ) → List ℕ → List ℕ
+set-file n k vectors = start 2 ++ entry 1 23 2 ++ entry 2 25 (8 * length vectors) ++ n ∷ k ∷ words vectors
+
+pub record FileExamples : Type 0 where
+  -- document 01's example, with the kinds 0, 1 and 2: what is written, what is read, and the report
+  pub example-bytes : file-of four 4 (0 ∷ 1 ∷ 2 ∷ 4 ∷ 8 ∷ []) (4 ∷ 7 ∷ 7 ∷ 4 ∷ 12 ∷ []) ≡ example-file
+  pub example-content : read-answer example-file 5 5
+      ≡ full (record { network = four; class = 4; vectors = 0 ∷ 1 ∷ 2 ∷ 4 ∷ 8 ∷ []; responses = 4 ∷ 7 ∷ 7 ∷ 4 ∷ 12 ∷ [] })
+  pub example-report : report example-file ≡ text "pass 4 4 5\n0 2 3 2\n1 2 3 1\n2 1 0 0\n3 0 8 0\n"
+  -- kind 3, at net 0
+  pub both-bytes : file-of two 2 (0 ∷ 1 ∷ 2 ∷ []) (0 ∷ 0 ∷ 3 ∷ []) ≡ both-file
+  pub both-report : report both-file ≡ text "pass 2 2 3\n0 3 2 2\n1 2 2 1\n"
+  -- without responses line one alone, here with a pair
+  pub walking-bytes : file-of four 4 (1 ∷ 2 ∷ 4 ∷ 8 ∷ []) [] ≡ walking-file
+  pub walking-report : report walking-file ≡ text "pair 4 4 4 0 15\n"
+  -- line one, then a refusal
+  pub not-passed-report : report (job-file 4 4 (1 ∷ 2 ∷ 4 ∷ 8 ∷ []) (7 ∷ 7 ∷ 4 ∷ 12 ∷ [])) ≡ text "pair 4 4 4 0 15\nrefused 13\n"
+  pub no-state-report : report (job-file 4 4 (0 ∷ 1 ∷ 2 ∷ 4 ∷ 8 ∷ []) (4 ∷ 7 ∷ 7 ∷ 4 ∷ 4 ∷ [])) ≡ text "pass 4 4 5\nrefused 14\n"
+  -- a refusal alone
+  pub empty-report : report [] ≡ text "refused 1\n"
+  pub high-response-report : report (job-file 4 4 (0 ∷ []) (16 ∷ [])) ≡ text "refused 10\n"
+  -- the short form gives the files above
+  pub example-short : job-file 4 4 (0 ∷ 1 ∷ 2 ∷ 4 ∷ 8 ∷ []) (4 ∷ 7 ∷ 7 ∷ 4 ∷ 12 ∷ []) ≡ example-file
+  pub walking-short : set-file 4 4 (1 ∷ 2 ∷ 4 ∷ 8 ∷ []) ≡ walking-file
+  -- and texts are bytes so
+  pub text-bytes : text "pass 4 4 5\n" ≡ 112 ∷ 97 ∷ 115 ∷ 115 ∷ 32 ∷ 52 ∷ 32 ∷ 52 ∷ 32 ∷ 53 ∷ 10 ∷ []
