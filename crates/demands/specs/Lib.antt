@@ -13,3 +13,4 @@ pub mod Refuted
 pub mod Starred
 pub mod Boundary
 pub mod FileExamples
+pub mod FileBounds
