@@ -15,6 +15,7 @@ use Rattle.jobfile.proofs.FileRows.{decides-row-2}
 use Rattle.reader.specs.Reader.{JobContent, read-answer}
 use Rattle.listing.specs.Report.{job-text, report, deciding-bytes}
 use Rattle.demands.specs.Reports.{FirstBytesDecide}
+use Rattle.demands.specs.Programs.{our-report}
 
 too-long : (file : List ℕ) → most-bytes < length file → bad-layout file ≡ true
 too-long file l = test-passes (decides-row-2 file) (λ layout. omega (arith, layout .size))
@@ -27,7 +28,7 @@ too-long-answer : (file : List ℕ) → most-bytes < length file → read-answer
 unfolding read-answer by-tests
 too-long-answer file l = rw (too-long file l)
 
-pub first-bytes-decide : FirstBytesDecide report
+pub first-bytes-decide : FirstBytesDecide our-report
 unfolding report
 first-bytes-decide file = ⊎-elim long (λ l. ap report (take-all deciding-bytes file l)) (less-or-not deciding-bytes (length file))
   where
