@@ -19,9 +19,9 @@ use Rattle.words.proofs.Bits.{words-equal, subset-at-most, has-own, has-only, h
 use Rattle.words.proofs.Classes.{ones-at-most}
 use Rattle.words.proofs.Columns.{length-tabulate, tabulate-at, transpose-size, transpose-at}
 use Rattle.words.proofs.Making.{map-at}
-use Rattle.words.proofs.Passing.{count-most, count-grows-past, entry-of}
+use Rattle.words.proofs.Passing.{count-most, count-grows-past, larger-by-count, entry-of, entry-is}
 use Rattle.words.proofs.Searching.{any-at, any-none}
-use Rattle.words.proofs.Tests.{cases, contrary, and-left, and-right, and-both, same-truth, less-or-not}
+use Rattle.words.proofs.Tests.{cases, contrary, and-left, and-right, and-both, same-truth, less-or-not, test-fails}
 use Rattle.network.specs.declared.Network.{Network}
 use Rattle.network.specs.Reading.{walking-vector, extra-vector, reads, ReadAlike, sequential-response, response-word, response}
 use Rattle.network.specs.States.{DriverSet, State, Fits}
@@ -31,7 +31,7 @@ use Rattle.diagnosis.specs.Walking.{Walked}
 use Rattle.diagnosis.proofs.Gathering.{walked-is}
 use Rattle.diagnosis.proofs.ReadingBack.{fits-answers, answers-fit, read-back-fits, smallest-read-back, candidate-fails}
 use Rattle.steps.specs.FirstStep.{word-length, sequential-words, first-vectors}
-use Rattle.steps.specs.SecondStep.{only-at, is-clear, Clear, unclear, settling-vectors, second-vectors, session-vectors, fault-free-state}
+use Rattle.steps.specs.SecondStep.{only-at, is-clear, Clear, unclear, UnclearNets, settling-vectors, second-vectors, session-vectors, fault-free-state}
 use Rattle.steps.proofs.WordsApart.{WordsApart}
 use Rattle.steps.proofs.StepOneWords.{first-size, first-has}
 
@@ -206,6 +206,18 @@ module _ (net : Network) (answers : List ℕ) where
       → (u : ℕ) × (u < length (unclear net answers)) × (at (unclear net answers) u ≡ j)
   unfolding unclear is-unclear
   unclear-place j l e = (length (passing is-unclear j), count-grows-past is-unclear j (net .nets) l (ap not e), entry-of is-unclear (net .nets) j l (ap not e))
+
+  -- they are just those that are not clear, ascending
+  pub unclear-nets : UnclearNets net answers (unclear net answers)
+  unfolding unclear is-unclear
+  unclear-nets = record {
+    below = λ u l. entry-is is-unclear (net .nets) u l .below;
+    ascending = λ u v l m. larger-by-count is-unclear _ _ (rw (entry-is is-unclear (net .nets) u (omega arith) .index, entry-is is-unclear (net .nets) v m .index) l);
+    not-clear = λ i l. (
+      λ r. decides-clear net answers i l .1 (not-true _ (rw (r .2) at (entry-is is-unclear (net .nets) (r .0) (r .1) .passes))),
+      λ c. unclear-place i l (test-fails (decides-clear net answers i l) c),
+    );
+  }
 
   -- where none is unclear, each is clear
   all-clear : length (unclear net answers) ≡ 0 → (i : ℕ) → i < net .nets → is-clear net answers i ≡ true

@@ -17,10 +17,10 @@ use Rattle.words.specs.Bits.{has, at, ones-of}
 use Rattle.words.specs.Searching.{least, or-zero, any, passing}
 use Rattle.words.proofs.Tests.{and-left, and-right, less-or-not}
 use Rattle.words.proofs.Searching.{Least, first, nowhere, least-below, any-some, any-false}
-use Rattle.words.proofs.Passing.{Entry, entry-is, entry-of, count-grows}
-use Rattle.words.proofs.Columns.{transpose-size, transpose-bits}
+use Rattle.words.proofs.Passing.{Entry, entry-is, entry-of, larger-by-count}
+use Rattle.words.proofs.Columns.{transpose-size, transpose-below, transpose-bits}
 use Rattle.network.specs.declared.Network.{Network}
-use Rattle.steps.specs.FirstStep.{binomial, word-length, balanced-words, sequential-words, first-vectors, WordLength, SmallestWords}
+use Rattle.steps.specs.FirstStep.{binomial, word-length, balanced-words, sequential-words, first-vectors, WordLength, SmallestWords, VectorsOfWords}
 use Rattle.steps.specs.Open.{open-steps}
 use Rattle.steps.proofs.WordsApart.{WordsApart}
 
@@ -168,20 +168,16 @@ module _ (net : Network) (two : 2 ≤ net .nets) (most : net .nets ≤ 48) where
   unfolding balanced-words
   word-is i l = rw (word-at i l) (entry-is (balanced net) (2 ^ word-length net) i (omega (arith, enough-words)))
 
-  -- a word with a larger index is a larger word
-  larger : (a b : ℕ) → length (passing (balanced net) a) < length (passing (balanced net) b) → a < b
-  larger a b l = ⊎-elim (λ m. m) (λ m. absurd (not-suc-le-zero {n = 0} (omega (arith, count-grows (balanced net) b a m)))) (less-or-not a b)
-
   pub words-are-smallest : SmallestWords net (word-length net) (sequential-words net)
   unfolding balanced-words
   words-are-smallest = record {
     one-a-net = size;
     below = λ i l. word-is i l .below;
     half-ones = λ i l. eqb-true _ _ (word-is i l .passes);
-    ascending = λ i j l m. larger _ _ (rw (word-is i (omega arith) .index, word-is j m .index) l);
+    ascending = λ i j l m. larger-by-count (balanced net) _ _ (rw (word-is i (omega arith) .index, word-is j m .index) l);
     smallest = λ w l e. ⊎-elim
         (λ m. inl (length (passing (balanced net) w), m, word-at _ m ∙ entry-of (balanced net) (2 ^ word-length net) w l (eq-eqb _ _ e)))
-        (λ (m : net .nets ≤ length (passing (balanced net) w)). inr (λ i k. larger _ _ (rw (word-is i k .index) (omega arith))))
+        (λ (m : net .nets ≤ length (passing (balanced net) w)). inr (λ i k. larger-by-count (balanced net) _ _ (rw (word-is i k .index) (omega arith))))
         (less-or-not (length (passing (balanced net) w)) (net .nets));
   }
 
@@ -207,3 +203,11 @@ pub first-has : (net : Network) (t i : ℕ) → t < word-length net → i < leng
     → has (at (first-vectors net) t) i ≡ has (at (sequential-words net) i) t
 unfolding first-vectors
 first-has net t i l m = transpose-bits (word-length net) (sequential-words net) t i m l
+
+pub vectors-of-words : (net : Network) → 2 ≤ net .nets → net .nets ≤ 48 → VectorsOfWords net (word-length net) (sequential-words net) (first-vectors net)
+unfolding first-vectors
+vectors-of-words net two most = record {
+  one-a-bit = first-size net;
+  no-high-bit = λ t l. rw (size net two most) at (transpose-below (word-length net) (sequential-words net) t l);
+  bits = λ t i l m. first-has net t i l (rw (size net two most) m);
+}

@@ -5,7 +5,7 @@ use mathlib.Core.Logic.{_⊎_}
 use mathlib.Core.List.{List}
 use lib.Dec.{eqb, leb}
 use lib.ListN.{length, take}
-use Rattle.words.specs.Bits.{at, ones-of}
+use Rattle.words.specs.Bits.{has, at, ones-of}
 use Rattle.words.specs.Searching.{least, or-zero, passing}
 use Rattle.words.specs.Turning.{transpose}
 use Rattle.network.specs.declared.Network.{Network}
@@ -45,3 +45,9 @@ pub record SmallestWords (net : Network) (p : ℕ) (words : List ℕ) : Type 0 w
   pub ascending : (i j : ℕ) → i < j → j < net .nets → at words i < at words j
   -- every other such word is larger than all of them
   pub smallest : (w : ℕ) → w < 2 ^ p → ones-of p w ≡ p / 2 → ((i : ℕ) × (i < net .nets) × (at words i ≡ w)) ⊎ ((i : ℕ) → i < net .nets → at words i < w)
+
+-- The words of p bits turned into p vectors: bit t of net i's word is bit i of vector t, and a vector has no other bits.
+pub record VectorsOfWords (net : Network) (p : ℕ) (words vectors : List ℕ) : Type 0 where
+  pub one-a-bit : length vectors ≡ p
+  pub no-high-bit : (t : ℕ) → t < p → at vectors t < 2 ^ (net .nets)
+  pub bits : (t i : ℕ) → t < p → i < net .nets → has (at vectors t) i ≡ has (at words i) t

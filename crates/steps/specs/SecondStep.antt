@@ -1,6 +1,7 @@
 -- The second step of a session: which nets the first answers leave unclear, and the vectors that settle them.
 use Prim.Native.Nat.{ℕ, _^_, _<_}
 use mathlib.Core.Path.{_≡_}
+use mathlib.Core.Logic.{_↔_}
 use mathlib.Core.Bool.{Bool, not, _&&_}
 use mathlib.Core.List.{List, [], _∷_, _++_, map}
 use lib.Dec.{eqb}
@@ -31,6 +32,12 @@ pub record Clear (net : Network) (answers : List ℕ) (i : ℕ) : Type 0 where
 -- the unclear nets, ascending; document 01's F is their count
 unfoldable pub unclear : Network → List ℕ → List ℕ
 unclear net answers = passing (λ i. not (is-clear net answers i)) (net .nets)
+
+-- the same, as document 01 says it: nets of the network, ascending, and just those that are not clear
+pub record UnclearNets (net : Network) (answers nets : List ℕ) : Type 0 where
+  pub below : (u : ℕ) → u < length nets → at nets u < net .nets
+  pub ascending : (u v : ℕ) → u < v → v < length nets → at nets u < at nets v
+  pub not-clear : (i : ℕ) → i < net .nets → ((u : ℕ) × (u < length nets) × (at nets u ≡ i)) ↔ (¬ (Clear net answers i))
 
 -- the extra vector, then the walking vector of each net given; nothing if there is none
 abbrev pub settling-vectors : Network → List ℕ → List ℕ

@@ -41,7 +41,7 @@ pub transpose-at : (n : ℕ) (ws : List ℕ) (i : ℕ) → i < n → at (transpo
 unfolding transpose
 transpose-at n ws i l = tabulate-at n (column ws) i l
 
-transpose-below : (n : ℕ) (ws : List ℕ) (i : ℕ) → i < n → at (transpose n ws) i < 2 ^ length ws
+pub transpose-below : (n : ℕ) (ws : List ℕ) (i : ℕ) → i < n → at (transpose n ws) i < 2 ^ length ws
 transpose-below n ws i l = rw (transpose-at n ws i l) (column-below ws i)
 
 pub transpose-bits : (n : ℕ) (ws : List ℕ) (i t : ℕ) → t < length ws → i < n → has (at (transpose n ws) i) t ≡ has (at ws t) i

@@ -76,6 +76,10 @@ module _ (p : ℕ → Bool) where
   pub count-grows-past : (a b : ℕ) → a < b → p a ≡ true → length (passing p a) < length (passing p b)
   count-grows-past a b l e = omega (arith, count-passed a e, count-grows (suc a) b l)
 
+  -- a number with more of them below it is larger
+  pub larger-by-count : (a b : ℕ) → length (passing p a) < length (passing p b) → a < b
+  larger-by-count a b l = ⊎-elim (λ m. m) (λ m. absurd (not-suc-le-zero {n = 0} (omega (arith, count-grows b a m)))) (less-or-not a b)
+
   front-kept : (b m : ℕ) → m ≤ length (passing p b) → take m (passing p (suc b)) ≡ take m (passing p b)
   front-kept b m l =
       ⊎-elim (λ e. rw (passing-yes b e) (take-append-le m (passing p b) (b ∷ []) l)) (λ e. rw (passing-no b e)) (cases (p b))
