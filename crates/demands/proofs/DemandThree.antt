@@ -1,6 +1,7 @@
 -- Demand 3, whole, of our checker and our session calls.
 use Rattle.network.proofs.Rows.{nets-admitted}
-use Rattle.steps.proofs.StepOneWords.{word-length-is, words-are-smallest}
+use Rattle.steps.proofs.StepOneWords.{word-length-is, words-are-smallest, vectors-of-words}
+use Rattle.steps.proofs.BothSteps.{unclear-nets}
 use Rattle.demands.specs.Demand3.{Demand3}
 use Rattle.demands.specs.Programs.{our-check, our-sessions}
 use Rattle.demands.proofs.Checking.{checks}
@@ -12,4 +13,6 @@ demand-3 = record {
   session = sessions;
   length-of-words = λ net nets. let b = nets-admitted net nets in word-length-is net (b .0) (b .1);
   words-of-step-one = λ net nets. let b = nets-admitted net nets in words-are-smallest net (b .0) (b .1);
+  vectors-of-step-one = λ net nets. let b = nets-admitted net nets in vectors-of-words net (b .0) (b .1);
+  unclear-nets = λ net answers. unclear-nets net answers;
 }

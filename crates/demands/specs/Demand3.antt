@@ -12,8 +12,8 @@ use Rattle.network.specs.Rows.{SetRows, Row5, Row9, HighBit, Row12}
 use Rattle.checker.specs.declared.Verdict.{Verdict}
 use Rattle.checker.specs.declared.Verdict.the-variants.{Pass, Pair}
 use Rattle.checker.specs.Rule.{shown-state}
-use Rattle.steps.specs.FirstStep.{word-length, sequential-words, first-vectors, WordLength, SmallestWords}
-use Rattle.steps.specs.SecondStep.{unclear, second-vectors}
+use Rattle.steps.specs.FirstStep.{word-length, sequential-words, first-vectors, WordLength, SmallestWords, VectorsOfWords}
+use Rattle.steps.specs.SecondStep.{unclear, UnclearNets, second-vectors}
 use Rattle.session.specs.declared.Session.{Session}
 use Rattle.demands.specs.SessionCalls.{Call, begin, first, second, lent, SessionProgram, History, none, waits-first, waits-second, finished-first, finished-second, record-after, history, LeftBy, Awaits, FitsAnswers, OnlyFit, vectors-spent}
 
@@ -145,3 +145,7 @@ pub record Demand3 (checks : CheckProgram) (sessions : SessionProgram) : Type 0 
   -- what p and the words of step one are
   pub length-of-words : (net : Network) → ¬ (Row5 net) → WordLength net (word-length net)
   pub words-of-step-one : (net : Network) → ¬ (Row5 net) → SmallestWords net (word-length net) (sequential-words net)
+  -- and the vectors that begin writes
+  pub vectors-of-step-one : (net : Network) → ¬ (Row5 net) → VectorsOfWords net (word-length net) (sequential-words net) (first-vectors net)
+  -- which nets are unclear, whatever the first answers are; F is their count
+  pub unclear-nets : (net : Network) (answers : List ℕ) → UnclearNets net answers (unclear net answers)
