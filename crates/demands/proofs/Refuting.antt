@@ -23,7 +23,7 @@ use Rattle.demands.proofs.Responding.{responds, response-determined}
 use Rattle.demands.proofs.Diagnosing.{diagnoses, diagnosis-determined-program}
 use Rattle.demands.proofs.Checking.{checks, pair-not-one}
 use Rattle.demands.proofs.RefutingFindings.{table-as-lent, record-not-written, table-cleared}
-use Rattle.demands.proofs.RefutingSessions.{guessed, counted-itself, refuses-begins, uncounted, no-vectors}
+use Rattle.demands.proofs.RefutingSessions.{guessed, second-ignored, counted-itself, refuses-begins, uncounted, no-vectors}
 use Rattle.demands.proofs.RefutingCalls.{vectors-cleared, started-again}
 
 -- walking ones with vector 0, and a set without it
@@ -137,6 +137,7 @@ refuted = record {
   record-not-written = record-not-written;
   table-cleared = table-cleared;
   guessed = guessed;
+  second-ignored = second-ignored;
   counted-itself = counted-itself;
   refuses-begins = refuses-begins;
   uncounted = uncounted;

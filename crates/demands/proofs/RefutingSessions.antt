@@ -12,12 +12,12 @@ use Rattle.network.specs.declared.Network.{Network}
 use Rattle.network.specs.States.{State}
 use Rattle.network.proofs.States.{test→state}
 use Rattle.steps.specs.FirstStep.{first-vectors}
-use Rattle.session.specs.Record.{pad}
+use Rattle.session.specs.declared.Session.{Session}
 use Rattle.session.specs.Open.{open-session}
 use Rattle.demands.specs.SessionCalls.{Call, begin, first, second, SessionProgram, History, finished-first, finished-second, history, record-after}
 use Rattle.demands.specs.Demand3.{BeginRows, Ended, Sessions}
 use Rattle.demands.specs.Starred.{two, junk}
-use Rattle.demands.specs.Refuted.{guesses, counts-itself, refuses-every-begin, writes-uncounted, writes-no-vectors}
+use Rattle.demands.specs.Refuted.{guesses, ignores-second-answers, counts-itself, refuses-every-begin, writes-uncounted, writes-no-vectors}
 
 -- a session in which both nets are unclear, with these second answers; and one with none unclear
 abbrev unclear-calls : List ℕ → List Call
@@ -26,13 +26,17 @@ unclear-calls answers = begin two (9 ∷ 9 ∷ []) ∷ first (3 ∷ 3 ∷ []) (9
 abbrev clear-calls : List Call
 clear-calls = begin two (9 ∷ 9 ∷ []) ∷ first (1 ∷ 2 ∷ []) (9 ∷ []) ∷ []
 
+-- the first of these, as the calls tell it where the second answers are accepted
+abbrev unclear-history : List ℕ → History
+unclear-history answers = finished-second two (1 ∷ 2 ∷ []) (3 ∷ 3 ∷ []) (0 ∷ 1 ∷ 2 ∷ []) answers
+
 -- what the claim says at the end of a list of calls
 ended-so : (program : SessionProgram) → Sessions program → (calls : List Call) (h : History) → history program junk calls ≡ h → Ended h (record-after program junk calls)
 ended-so program claim calls h e = subst (λ (x : History). Ended x (record-after program junk calls)) e (claim junk calls .ended)
 
 -- ---- guesses
 
--- both float; all is joined
+-- both float; all is joined; and what these two answer to step two
 both-float : State two 2 (0 ∷ 0 ∷ [])
 unfolding open-session
 both-float = test→state two 2 (0 ∷ 0 ∷ []) refl
@@ -41,15 +45,33 @@ all-joined : State two 2 (3 ∷ 3 ∷ [])
 unfolding open-session
 all-joined = test→state two 2 (3 ∷ 3 ∷ []) refl
 
+abbrev floating-answers : List ℕ
+floating-answers = 3 ∷ 3 ∷ 3 ∷ []
+
+abbrev joined-answers : List ℕ
+joined-answers = 0 ∷ 3 ∷ 3 ∷ []
+
+-- a program that accepts both, and leaves the same record
+same-record : (program : SessionProgram)
+    → history program junk (unclear-calls floating-answers) ≡ unclear-history floating-answers
+    → history program junk (unclear-calls joined-answers) ≡ unclear-history joined-answers
+    → record-after program junk (unclear-calls floating-answers) ≡ record-after program junk (unclear-calls joined-answers)
+    → ¬ (Sessions program)
+unfolding open-session
+same-record program floating joined same claim =
+    let a = ended-so program claim (unclear-calls floating-answers) (unclear-history floating-answers) floating in
+    let b = ended-so program claim (unclear-calls joined-answers) (unclear-history joined-answers) joined in
+    let p = a .state .only (0 ∷ 0 ∷ []) (both-float, refl, refl) in
+    let q = b .state .only (3 ∷ 3 ∷ []) (all-joined, refl, refl) in
+    let z : _≡_ {A = ℕ} 0 3 = ap (λ (ws : List ℕ). at ws 0) (p ∙ ap (λ (s : Session). take 2 (s .reaches)) same ∙ sym q) in omega arith
+
 pub guessed : (guess : Network → List ℕ → List ℕ) → ¬ (Sessions (guesses guess))
 unfolding open-session
-guessed guess claim =
-    let told : List ℕ = take 2 (pad 48 (guess two (3 ∷ 3 ∷ []))) in
-    let a = ended-so (guesses guess) claim (unclear-calls (3 ∷ 3 ∷ 3 ∷ [])) (finished-second two (1 ∷ 2 ∷ []) (3 ∷ 3 ∷ []) (0 ∷ 1 ∷ 2 ∷ []) (3 ∷ 3 ∷ 3 ∷ [])) refl in
-    let b = ended-so (guesses guess) claim (unclear-calls (0 ∷ 3 ∷ 3 ∷ [])) (finished-second two (1 ∷ 2 ∷ []) (3 ∷ 3 ∷ []) (0 ∷ 1 ∷ 2 ∷ []) (0 ∷ 3 ∷ 3 ∷ [])) refl in
-    let p : 0 ∷ 0 ∷ [] ≡ told = a .state .only (0 ∷ 0 ∷ []) (both-float, refl, refl) in
-    let q : 3 ∷ 3 ∷ [] ≡ told = b .state .only (3 ∷ 3 ∷ []) (all-joined, refl, refl) in
-    let z : _≡_ {A = ℕ} 0 3 = ap (λ (ws : List ℕ). at ws 0) (p ∙ sym q) in omega arith
+guessed guess = same-record (guesses guess) refl refl refl
+
+pub second-ignored : (guess : Network → List ℕ → List ℕ) → ¬ (Sessions (ignores-second-answers guess))
+unfolding open-session
+second-ignored guess = same-record (ignores-second-answers guess) refl refl refl
 
 -- ---- the others
 
@@ -57,7 +79,7 @@ pub counted-itself : (count : ℕ) → ¬ (Sessions (counts-itself count))
 unfolding open-session
 counted-itself count claim =
     let a = ended-so (counts-itself count) claim clear-calls (finished-first two (1 ∷ 2 ∷ []) (1 ∷ 2 ∷ []) []) refl in
-    let b = ended-so (counts-itself count) claim (unclear-calls (3 ∷ 3 ∷ 3 ∷ [])) (finished-second two (1 ∷ 2 ∷ []) (3 ∷ 3 ∷ []) (0 ∷ 1 ∷ 2 ∷ []) (3 ∷ 3 ∷ 3 ∷ [])) refl in
+    let b = ended-so (counts-itself count) claim (unclear-calls floating-answers) (unclear-history floating-answers) refl in
     let p : count ≡ 2 = a .count in
     let q : count ≡ 5 = b .count in omega arith
 

@@ -12,7 +12,7 @@ use Rattle.diagnosis.specs.ReadBack.{read-back}
 use Rattle.diagnosis.specs.Diagnosis.{diagnosis-answer}
 use Rattle.findings.specs.FindingsTable.{findings-answer}
 use Rattle.session.specs.declared.Session.{Session}
-use Rattle.session.specs.Record.{awaiting-first, finished, held-answers}
+use Rattle.session.specs.Record.{awaiting-first, finished, held-answers, awaits-second}
 use Rattle.session.specs.Calls.{stepped, vectors-driven}
 use Rattle.reader.specs.Reader.{read-answer, vectors-read, responses-read, counted}
 use Rattle.demands.specs.Demand2.{ResponseProgram, Responds, DiagnosisProgram, Diagnoses}
@@ -102,16 +102,24 @@ clears-when-refused net state lent =
 
 -- ---- sessions
 
--- the state is guessed from the first answers, whatever the second ones are
-abbrev pub guesses : (Network → List ℕ → List ℕ) → SessionProgram
-guesses guess session (begin net list) = our-sessions session (begin net list)
-guesses guess session (first answers list) = our-sessions session (first answers list)
-guesses guess session (second answers) = record {
-  answer = our-answer session (second answers);
+-- the state is guessed from the first answers, whatever the second ones are; what is answered to those is given
+abbrev pub guesses-so : (Session → List ℕ → Answer (List ℕ)) → (Network → List ℕ → List ℕ) → SessionProgram
+guesses-so answer-second guess session (begin net list) = our-sessions session (begin net list)
+guesses-so answer-second guess session (first answers list) = our-sessions session (first answers list)
+guesses-so answer-second guess session (second answers) = record {
+  answer = answer-second session answers;
   list = [];
-  session = stepped (our-answer session (second answers))
+  session = stepped (answer-second session answers)
       (finished (session .network) (guess (session .network) (held-answers session)) (length (vectors-driven session))) session .session;
 }
+
+-- our answer: it looks at the second answers to refuse
+abbrev pub guesses : (Network → List ℕ → List ℕ) → SessionProgram
+guesses guess = guesses-so (λ session answers. our-answer session (second answers)) guess
+
+-- the second answers are not looked at: accepted, whatever they are and however many, where the record waits for them
+abbrev pub ignores-second-answers : (Network → List ℕ → List ℕ) → SessionProgram
+ignores-second-answers guess = guesses-so (λ session answers. cond (awaits-second session) (full []) (refused 4)) guess
 
 -- a finished record holds a count of the program's own
 abbrev pub recounted : ℕ → Session → Session
@@ -198,6 +206,7 @@ pub record Refuted : Type 0 where
   pub record-not-written : ¬ (Finds one-record-short)
   pub table-cleared : ¬ (Finds clears-when-refused)
   pub guessed : (guess : Network → List ℕ → List ℕ) → ¬ (Sessions (guesses guess))
+  pub second-ignored : (guess : Network → List ℕ → List ℕ) → ¬ (Sessions (ignores-second-answers guess))
   pub counted-itself : (count : ℕ) → ¬ (Sessions (counts-itself count))
   pub refuses-begins : (number : ℕ) → ¬ (Sessions (refuses-every-begin number))
   pub uncounted : ¬ (Sessions writes-uncounted)
