@@ -5,10 +5,11 @@ use mathlib.Core.Path.{_≡_, refl, sym, ap, ap₂, _∙_, subst}
 use mathlib.Core.Logic.{_≢_, inl, ⊎-elim}
 use mathlib.Core.Bool.{Bool, true, false}
 use mathlib.Core.List.{List, [], _∷_, _++_}
-use lib.ListN.{length, length-append, replicate}
+use lib.ListN.{length, length-append, replicate, List·getD-append}
 use lib.Seq.{drop-append-seam, take-append-seam}
 use borrow.Author.Tests.{eqb-true, not-false}
 use Rattle.words.specs.Answers.{Answer, refused, full, ByTable, NoneHolds, by-tests, Decides, Decided, lent-after}
+use Rattle.words.specs.Bits.{at}
 use Rattle.words.proofs.Tests.{cases, contrary, test-fails}
 use Rattle.words.proofs.Answers.{tests-by-table, table-full, let-through, front-written, refused-not-full}
 use Rattle.network.specs.declared.Network.{Network}
@@ -19,7 +20,7 @@ use Rattle.diagnosis.specs.ReadBack.{read-back, no-state-fits}
 use Rattle.steps.specs.FirstStep.{word-length, first-vectors}
 use Rattle.steps.specs.SecondStep.{unclear, second-vectors, session-vectors, fault-free-state}
 use Rattle.steps.proofs.StepOneWords.{length-bounds, words-apart, first-size}
-use Rattle.steps.proofs.BothSteps.{fits-parts, fits-both, second-size, second-none, both-read-back, both-fits, all-clear-fits, all-clear-only}
+use Rattle.steps.proofs.BothSteps.{fits-parts, fits-both, second-size, second-none, both-read-back, both-fits, fault-free-at, all-clear-fits, all-clear-only}
 use Rattle.session.specs.declared.Session.{Session}
 use Rattle.session.specs.Record.{awaiting-first, awaiting-second, finished, awaits-first, awaits-second}
 use Rattle.session.specs.Calls.{stepped, begin-answer, first-answer, answered-by, second-answer}
@@ -230,7 +231,8 @@ told-by-table (finished-second net v1 r1 v2 r2) session (second answers) begun t
 
 -- what a finished record reports
 finished-reports : (h : History) (net : Network) (r1 state : List ℕ) (spent : ℕ) → length state ≡ net .nets → OnlyFit h state → spent ≡ length (vectors-spent h)
-    → (length (unclear net r1) ≡ 0 → spent ≡ word-length net) → (length (unclear net r1) ≢ 0 → spent ≡ word-length net + length (unclear net r1) + 1)
+    → (length (unclear net r1) ≡ 0 → (spent ≡ word-length net) × (state ≡ fault-free-state net))
+    → (length (unclear net r1) ≢ 0 → spent ≡ word-length net + length (unclear net r1) + 1)
     → Stopped h net r1 (finished net state spent)
 finished-reports h net r1 state spent size only count clear unclear! = record {
   step-three = refl;
@@ -239,7 +241,8 @@ finished-reports h net r1 state spent size only count clear unclear! = record {
     state = rw (← size, take-append-seam state (replicate (48 - length state) 0)) only;
     nothing-more = rw (← size) (drop-append-seam state (replicate (48 - length state) 0));
     count = count;
-    none-unclear = clear;
+    none-unclear = λ none!. clear none! .0;
+    own-drivers = λ none! i l. List·getD-append state (replicate (48 - length state) 0) 0 i (rw size l) ∙ ap (λ (reaches : List ℕ). at reaches i) (clear none! .1) ∙ fault-free-at net i l;
     some-unclear = unclear!;
   };
 }
@@ -277,7 +280,7 @@ first-in net v1 answers list words nets wrote e = go (unclear net answers) refl
           fits = (fits .of-class, ap (response net (fault-free-state net)) wrote ∙ fits .gives);
           only = λ other f. all-clear-only net (words-apart net nets-low nets-high) answers clear other (record { of-class = f .0; gives = ap (response net other) (sym wrote) ∙ f .1 });
         })
-        (rw (wrote, second-wrote)) (λ _. spent) (λ d. absurd (d clear))
+        (rw (wrote, second-wrote)) (λ _. (spent, refl)) (λ d. absurd (d clear))
     go (i ∷ us) q = record {
       nets = nets;
       wrote = wrote;

@@ -1,10 +1,11 @@
 -- Demand 3, the two halves as one record.
-use Prim.Native.Nat.{ℕ, _+_, _-_}
+use Prim.Native.Nat.{ℕ, _+_, _-_, _^_, _<_}
 use mathlib.Core.Path.{_≡_}
 use mathlib.Core.Logic.{_↔_, _≢_}
 use mathlib.Core.List.{List, [], _∷_, _++_}
 use lib.ListN.{length, take, drop, replicate}
 use Rattle.words.specs.Answers.{Answer, refused, full, ByTable, lent-after}
+use Rattle.words.specs.Bits.{at}
 use Rattle.network.specs.declared.Network.{Network}
 use Rattle.network.specs.Reading.{response}
 use Rattle.network.specs.States.{State, AtMostOneFits}
@@ -112,6 +113,7 @@ pub record Reported (h : History) (net : Network) (r1 : List ℕ) (session : Ses
   pub nothing-more : drop (net .nets) (session .reaches) ≡ replicate (48 - net .nets) 0
   pub count : session .spent ≡ length (vectors-spent h)
   pub none-unclear : length (unclear net r1) ≡ 0 → session .spent ≡ word-length net
+  pub own-drivers : length (unclear net r1) ≡ 0 → (i : ℕ) → i < net .nets → at (session .reaches) i ≡ 2 ^ i
   pub some-unclear : length (unclear net r1) ≢ 0 → session .spent ≡ word-length net + length (unclear net r1) + 1
 
 abbrev pub Ended : History → Session → Type 0
