@@ -46,7 +46,7 @@ pub record SmallestWords (net : Network) (p : ℕ) (words : List ℕ) : Type 0 w
   -- every other such word is larger than all of them
   pub smallest : (w : ℕ) → w < 2 ^ p → ones-of p w ≡ p / 2 → ((i : ℕ) × (i < net .nets) × (at words i ≡ w)) ⊎ ((i : ℕ) → i < net .nets → at words i < w)
 
--- The words of p bits turned into p vectors: bit t of net i's word is bit i of vector t, and a vector has no other bits.
+-- The words of p bits turned into p vectors: bit t of net i's word is bit i of vector t, and there are no other bits.
 pub record VectorsOfWords (net : Network) (p : ℕ) (words vectors : List ℕ) : Type 0 where
   pub one-a-bit : length vectors ≡ p
   pub no-high-bit : (t : ℕ) → t < p → at vectors t < 2 ^ (net .nets)
