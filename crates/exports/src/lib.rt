@@ -104,7 +104,7 @@ pub extern "C" fn fontarelga_begin(session: &mut [u64], nets: u64, first: &mut [
         return WRONG_LENGTH;
     }
     let held = packing::record::session_of(session);
-    let done = session::begin_step(held, Network { nets: nets }, first);
+    let done = session::by_value::begin(held, Network { nets: nets }, first);
     packing::record::put_session(done.session, session);
     done.code
 }
@@ -124,7 +124,7 @@ pub extern "C" fn fontarelga_first_answers(
         return WRONG_LENGTH;
     }
     let held = packing::record::session_of(session);
-    let done = session::first_step(held, answers, second);
+    let done = session::by_value::first_answers(held, answers, second);
     packing::record::put_session(done.session, session);
     done.code
 }
@@ -139,7 +139,7 @@ pub extern "C" fn fontarelga_second_answers(session: &mut [u64], answers: &[u64]
         return WRONG_LENGTH;
     }
     let held = packing::record::session_of(session);
-    let done = session::second_step(held, answers);
+    let done = session::by_value::second_answers(held, answers);
     packing::record::put_session(done.session, session);
     done.code
 }

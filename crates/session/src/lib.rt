@@ -36,8 +36,8 @@ fn refused(number: u64, session: Session) -> Stepped
     }
 }
 
-// The call *begin*: the vectors of step one into the front of `list`. Rows 5 and 12.
-pub fn begin_step(session: Session, net: Network, list: &mut [u64]) -> Stepped
+// The call *begin* by value: the vectors of step one into the front of `list`. Rows 5 and 12.
+fn begin_step(session: Session, net: Network, list: &mut [u64]) -> Stepped
     ensures { λ r. ⌜ (r .session ≡ begun session net (length (now (list .entry))) .session) × (r .code ≡ begun session net (length (now (list .entry))) .code) × (now (list .exit) ≡ lent-after (begin-answer net (length (now (list .entry)))) (now (list .entry))) ⌝ }
 {
     if network::refusals::bad_net_count(net) {
@@ -54,8 +54,8 @@ pub fn begin_step(session: Session, net: Network, list: &mut [u64]) -> Stepped
     }
 }
 
-// The call *first answers*: the vectors of step two into the front of `list`, if a net is unclear. Rows 4, 9, 10 and 12.
-pub fn first_step(session: Session, answers: &[u64], list: &mut [u64]) -> Stepped
+// The call *first answers* by value: the vectors of step two into the front of `list`, if a net is unclear. Rows 4, 9, 10 and 12.
+fn first_step(session: Session, answers: &[u64], list: &mut [u64]) -> Stepped
     ensures { λ r. ⌜ (r .session ≡ first-answered session (now (answers .entry)) (length (now (list .entry))) .session) × (r .code ≡ first-answered session (now (answers .entry)) (length (now (list .entry))) .code) × (now (list .exit) ≡ lent-after (first-answer session (now (answers .entry)) (length (now (list .entry)))) (now (list .entry))) ⌝ }
 {
     if !record::awaits_first(session) {
@@ -82,8 +82,8 @@ pub fn first_step(session: Session, answers: &[u64], list: &mut [u64]) -> Steppe
     }
 }
 
-// The call *second answers*: the only state that fits both steps. Rows 4, 9, 10 and 14.
-pub fn second_step(session: Session, answers: &[u64]) -> Stepped
+// The call *second answers* by value: the only state that fits both steps. Rows 4, 9, 10 and 14.
+fn second_step(session: Session, answers: &[u64]) -> Stepped
     ensures { λ r. ⌜ (r .session ≡ second-answered session (now (answers .entry)) .session) × (r .code ≡ second-answered session (now (answers .entry)) .code) ⌝ }
 {
     if !record::awaits_second(session) {

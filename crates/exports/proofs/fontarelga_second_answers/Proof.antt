@@ -20,8 +20,8 @@ returns c =
 session-of-requires : tie.Need-session-of-requires
 session-of-requires c κs = search needs
 
-second-step-requires : tie.Need-second-step-requires
-second-step-requires c κs = search needs
+second-answers-requires : tie.Need-second-answers-requires
+second-answers-requires c κs = search needs
 
 put-session-requires : tie.Need-put-session-requires
 put-session-requires c κs = search needs
@@ -40,7 +40,7 @@ returns-2 c =
     let by : (session : Session) → (new : Session) × (done session ≡ stepped (answer session) new session) = λ session. (_, refl) in
     let size = h .before .before .if1 .left in
     let same = h .session-of .ensures in
-    let said = k .second-step .ensures in
+    let said = k .second-answers .ensures in
     (step-code answer done by (a .session .now) size _ same _ (said .1), step-words answer done by (a .session .now) size _ same _ _ (said .0) (p .put-session .ensures))
 
 pub fontarelga-second-answers-spec : {M : Type 1} → statement M
@@ -49,7 +49,7 @@ fontarelga-second-answers-spec =
     (tie.spec
     returns
     session-of-requires
-    second-step-requires
+    second-answers-requires
     put-session-requires
     same-length
     returns-2)
