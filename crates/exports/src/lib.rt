@@ -84,12 +84,16 @@ pub extern "C" fn fontarelga_findings(nets: u64, state: &[u64], table: &mut [u64
     ensures answer { λ r. ⌜ r ≡ code (findings-exported nets (now (state .entry)) (length (now (table .entry)))) ⌝ }
     ensures table { λ r. ⌜ now (table .exit) ≡ lent-after (in-words finding-words (findings-exported nets (now (state .entry)) (length (now (table .entry))))) (now (table .entry)) ⌝ }
 {
-    let net = Network { nets: nets };
-    let code = findings::table_refusal(net, state, table.len() / 3);
-    if code != 0 {
-        return code;
+    let done = findings::by_value(Network { nets: nets }, state);
+    if done.code != 0 {
+        return done.code;
     }
-    packing::table::put_findings(net, state, table);
+    let n = nets as usize;
+    if network::refusals::no_room(n, table.len() / 3) {
+        return 12;
+    }
+    let records = done.table;
+    packing::table::put_findings(records, n, table);
     0
 }
 

@@ -1,19 +1,22 @@
--- The call *findings* answers as its rows and its result say, and nothing is left open. And the table as a loop fills it.
+-- The call *findings* answers as its rows and its result say, and nothing is left open. A table of 48 records, and a table as a loop fills it.
 use mathlib.Core.Path.{_≡_, refl, sym, ap, _∙_, subst}
-use mathlib.Core.List.{List, [], _++_, map}
+use mathlib.Core.Bool.{Bool, true, false, cond}
+use mathlib.Core.List.{List, [], _∷_, _++_, map}
 use Prim.Native.Nat.{ℕ, zero, suc, _+_, _-_, _≤_, _<_}
 use native.Mathlib.Omega.{arith}
-use lib.ListN.{length, take, drop, set, length-map, length-append, length-drop}
-use lib.Seq.{ext-getD, length-take-le}
-use Rattle.words.specs.Answers.{Answer, refused, full, ByTable, NoneHolds, Decided, lent-after, count-of}
+use lib.Dec.{ltb}
+use lib.ListN.{length, take, drop, set, getD, length-map, length-append, length-drop}
+use lib.Seq.{ext-getD, length-take-le, getD-take}
+use Rattle.words.specs.Answers.{Answer, refused, full, ByTable, NoneHolds, by-tests, Decided, lent-after, count-of}
 use Rattle.words.specs.Bits.{at}
 use Rattle.words.specs.Turning.{tabulate}
-use Rattle.words.proofs.Answers.{tests-by-table, table-determined, table-skip, let-through, counted-refused, counted-full}
-use Rattle.words.proofs.Tests.{test-fails}
+use Rattle.words.proofs.Answers.{refused-not-full, tests-by-table, table-determined, table-skip, let-through, none-passed, full-answer, shared-pass, front-written, counted-refused, counted-full}
+use Rattle.words.proofs.Tests.{neither, test-fails}
 use Rattle.words.proofs.Making.{map-at, map-fill, map-filled}
 use Rattle.words.proofs.Columns.{length-tabulate, tabulate-at}
 use Rattle.network.specs.declared.Network.{Network}
-use Rattle.network.specs.States.{State}
+use Rattle.network.specs.States.{State, not-a-state}
+use Rattle.network.specs.Rows.{bad-net-count, no-room}
 use Rattle.network.proofs.States.{test→state, decides-not-a-state}
 use Rattle.network.proofs.Rows.{decides-row-5, decides-row-12, nets-admitted}
 use Rattle.findings.specs.declared.Finding.{Finding}
@@ -65,20 +68,24 @@ pub record Accepted (net : Network) (state : List ℕ) (room : ℕ) : Type 0 whe
   pub answer : findings-answer net state room ≡ full (findings net state)
 
 module _ (net : Network) (state : List ℕ) (room : ℕ) where
-  through : findings-answer net state room ≡ full (findings net state) → NoneHolds (FindingsRows net state room) → Accepted net state room
-  through answer (five, (eleven, (twelve, _))) =
+  -- where no row holds, the call is accepted
+  pub none-holds-accepted : NoneHolds (FindingsRows net state room) → Accepted net state room
+  none-holds-accepted (five, (eleven, (twelve, _))) =
+      let result = table-skip (Findings net state) (FindingsRows net state room) [] (findings-answer net state room) (five, (eleven, (twelve, tt))) (findings-by-table net state room) in
       let is-state : State net (net .nets) state =
       test→state net (net .nets) state (test-fails (decides-not-a-state net (net .nets) state) eleven) in
-      let size = is-state .size in
-      record { few = nets-admitted net five .1; is-state = is-state; fits = omega (arith, twelve, size); answer = answer }
+      let size = is-state .size in record {
+        few = nets-admitted net five .1;
+        is-state = is-state;
+        fits = omega (arith, twelve, size);
+        answer = result .1 ∙ ap full (tables-equal net state (result .0) (findings net state) (result .2) (findings-is net state));
+      }
 
   accepted-0 : table-meaning net 0 ≡ count-of (findings-answer net state room) → Accepted net state room
   unfolding table-meaning findings-answer
   accepted-0 said =
       let counted = counted-full (findings-answer net state room) (net .nets) (sym said) in
-      let none = let-through (FindingsRows net state room) (findings-tests net state room) (findings net state) (counted .0) (decides-rows net state room) (counted .1) in
-      let result = table-skip (Findings net state) (FindingsRows net state room) [] (findings-answer net state room) none (findings-by-table net state room) in
-      through (result .1 ∙ ap full (tables-equal net state (result .0) (findings net state) (result .2) (findings-is net state))) none
+      none-holds-accepted (let-through (FindingsRows net state room) (findings-tests net state room) (findings net state) (counted .0) (decides-rows net state room) (counted .1))
 
   -- 0: accepted
   pub table-accepted : (number : ℕ) → number ≡ 0 → table-meaning net number ≡ count-of (findings-answer net state room) → Accepted net state room
@@ -89,6 +96,49 @@ module _ (net : Network) (state : List ℕ) (room : ℕ) where
   unfolding table-meaning
   table-refused zero n said = absurd (n refl)
   table-refused (suc k) n said = counted-refused (findings-answer net state room) (suc k) (sym said)
+
+-- ---- a table of 48 records, with room for every network
+
+module _ (net : Network) (state : List ℕ) where
+  -- the records that an accepted call has written
+  pub records-written : (lent table : List Finding) → Accepted net state 48 → table ≡ lent-after (findings-answer net state 48) lent → take (net .nets) table ≡ findings net state
+  records-written lent table ok e =
+      let size : length (findings net state) ≡ net .nets = findings-size net state ∙ ok .is-state .size in
+      ap (take (net .nets)) (e ∙ ap (λ (a : Answer (List Finding)). lent-after a lent) (ok .answer))
+      ∙ ap (λ (n : ℕ). take n (lent-after (full (findings net state)) lent)) (sym size) ∙ front-written (findings net state) lent
+
+  pub record-written : (lent table : List Finding) → Accepted net state 48 → table ≡ lent-after (findings-answer net state 48) lent → (i : ℕ) → i < net .nets
+      → (other : Finding) → getD table i other ≡ finding net state i
+  record-written lent table ok e i l other =
+      let size = ok .is-state .size in
+      sym (getD-take (net .nets) table i other l) ∙ ap (λ (t : List Finding). getD t i other) (records-written lent table ok e)
+      ∙ findings-is net state .found i (omega arith) other
+
+  module _ (room : ℕ) where
+    -- a call that is refused with it is refused with any room
+    pub refused-in-any-room : (number : ℕ) → findings-answer net state 48 ≡ refused number → findings-answer net state room ≡ refused number
+    unfolding findings-answer by-tests
+    refused-in-any-room number e =
+        go (bad-net-count net) (not-a-state net (net .nets) state) (no-room (net .nets) 48) (no-room (net .nets) room) (λ five. neither (ltb (net .nets) 2) (ltb 48 (net .nets)) five .1) e
+      where
+        go : (five eleven over twelve : Bool) → (five ≡ false → over ≡ false)
+            → cond five (refused 5) (cond eleven (refused 11) (cond over (refused 12) (full (findings net state)))) ≡ refused number
+            → cond five (refused 5) (cond eleven (refused 11) (cond twelve (refused 12) (full (findings net state)))) ≡ refused number
+        go true eleven over twelve enough e = e
+        go false true over twelve enough e = e
+        go false false over twelve enough e =
+            refused-not-full e (ap (λ (b : Bool). cond b (refused 12) (full (findings net state))) (enough refl))
+
+    -- and for one that is accepted with it, the room alone decides
+    pub accepted-by-room : Accepted net state 48 → (twelve : Bool) → no-room (net .nets) room ≡ twelve
+        → findings-answer net state room ≡ cond twelve (refused 12) (full (findings net state))
+    unfolding findings-answer by-tests
+    accepted-by-room ok twelve e =
+        let found = findings net state in
+        let first : List (ℕ × Bool) = (5, bad-net-count net) ∷ (11, not-a-state net (net .nets) state) ∷ [] in
+        let fail = none-passed (findings-tests net state 48) found found (ok .answer) .0 in
+        shared-pass found found first ((12, no-room (net .nets) room) ∷ []) found (full-answer first found (fail .0, (fail .1 .0, tt)))
+        ∙ ap (λ (b : Bool). cond b (refused 12) (full found)) e
 
 -- ---- the table as a loop fills it
 

@@ -1,42 +1,84 @@
 use borrow.Author.Needs.{needs}
+use borrow.Author.Tests.{ltb-false}
 use native.Mathlib.Omega.{arith}
 use Prim.Native.Nat.{_/_}
+use mathlib.Core.Path.{sym, ap, _∙_}
+use mathlib.Core.Bool.{true, false}
+use mathlib.Core.List.{List}
 use lib.ListN.{length}
-use Rattle.findings.proofs.FindingsLaws.{table-refused, table-accepted}
+use Rattle.words.specs.Answers.{full, lent-after}
+use Rattle.findings.specs.declared.Finding.{Finding}
+use Rattle.findings.specs.FindingsTable.{blank-table}
+use Rattle.findings.proofs.FindingsLaws.{Accepted, table-refused, table-accepted, records-written, refused-in-any-room, accepted-by-room}
 use Rattle.packing.specs.Packed.{finding-words, network-of}
 use Rattle.exports.proofs.CallLaws.{code-refused, words-refused, code-full, words-full}
 use Rattle.exports.proofs.fontarelga_findings.Statement.{statement}
 use Rattle.exports.proofs.fontarelga_findings.Tie as tie
 
-table-refusal-requires : tie.Need-table-refusal-requires
-table-refusal-requires c κs = search needs
+by-value-requires : tie.Need-by-value-requires
+by-value-requires c κs = search needs
 
 returns : tie.Need-returns
 returns c =
-    let r = c .before in
+    let r = c .before .before in
     let a = r .before .before .before .args in
-    let e = table-refused (network-of (a .nets)) (a .state .now) (length (a .table .now) / 3) (r .table-refusal .result) (c .if1 .taken) (r .table-refusal .ensures) in
+    let d = r .by-value in
+    let e = refused-in-any-room (network-of (a .nets)) (a .state .now) (length (a .table .now) / 3) (d .result .code)
+    (table-refused (network-of (a .nets)) (a .state .now) 48 (d .result .code) (c .if1 .taken) (d .ensures .0)) in
+    (code-refused _ _ e, words-refused _ _ e finding-words (a .table .now))
+
+-- accepted with a table of 48 records
+module _ (c : tie.Else1) where
+  abbrev start : tie.Start
+  start = c .before .before .before .before .before
+
+  accepted : Accepted (network-of (start .args .nets)) (start .args .state .now) 48
+  accepted =
+      let d = c .before .before .by-value in
+      table-accepted (network-of (start .args .nets)) (start .args .state .now) 48 (d .result .code) (c .if1 .left) (d .ensures .0)
+
+no-room-requires : tie.Need-no-room-requires
+no-room-requires c κs = search needs
+
+returns-2 : tie.Need-returns-2
+returns-2 c =
+    let d = c .before .before in
+    let a = start d .args in
+    let e = accepted-by-room (network-of (a .nets)) (a .state .now) (length (a .table .now) / 3) (accepted d) true (sym (c .before .no-room .ensures) ∙ c .if2 .taken) in
     (code-refused _ _ e, words-refused _ _ e finding-words (a .table .now))
 
 put-findings-requires : tie.Need-put-findings-requires
 put-findings-requires c κs =
-    let r = c .before .before in
-    let a = r .before .before .before .args in
-    let ok = table-accepted (record { nets = a .nets }) (a .state .now) (length (a .table .now) / 3) (r .table-refusal .result) (c .before .if1 .left) (r .table-refusal .ensures) in
-    let fits = ok .fits in
-    (ok .few, ok .is-state, omega arith)
+    let e = c .before .before in
+    let d = e .before .before in
+    let room = ltb-false (length (start d .args .table .now) / 3) (start d .args .nets) (sym (e .before .no-room .ensures) ∙ e .if2 .left) in
+    (accepted d .few, omega arith)
 
 same-length : tie.Need-same-length
 same-length c = search needs
 
-returns-2 : tie.Need-returns-2
-returns-2 c =
+returns-3 : tie.Need-returns-3
+returns-3 c =
     let p = c .before .before in
-    let r = p .before .before .before in
-    let a = r .before .before .before .args in
-    let ok = table-accepted (network-of (a .nets)) (a .state .now) (length (a .table .now) / 3) (r .table-refusal .result) (p .before .before .if1 .left) (r .table-refusal .ensures) in
-    (code-full _ _ (ok .answer), words-full _ _ (ok .answer) finding-words (a .table .now) _ (p .put-findings .ensures))
+    let e = p .before .before .before in
+    let d = e .before .before in
+    let a = start d .args in
+    let b = d .before .before .by-value in
+    let ok = accepted-by-room (network-of (a .nets)) (a .state .now) (length (a .table .now) / 3) (accepted d) false (sym (e .before .no-room .ensures) ∙ e .if2 .left) in
+    let written = records-written (network-of (a .nets)) (a .state .now) blank-table (b .result .table) (accepted d) (b .ensures .1) in (
+      code-full _ _ ok,
+      words-full _ _ ok finding-words (a .table .now) _
+          (p .put-findings .ensures ∙ ap (λ (found : List Finding). lent-after (full (finding-words found)) (a .table .now)) written),
+    )
 
 pub fontarelga-findings-spec : {M : Type 1} → statement M
 fontarelga-findings-spec =
-    tie.close (tie.spec table-refusal-requires returns put-findings-requires same-length returns-2)
+    tie.close
+    (tie.spec
+    by-value-requires
+    returns
+    no-room-requires
+    returns-2
+    put-findings-requires
+    same-length
+    returns-3)

@@ -2,29 +2,36 @@ use borrow.Author.Needs.{needs}
 use native.Mathlib.Omega.{arith}
 use Prim.Native.Nat.{_*_, _≤_, _-_}
 use mathlib.Core.Path.{refl, sym, _∙_, _≡_}
-use lib.ListN.{drop, length}
+use lib.ListN.{drop, length, take}
+use lib.Seq.{getD-take, length-take-le}
 use Rattle.words.specs.Writing.{written}
 use Rattle.words.proofs.Writing.{written-front}
-use Rattle.findings.specs.FindingsTable.{findings}
 use Rattle.packing.specs.Packed.{finding-words}
 use Rattle.packing.proofs.Tabling.{findings-turn, findings-end}
 use Rattle.packing.proofs.table.put_findings.Statement.{statement}
 use Rattle.packing.proofs.table.put_findings.Tie as tie
 
 abbrev Inv-loop : tie.InvT-loop
-Inv-loop net state table₀ i₀ table i =
-    (i ≤ length state)
+Inv-loop count table₀ records i₀ table i =
+    (i ≤ count)
     × (length table ≡ length table₀)
-    × (written table (3 * i) (finding-words (drop i (findings net state))) ≡ written table₀ 0 (finding-words (findings net state)))
+    × (written table (3 * i) (finding-words (drop i (take count records))) ≡ written table₀ 0 (finding-words (take count records)))
 
 abbrev μ-loop : tie.MeasureT-loop
-μ-loop net state table₀ i₀ table i = length state - i
+μ-loop count table₀ records i₀ table i = count - i
+
+-- how many the first records are
+first-records : (s : tie.Start Inv-loop μ-loop) → length (take (s .args .count) (s .args .t1)) ≡ s .args .count
+first-records s = length-take-le (s .args .count) (s .args .t1) (omega (arith, s .good .0 .1 .0 .1, s .pre .0))
 
 loop-holds : tie.Need-loop-holds Inv-loop μ-loop
 loop-holds c = (search needs, refl, refl)
 
-finding-of-requires : tie.Need-finding-of-requires Inv-loop μ-loop
-finding-of-requires c κs = search needs
+mul-found : tie.Need-mul-found Inv-loop μ-loop
+mul-found c = search needs
+
+array-copy-out-found : tie.Need-array-copy-out-found Inv-loop μ-loop
+array-copy-out-found c = search needs
 
 mul-put-at : tie.Need-mul-put-at Inv-loop μ-loop
 mul-put-at c = search needs
@@ -46,10 +53,12 @@ loop-again c =
     let p = c .before .before in
     let f = p .before .before .before in
     let l = f .before .before .loop in
-    let a = f .before .before .before .before .before .args in (
+    let s = f .before .before .before .before in
+    let a = s .args in
+    let size = first-records s in (
       search needs,
       search needs,
-      findings-turn (a .net) (a .state .now) (l .i) (l .table) (f .finding-of .result) _ (f .finding-of .ensures) (p .put-at .ensures) (omega arith) (omega arith) ∙ l .inv .2,
+      findings-turn (take (a .count) (a .t1)) (l .i) (l .table) _ (record { kind = 0; reach = 0; partners = 0 }) _ (sym (getD-take (a .count) (a .t1) (l .i) _ (omega arith))) (p .put-at .ensures) (omega arith) (omega arith) ∙ l .inv .2,
     )
 
 same-length : tie.Need-same-length Inv-loop μ-loop
@@ -58,8 +67,10 @@ same-length c = search needs
 returns : tie.Need-returns Inv-loop μ-loop
 returns c =
     let l = c .before .loop in
-    let a = c .before .before .before .before .args in
-    sym (findings-end (a .net) (a .state .now) (l .i) (l .table) (c .loop-test .left)) ∙ l .inv .2 ∙ written-front (a .table .now) (finding-words (findings (a .net) (a .state .now)))
+    let s = c .before .before .before in
+    let a = s .args in
+    let size = first-records s in
+    sym (findings-end (take (a .count) (a .t1)) (l .i) (l .table) (omega arith)) ∙ l .inv .2 ∙ written-front (a .table .now) (finding-words (take (a .count) (a .t1)))
 
 pub put-findings-spec : {M : Type 1} → statement M
 put-findings-spec =
@@ -68,7 +79,8 @@ put-findings-spec =
     Inv-loop
     μ-loop
     loop-holds
-    finding-of-requires
+    mul-found
+    array-copy-out-found
     mul-put-at
     slice-aggregate-put-at
     put-at-requires
