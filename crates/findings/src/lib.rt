@@ -1,5 +1,4 @@
-// What is found on the nets of a wiring state. `finding_of` and `table_refusal` are helpers between crates; `finding_of` asks that the
-// state is one of the network's.
+// What is found on the nets of a wiring state. The helpers for one net ask that the state is one of the network's.
 ghost use mathlib.Core.Path.{_≡_};
 ghost use Prim.Native.Nat.{_<_, _≤_};
 ghost use lib.ListN.{length};
@@ -41,12 +40,12 @@ fn partners_of(net: Network, state: &[u64], i: u64) -> u64
 }
 
 // The finding of net i.
-pub fn finding_of(net: Network, state: &[u64], i: u64) -> Finding
+fn finding_of(net: Network, state: &[u64], i: usize) -> Finding
     requires { ⌜ (net .nets ≤ 48) × (i < net .nets) × State net (net .nets) (now state) ⌝ }
     ensures { λ r. ⌜ r ≡ finding net (now (state .entry)) i ⌝ }
 {
-    let reach = state[i as usize];
-    let partners = partners_of(net, state, i);
+    let reach = state[i];
+    let partners = partners_of(net, state, i as u64);
     if (reach >> i) % 2 == 1 {
         if partners == 0 {
             return Finding {
@@ -75,16 +74,8 @@ pub fn finding_of(net: Network, state: &[u64], i: u64) -> Finding
     }
 }
 
-// The finding of net i, a place of the table.
-fn finding_at(net: Network, state: &[u64], i: usize) -> Finding
-    requires { ⌜ (net .nets ≤ 48) × (i < net .nets) × State net (net .nets) (now state) ⌝ }
-    ensures { λ r. ⌜ r ≡ finding net (now (state .entry)) i ⌝ }
-{
-    finding_of(net, state, i as u64)
-}
-
 // The first of rows 5, 11 and 12 that holds, or 0.
-pub fn table_refusal(net: Network, state: &[u64], room: usize) -> u64
+fn table_refusal(net: Network, state: &[u64], room: usize) -> u64
     ensures { λ r. ⌜ table-meaning net r ≡ count-of (findings-answer net (now (state .entry)) room) ⌝ }
 {
     if network::refusals::bad_net_count(net) {
@@ -109,7 +100,7 @@ pub fn findings(net: Network, state: &[u64], table: &mut [Finding]) -> u64
     }
     let mut i = 0;
     while i < state.len() {
-        table[i] = finding_at(net, state, i);
+        table[i] = finding_of(net, state, i);
         i += 1;
     }
     0

@@ -10,13 +10,15 @@ use Rattle.words.proofs.Classes.{ones-at-most}
 use Rattle.words.proofs.Answers.{table-full, front-written, written-fits, counted-refused, counted-full, table-none-holds}
 use Rattle.network.specs.declared.Network.{Network}
 use Rattle.network.specs.States.{State, Fits}
-use Rattle.network.specs.Rows.{SetRows}
+use Rattle.network.specs.Rows.{Row5, SetRows}
+use Rattle.network.proofs.Rows.{nets-admitted}
 use Rattle.checker.specs.declared.Verdict.{Verdict}
 use Rattle.checker.specs.declared.Verdict.the-variants.{Pass, Pair}
 use Rattle.diagnosis.specs.declared.Diagnosed.{Diagnosed}
 use Rattle.diagnosis.specs.declared.Diagnosed.the-variants.{Wrote, Refused}
 use Rattle.diagnosis.specs.Diagnosis.{DiagnosisRows, diagnosis-answer, meaning}
 use Rattle.diagnosis.proofs.DiagnosisLaws.{diagnosis-by-table}
+use Rattle.findings.specs.FindingsTable.{FindingsRows}
 use Rattle.reader.specs.declared.Job.{Job}
 use Rattle.reader.specs.declared.ReadJob.{ReadJob}
 use Rattle.reader.specs.declared.ReadJob.the-variants.{Content, Refused as Stopped}
@@ -44,20 +46,24 @@ module _ (net : Network) (k : ℕ) (vectors responses lent list : List ℕ) (ans
   pub diagnosis-refused : (number : ℕ) → meaning answer ≡ count-of outcome → answer ≡ Refused number → outcome ≡ refused number
   diagnosis-refused number e r = counted-refused outcome number (sym e ∙ ap meaning r)
 
-  -- an accepted diagnosis: what was written is a state
+  -- an accepted diagnosis: what was written is a state, and *findings* accepts it
   pub diagnosis-wrote : (count : ℕ) → meaning answer ≡ count-of outcome → list ≡ lent-after outcome lent → answer ≡ Wrote count
-      → (outcome ≡ full (take (net .nets) list)) × State net (net .nets) (take (net .nets) list)
+      → (outcome ≡ full (take (net .nets) list)) × NoneHolds (FindingsRows net (take (net .nets) list) 48)
   diagnosis-wrote count e l w =
+      let rows = DiagnosisRows net k vectors responses (length lent) in
       let found = counted-full outcome count (sym e ∙ ap meaning w) in
       let state : List ℕ = found .0 in
-      let fits : Fits net k vectors responses state =
-      table-full (Fits net k vectors responses) (DiagnosisRows net k vectors responses (length lent)) state
-      (subst (ByTable (DiagnosisRows net k vectors responses (length lent)) (Fits net k vectors responses)) (found .1) (diagnosis-by-table net k vectors responses (length lent))) in
+      let allowed : ByTable rows (Fits net k vectors responses) (full state) =
+      subst (ByTable rows (Fits net k vectors responses)) (found .1) (diagnosis-by-table net k vectors responses (length lent)) in
+      let fits : Fits net k vectors responses state = table-full (Fits net k vectors responses) rows state allowed in
       let front : take (net .nets) list ≡ state =
       ap (λ (a : List ℕ). take (net .nets) a) (l ∙ ap (λ (a : Answer (List ℕ)). lent-after a lent) (found .1))
       ∙ ap (λ (n : ℕ). take n (lent-after (full state) lent)) (sym (fits .of-class .size))
       ∙ front-written state lent in
-      (found .1 ∙ ap full (sym front), subst (State net (net .nets)) (sym front) (wider net k state (fits .of-class)))
+      let is-state : State net (net .nets) (take (net .nets) list) = subst (State net (net .nets)) (sym front) (wider net k state (fits .of-class)) in
+      let five : ¬ (Row5 net) = table-none-holds (Fits net k vectors responses) rows state allowed .0 in
+      let most : net .nets ≤ 48 = nets-admitted net five .1 in
+      (found .1 ∙ ap full (sym front), (five, (λ eleven. eleven is-state, (λ twelve. omega (arith, most, twelve), tt))))
 
 -- ---- line one
 

@@ -2,8 +2,9 @@
 ghost use mathlib.Core.Path.{_≡_};
 ghost use Prim.Native.Nat.{_+_, _*_, _≤_};
 ghost use lib.ListN.{length};
+ghost use Rattle.words.specs.Answers.{NoneHolds};
 ghost use Rattle.words.specs.Writing.{written};
-ghost use Rattle.network.specs.States.{State};
+ghost use Rattle.findings.specs.FindingsTable.{FindingsRows};
 ghost use Rattle.listing.specs.Report.{«refused-line», «verdict-line», «net-line», «net-lines»};
 use checker::Verdict;
 use findings::Finding;
@@ -52,15 +53,17 @@ fn put_net(text: &mut [u8], at: usize, net: u64, found: Finding) -> usize
     decimal::put_numbers(text, end, &numbers)
 }
 
-// The lines of all nets of a wiring state; returns the index past them.
+// The lines of all nets of a state that *findings* accepts, from its table; returns the index past them.
 pub fn put_nets(text: &mut [u8], at: usize, net: Network, state: &[u64]) -> usize
-    requires { ⌜ (net .nets ≤ 48) × State net (net .nets) (now state) × (at + 84 * net .nets ≤ length (now text)) ⌝ }
+    requires { ⌜ NoneHolds (FindingsRows net (now state) 48) × (at + 84 * net .nets ≤ length (now text)) ⌝ }
     ensures { λ r. ⌜ (r ≡ at + length (net-lines net (now (state .entry)) 0 (net .nets))) × (now (text .exit) ≡ written (now (text .entry)) at (net-lines net (now (state .entry)) 0 (net .nets))) ⌝ }
 {
+    let tabled = findings::by_value(net, state);
+    let table = tabled.table;
     let mut end = at;
     let mut i: u64 = 0;
     while i < net.nets {
-        let found = findings::finding_of(net, state, i);
+        let found = table[i as usize];
         end = put_net(text, end, i, found);
         i += 1;
     }

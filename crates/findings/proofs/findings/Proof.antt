@@ -1,7 +1,7 @@
--- Where `table_refusal` says a number other than 0 it is returned; else the loop's turn calls `finding_at` with a copy of the state's borrow, opens the table's borrow, stores the record at the place, and closes it.
+-- Where `table_refusal` says a number other than 0 it is returned; else the loop's turn calls `finding_of` with a copy of the state's borrow, opens the table's borrow, stores the record at the place, and closes it.
 --     At i         the whole context where the loop's test is reached: the table's borrow is closed, at the table with i places filled
 --     more, ends   a turn that fills one place, and the turn that leaves the loop, with the rest of the body
--- All that the proof knows of `table_refusal` and `finding_at` is that each meets its contract.
+-- All that the proof knows of `table_refusal` and `finding_of` is that each meets its contract.
 use mathlib.Core.Path.{_≡_, refl, sym, _∙_, ap, subst}
 use Prim.Native.Nat.{ℕ, _+_, _*_, _-_, _<_, _≤_, _^_}
 use native.Mathlib.Omega.{arith}
@@ -65,10 +65,10 @@ use Rattle.findings.proofs.table_refusal as refusal
 use Rattle.findings.proofs.table_refusal.Symbol as refusal-def
 use Rattle.findings.proofs.table_refusal.Symbol.{name as #findings·table-refusal}
 use Rattle.findings.proofs.table_refusal.Met as refusal-thm
-use Rattle.findings.proofs.finding_at as find
-use Rattle.findings.proofs.finding_at.Symbol as find-def
-use Rattle.findings.proofs.finding_at.Symbol.{name as #findings·finding-at}
-use Rattle.findings.proofs.finding_at.Met as find-thm
+use Rattle.findings.proofs.finding_of as find
+use Rattle.findings.proofs.finding_of.Symbol as find-def
+use Rattle.findings.proofs.finding_of.Symbol.{name as #findings·finding-of}
+use Rattle.findings.proofs.finding_of.Met as find-thm
 use Rattle.findings.proofs.findings.Key.{name as #findings·findings}
 use Rattle.findings.proofs.findings as F
 use Rattle.findings.proofs.findings.Statement as stated
@@ -189,7 +189,7 @@ module _ {M : Type 1} (𝓤 : URA M) (H : Heap 𝓤) (A : Atoms 𝓤) (W : Given
       use1 W (‵ (finally R γ′ zs)) (res-finally 𝓤 H A W (named 1) κ′ R γ′ zs) $
       nothing ! $ move ! (1 ∷ 0 ∷ []) $ fjoin ! $ nothing ! $ fjoin ! $ nothing ! $ fjoin ! $ owned ! u64 (Is u64) (uint-makes 𝓤 H A W w64) c _ (refl, fits) $ move ! (1 ∷ 0 ∷ []) $ done !
 
-  module _ (𝓣 : Tables 𝓤 H) (known : Triple 𝓤 (𝓣 .C #findings·finding-at) (Find 𝓤 H A at-mem run)) (r : ℕ) (r-fits : r < 2 ^ 64) (e : table-meaning net r ≡ count-of (findings-answer net xs (length ys))) (l₀ l₁ l₂ l₃ l₄ l₅ l₆ l₇ l₈ l₉ l₁₀ l₁₁ : ℕ) where
+  module _ (𝓣 : Tables 𝓤 H) (known : Triple 𝓤 (𝓣 .C #findings·finding-of) (Find 𝓤 H A at-mem run)) (r : ℕ) (r-fits : r < 2 ^ 64) (e : table-meaning net r ≡ count-of (findings-answer net xs (length ys))) (l₀ l₁ l₂ l₃ l₄ l₅ l₆ l₇ l₈ l₉ l₁₀ l₁₁ : ℕ) where
     abbrev C : Calls 𝓤 H
     C = 𝓣 .C
 
@@ -325,7 +325,7 @@ module _ {M : Type 1} (𝓤 : URA M) (H : Heap 𝓤) (A : Atoms 𝓤) (W : Given
         (λ eq. skips ! $ exec ! C Λ En mirs.t-5 (atRet En Post) $ assigns ! (of-opd ! (lit ! tt)) (from ! (stop !)) (init ! 17 refl (tt, record { fits = lit< tt })) $ forget ! 13 refl $
         from-loop (eqb→eq r 0 (twice-not (eqb r 0) eq)))
 
-  module _ (𝓣 : Tables 𝓤 H) (known-admit : Triple 𝓤 (𝓣 .C #findings·table-refusal) (Admit 𝓤 H A at-mem run)) (known-find : Triple 𝓤 (𝓣 .C #findings·finding-at) (Find 𝓤 H A at-mem run)) where
+  module _ (𝓣 : Tables 𝓤 H) (known-admit : Triple 𝓤 (𝓣 .C #findings·table-refusal) (Admit 𝓤 H A at-mem run)) (known-find : Triple 𝓤 (𝓣 .C #findings·finding-of) (Find 𝓤 H A at-mem run)) where
     walk : ent 𝓤 (onEntry 𝓤 H A F.signature (κ, (κ′, tt)) (q, (q′, tt)) a vals) (WpFn 𝓤 H (𝓣 .C) (𝓣 .Λ) code.function (nmach net ∷ s ∷ t ∷ []) Post)
     walk =
         qed W ((‵ (flft κ q) ⊛ ‵ (flft κ′ q′) ⊛ ‵ ftrue) ∷ ‵ (owns (N.the-row ∷ ShrSlice (named 0) κ u64 ∷ MutSlice (named 1) κ′ R ∷ []) a vals) ∷ []) ∵ enter ! (𝓣 .C) (𝓣 .Λ) code.function (nmach net ∷ s ∷ t ∷ []) _ $
@@ -349,7 +349,7 @@ module _ {M : Type 1} (𝓤 : URA M) (H : Heap 𝓤) (A : Atoms 𝓤) (W : Given
         from-test 𝓣 known-find r (is .1) e l₀ l₁ l₂ l₃ l₄ l₅ l₆ l₇ l₈ l₉ l₁₀ l₁₁))))))))))))))))
 
 module _ {M : Type 1} (𝓤 : URA M) (H : Heap 𝓤) (A : Atoms 𝓤) (W : Given 𝓤 H A) (at-mem : Memory → SProp 𝓤) (run : Routine → Fun 𝓤) where
-  walks : (𝓣 : Tables 𝓤 H) → Triple 𝓤 (𝓣 .C #findings·table-refusal) (Admit 𝓤 H A at-mem run) → Triple 𝓤 (𝓣 .C #findings·finding-at) (Find 𝓤 H A at-mem run) → Walks 𝓤 H A F.ended stayed (WpFn 𝓤 H (𝓣 .C) (𝓣 .Λ) code.function) (F.clauses 𝓤 H A at-mem run)
+  walks : (𝓣 : Tables 𝓤 H) → Triple 𝓤 (𝓣 .C #findings·table-refusal) (Admit 𝓤 H A at-mem run) → Triple 𝓤 (𝓣 .C #findings·finding-of) (Find 𝓤 H A at-mem run) → Walks 𝓤 H A F.ended stayed (WpFn 𝓤 H (𝓣 .C) (𝓣 .Λ) code.function) (F.clauses 𝓤 H A at-mem run)
   walks 𝓣 known-admit known-find = walked 𝓤 H A F.ended stayed (F.clauses 𝓤 H A at-mem run) (WpFn 𝓤 H (𝓣 .C) (𝓣 .Λ) code.function)
       (λ κs. (LL.vals N.the-type N′.the-laws, (slice-vals, (slice-vals, tt)))) (λ κs. (LL.tells N.the-type N′.the-laws, (shr-slice-tells (named 0) (κs .0) u64, (mut-slice-tells (named 1) (κs .1 .0) R, tt))))
       (λ κs qs bounds a g are. via 𝓤 _ (fst∗ 𝓤 _ (emp 𝓤))
@@ -358,7 +358,7 @@ module _ {M : Type 1} (𝓤 : URA M) (H : Heap 𝓤) (A : Atoms 𝓤) (W : Given
   all-go : AllGo 𝓤 H A W 2 (F.signature .params) (F.ended .kept) stayed
   all-go = (goes-dropped 𝓤 H A W 2 (plain (λ _. N.the-row)) yes (λ κs x f. refl), (goes-dropped 𝓤 H A W 2 (shrSliceOf (0 ∷ []) tt (plain (λ _. u64))) yes (λ κs x f. refl), (goes-gave-slice 𝓤 H A W 2 1 tt (plain (λ _. R)), tt)))
 
-findings-meets : {M : Type 1} (𝓤 : URA M) (H : Heap 𝓤) (A : Atoms 𝓤) → Given 𝓤 H A → (at-mem : Memory → SProp 𝓤) (run : Routine → Fun 𝓤) (𝓣 : Tables 𝓤 H) → Triple 𝓤 (𝓣 .C #findings·table-refusal) (Admit 𝓤 H A at-mem run) → Triple 𝓤 (𝓣 .C #findings·finding-at) (Find 𝓤 H A at-mem run)
+findings-meets : {M : Type 1} (𝓤 : URA M) (H : Heap 𝓤) (A : Atoms 𝓤) → Given 𝓤 H A → (at-mem : Memory → SProp 𝓤) (run : Routine → Fun 𝓤) (𝓣 : Tables 𝓤 H) → Triple 𝓤 (𝓣 .C #findings·table-refusal) (Admit 𝓤 H A at-mem run) → Triple 𝓤 (𝓣 .C #findings·finding-of) (Find 𝓤 H A at-mem run)
     → Meets 𝓤 H A F.signature (WpFn 𝓤 H (𝓣 .C) (𝓣 .Λ) code.function) (F.spec 𝓤 H A at-mem run)
 findings-meets 𝓤 H A W at-mem run 𝓣 known-admit known-find =
     walk-meets 𝓤 H A F.ended stayed W (all-go 𝓤 H A W at-mem run) (F.clauses 𝓤 H A at-mem run)
@@ -371,4 +371,4 @@ findings-spec 𝓤 H 𝓜 𝓖 𝓡 =
     (tables 𝓤 H 𝓜 𝓡 code.env .C) (tables 𝓤 H 𝓜 𝓡 code.env .Λ) #findings·findings code.function (code.unfolded 𝓤 H 𝓜 𝓡)
     (findings-meets 𝓤 H (𝓖 .A) (givenOf 𝓤 H 𝓜 𝓖) (𝓜 .mem) (𝓡 .run) (tablesOf 𝓤 H 𝓜 (tables 𝓤 H 𝓜 𝓡 code.env))
     (cited 𝓤 H (Admit 𝓤 H (𝓖 .A) (𝓜 .mem) (𝓡 .run)) 𝓜 𝓡 code.env #findings·table-refusal refusal-def.routine code.calls-findings·table-refusal (refusal-thm.met 𝓤 H 𝓜 𝓖 𝓡))
-    (cited 𝓤 H (Find 𝓤 H (𝓖 .A) (𝓜 .mem) (𝓡 .run)) 𝓜 𝓡 code.env #findings·finding-at find-def.routine code.calls-findings·finding-at (find-thm.met 𝓤 H 𝓜 𝓖 𝓡)))
+    (cited 𝓤 H (Find 𝓤 H (𝓖 .A) (𝓜 .mem) (𝓡 .run)) 𝓜 𝓡 code.env #findings·finding-of find-def.routine code.calls-findings·finding-of (find-thm.met 𝓤 H 𝓜 𝓖 𝓡)))

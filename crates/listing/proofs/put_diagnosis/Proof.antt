@@ -5,11 +5,11 @@ use mathlib.Core.Path.{_≡_, sym}
 use mathlib.Core.List.{List}
 use lib.ListN.{length, take, replicate}
 use lib.Seq.{length-take-le}
-use Rattle.words.specs.Answers.{Answer, refused, full}
+use Rattle.words.specs.Answers.{Answer, refused, full, NoneHolds}
 use Rattle.words.specs.Writing.{written}
 use Rattle.network.specs.declared.Network.{Network}
-use Rattle.network.specs.States.{State}
 use Rattle.diagnosis.specs.Diagnosis.{diagnosis-answer}
+use Rattle.findings.specs.FindingsTable.{FindingsRows}
 use Rattle.listing.specs.Report.{diagnosis-text}
 use Rattle.listing.proofs.Reporting.{diagnosis-refused, diagnosis-wrote}
 use Rattle.listing.proofs.put_diagnosis.Statement.{statement}
@@ -33,7 +33,7 @@ enum-told c = search needs
 array-share-prefix-state : tie.Need-array-share-prefix-state
 array-share-prefix-state c = search needs
 
--- the diagnosis has written a state
+-- the diagnosis has written a state that *findings* accepts
 module _ (c : tie.After-enum-told) where
   abbrev start : tie.Start
   start = c .before .before .before .before .before .before .before .before
@@ -41,9 +41,9 @@ module _ (c : tie.After-enum-told) where
   abbrev list : List ℕ
   list = c .before .before .before .diagnose .last .1 .1 .1 .1 .0
 
-  is-state : (diagnosis-answer (start .args .net) (start .args .class) (start .args .vectors .now) (start .args .responses .now) 48 ≡ full (take (start .args .net .nets) list))
-      × State (start .args .net) (start .args .net .nets) (take (start .args .net .nets) list)
-  is-state =
+  wrote : (diagnosis-answer (start .args .net) (start .args .class) (start .args .vectors .now) (start .args .responses .now) 48 ≡ full (take (start .args .net .nets) list))
+      × NoneHolds (FindingsRows (start .args .net) (take (start .args .net .nets) list) 48)
+  wrote =
       let a = start .args in
       let d = c .before .before .before .diagnose in
       diagnosis-wrote (a .net) (a .class) (a .vectors .now) (a .responses .now) (replicate 48 0) list (d .result) (c .enum-told .given .0 .0) (d .ensures .0) (d .ensures .1) (c .enum-told .given .1)
@@ -56,7 +56,7 @@ slice-aggregate-put-nets c =
 put-nets-requires : tie.Need-put-nets-requires
 put-nets-requires c κs =
     let d = c .before .before in
-    (start d .pre .0, is-state d .1, omega (arith, start d .pre))
+    (wrote d .1, omega (arith, start d .pre))
 
 -- what is put for an answer
 put-for : (net : Network) (at end : ℕ) (lent after : List ℕ) (answer other : Answer (List ℕ)) → answer ≡ other
@@ -87,7 +87,7 @@ returns-2 c =
     let p = c .before .before in
     let d = p .before .before .before in
     let a = start d .args in
-    put-for (a .net) (a .at) (p .put-nets .result) (a .text .now) (p .put-nets .last .0) _ (full (take (a .net .nets) (list d))) (is-state d .0) (p .put-nets .ensures)
+    put-for (a .net) (a .at) (p .put-nets .result) (a .text .now) (p .put-nets .last .0) _ (full (take (a .net .nets) (list d))) (wrote d .0) (p .put-nets .ensures)
 
 pub put-diagnosis-spec : {M : Type 1} → statement M
 put-diagnosis-spec =
