@@ -30,7 +30,7 @@ module _ (net : Network) (state : List ℕ) where
   unfolding findings
   findings-size = length-map (tabulate (length state) _) (finding net state) ∙ length-tabulate (length state) _
 
-  pub findings-is : Findings net state (findings net state)
+  findings-is : Findings net state (findings net state)
   unfolding findings
   findings-is = record {
     one-a-net = findings-size;
