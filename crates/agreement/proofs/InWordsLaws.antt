@@ -5,15 +5,13 @@ use mathlib.Core.Path.{_≡_, refl, sym, ap, _∙_}
 use mathlib.Core.Bool.{Bool, true, false, cond}
 use mathlib.Core.List.{List, [], _∷_, _++_}
 use lib.Dec.{eqb}
-use lib.ListN.{length, drop}
+use lib.ListN.{length}
 use Rattle.words.specs.Answers.{Answer, refused, full, lent-after, count-of}
 use Rattle.words.proofs.Answers.{table-full, table-none-holds}
-use Rattle.words.proofs.Tests.{test-fails}
 use Rattle.network.specs.declared.Network.{Network}
-use Rattle.network.proofs.States.{test→state, decides-not-a-state}
 use Rattle.findings.specs.declared.Finding.{Finding}
 use Rattle.findings.specs.FindingsTable.{FindingsRows, Findings, findings-answer}
-use Rattle.findings.proofs.FindingsLaws.{findings-by-table}
+use Rattle.findings.proofs.FindingsLaws.{findings-by-table, none-holds-accepted}
 use Rattle.reader.specs.Reader.{JobContent, counted}
 use Rattle.packing.specs.Packed.{finding-words, job-words, size-words}
 use Rattle.exports.specs.Exported.{code, in-words, wrong-length, of-length}
@@ -58,10 +56,9 @@ table-words (full records) words fits = records-put records words (fits records 
 fits-room : (net : Network) (state : List ℕ) (room : ℕ) (records : List Finding) → findings-answer net state room ≡ full records → length records ≤ room
 fits-room net state room records e =
     let table = findings-by-table net state room in
-    let rows = table-none-holds (Findings net state) (FindingsRows net state room) records (rw e at table) in
-    let is-state = test→state net (net .nets) state (test-fails (decides-not-a-state net (net .nets) state) (rows .1 .0)) in
+    let ok = none-holds-accepted net state room (table-none-holds (Findings net state) (FindingsRows net state room) records (rw e at table)) in
     let size = table-full (Findings net state) (FindingsRows net state room) records (rw e at table) .one-a-net in
-    omega (arith, size, is-state .size, rows .1 .1 .0)
+    omega (arith, size, ok .fits)
 
 pub found-in-words : (net : Network) (state words table : List ℕ) (number : ℕ) → let room = length words / 3 in
     number ≡ code (findings-answer net state room) → table ≡ lent-after (in-words finding-words (findings-answer net state room)) words
