@@ -1,5 +1,5 @@
-// Each public call, held to the program that the demands are proved of: a thin function a call, whose contract cites that program and whose body is
-// the call. So a call's own contract cannot say less than the demands rest on. What the number 0 of an accepted call means, `code` says.
+// Each public call, held to the program that the demands are proved of: a thin function a call, whose contract cites that
+// program and whose body is the call. So no call's contract can say less than the demands rest on. Nothing calls these.
 ghost use mathlib.Core.Path.{_≡_};
 ghost use lib.ListN.{length, replicate};
 ghost use Rattle.words.specs.Answers.{full, «lent-after»};
