@@ -68,6 +68,7 @@ boundary = record {
   class-1 = refl;
   class-3 = refl;
   class-4 = refl;
+  class-above = refl;
   vectors-0 = refl;
   vectors-1 = refl;
   vectors-64 = refl;

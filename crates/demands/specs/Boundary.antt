@@ -37,6 +37,8 @@ pub record Boundary : Type 0 where
   pub class-1 : check 5 1 (0 ∷ 1 ∷ 2 ∷ 4 ∷ 8 ∷ 16 ∷ []) ≡ full Pass
   pub class-3 : check 5 3 (0 ∷ 1 ∷ 2 ∷ 4 ∷ 8 ∷ 16 ∷ []) ≡ full Pass
   pub class-4 : check 5 4 (0 ∷ 1 ∷ 2 ∷ 4 ∷ 8 ∷ 16 ∷ []) ≡ refused 6
+  -- and above n, though it is 3
+  pub class-above : check 2 3 (0 ∷ 1 ∷ 2 ∷ []) ≡ refused 6
   -- row 7: vectors
   pub vectors-0 : check 4 4 [] ≡ refused 7
   pub vectors-1 : check 4 4 (0 ∷ []) ≡ full (Pair 14 15)

@@ -1,10 +1,10 @@
 -- Job files on both sides of each bound of the reader's rows, and calls of the writer on both sides of each of its own.
 -- Each is worked out by hand from document 01; none is a program's output.
-use Prim.Native.Nat.{ℕ, _+_, _-_, _^_}
+use Prim.Native.Nat.{ℕ, _+_, _*_, _-_, _^_}
 use mathlib.Core.Path.{_≡_}
 use mathlib.Core.List.{List, [], _∷_, _++_}
 use lib.ListN.{take, drop, replicate}
-use Rattle.words.specs.Answers.{Answer, refused, full, count-of}
+use Rattle.words.specs.Answers.{Answer, refused, full}
 use Rattle.reader.specs.Reader.{JobContent, read-answer}
 use Rattle.writer.specs.Writer.{write-answer}
 use Rattle.demands.specs.FileExamples.{start, entry, job-file, set-file}
@@ -47,6 +47,18 @@ bytes-below = 255 ∷ 255 ∷ 255 ∷ 255 ∷ 255 ∷ 255 ∷ 0 ∷ 0 ∷ []
 
 abbrev pub bytes-at : List ℕ
 bytes-at = 0 ∷ 0 ∷ 0 ∷ 0 ∷ 0 ∷ 0 ∷ 1 ∷ 0 ∷ []
+
+-- a word of six different bytes, low byte first
+abbrev pub bytes-apart : List ℕ
+bytes-apart = 6 ∷ 5 ∷ 4 ∷ 3 ∷ 2 ∷ 1 ∷ 0 ∷ 0 ∷ []
+
+abbrev pub word-apart : ℕ
+word-apart = 6 + 5 * 2 ^ 8 + 4 * 2 ^ 16 + 3 * 2 ^ 24 + 2 * 2 ^ 32 + 2 ^ 40
+
+-- the longest file that is accepted, 1,058 bytes: 64 vectors and 64 responses, 512 bytes each, from 34 and from 546 on
+abbrev pub longest-file : List ℕ
+longest-file =
+    start 3 ++ entry 1 32 2 ++ 2 ∷ 34 ∷ 0 ∷ 0 ∷ 0 ∷ 0 ∷ 2 ∷ 0 ∷ 0 ∷ 3 ∷ 34 ∷ 2 ∷ 0 ∷ 0 ∷ 0 ∷ 2 ∷ 0 ∷ 0 ∷ 4 ∷ 4 ∷ replicate 1024 0
 
 pub record ReaderBounds : Type 0 where
   -- row 1: missing bytes, and each byte another
@@ -117,6 +129,7 @@ pub record ReaderBounds : Type 0 where
   pub class-4 : read (set-file 5 4 (0 ∷ [])) ≡ refused 6
   pub class-5 : read (set-file 5 5 (0 ∷ [])) ≡ holds 5 5 (0 ∷ []) []
   pub class-6 : read (set-file 5 6 (0 ∷ [])) ≡ refused 6
+  pub class-above : read (set-file 2 3 (0 ∷ [])) ≡ refused 6
   -- row 7: vectors
   pub vectors-0 : read (two-bodies 2 0) ≡ refused 7
   pub vectors-64 : read-answer (long-body 0 2 512) 64 0 ≡ holds 4 4 (replicate 64 0) []
@@ -126,6 +139,7 @@ pub record ReaderBounds : Type 0 where
   pub vector-at : read (set-file 4 4 (16 ∷ [])) ≡ refused 8
   pub wide-below : read (wide-vector bytes-below) ≡ holds 48 48 ((2 ^ 48 - 1) ∷ []) []
   pub wide-at : read (wide-vector bytes-at) ≡ refused 8
+  pub wide-apart : read (wide-vector bytes-apart) ≡ holds 48 48 (word-apart ∷ []) []
   -- row 9: as many responses as vectors, also where the third body is empty; without a third entry it is not tested
   pub one-response-short : read (job-file 4 4 (0 ∷ 1 ∷ []) (0 ∷ [])) ≡ refused 9
   pub one-response-more : read (job-file 4 4 (0 ∷ 1 ∷ []) (0 ∷ 1 ∷ 2 ∷ [])) ≡ refused 9
@@ -141,6 +155,8 @@ pub record ReaderBounds : Type 0 where
   pub room-1 : read-answer one-response 1 1 ≡ holds 4 4 (0 ∷ []) (0 ∷ [])
   pub set-room-0 : read-answer one-vector 0 0 ≡ refused 12
   pub set-room-1 : read-answer one-vector 1 0 ≡ holds 4 4 (0 ∷ []) []
+  pub longest : read-answer longest-file 64 64 ≡ holds 4 4 (replicate 64 0) (replicate 64 0)
+  pub longest-short : read-answer longest-file 64 63 ≡ refused 12
   -- two rows at once: the upper one
   pub rows-1-2 : read (replicate 2049 0) ≡ refused 1
   pub rows-2-3 : read (two-bodies 3 7 ++ 0 ∷ []) ≡ refused 2
@@ -169,6 +185,7 @@ pub record WriterBounds : Type 0 where
   pub class-4 : write 5 4 (0 ∷ []) [] 33 ≡ refused 6
   pub class-5 : write 5 5 (0 ∷ []) [] 33 ≡ full (set-file 5 5 (0 ∷ []))
   pub class-6 : write 5 6 (0 ∷ []) [] 33 ≡ refused 6
+  pub class-above : write 2 3 (0 ∷ []) [] 33 ≡ refused 6
   -- row 7: vectors
   pub vectors-0 : write 4 4 [] [] 33 ≡ refused 7
   pub vectors-64 : write 4 4 (replicate 64 0) [] 537 ≡ full (long-body 0 2 512)
@@ -178,6 +195,7 @@ pub record WriterBounds : Type 0 where
   pub vector-at : write 4 4 (16 ∷ []) [] 33 ≡ refused 8
   pub wide-below : write 48 48 ((2 ^ 48 - 1) ∷ []) [] 33 ≡ full (wide-vector bytes-below)
   pub wide-at : write 48 48 (2 ^ 48 ∷ []) [] 33 ≡ refused 8
+  pub wide-apart : write 48 48 (word-apart ∷ []) [] 33 ≡ full (wide-vector bytes-apart)
   -- row 9: as many responses as vectors; without responses it is not tested
   pub one-response-short : write 4 4 (0 ∷ 1 ∷ []) (0 ∷ []) 66 ≡ refused 9
   pub one-response-more : write 4 4 (0 ∷ 1 ∷ []) (0 ∷ 1 ∷ 2 ∷ []) 74 ≡ refused 9
@@ -186,13 +204,13 @@ pub record WriterBounds : Type 0 where
   -- row 10: a bit at n
   pub response-below : write 4 4 (0 ∷ []) (15 ∷ []) 50 ≡ full (job-file 4 4 (0 ∷ []) (15 ∷ []))
   pub response-at : write 4 4 (0 ∷ []) (16 ∷ []) 50 ≡ refused 10
-  -- row 12: the room, without responses and with them; the longest file that is written has 1,058 bytes
+  -- row 12: the room, without responses and with them
   pub room-32 : write 4 4 (0 ∷ []) [] 32 ≡ refused 12
   pub room-33 : write 4 4 (0 ∷ []) [] 33 ≡ full one-vector
   pub room-49 : write 4 4 (0 ∷ []) (0 ∷ []) 49 ≡ refused 12
   pub room-50 : write 4 4 (0 ∷ []) (0 ∷ []) 50 ≡ full one-response
   pub longest-short : write 4 4 (replicate 64 0) (replicate 64 0) 1057 ≡ refused 12
-  pub longest : count-of (write 4 4 (replicate 64 0) (replicate 64 0) 1058) ≡ full 1058
+  pub longest : write 4 4 (replicate 64 0) (replicate 64 0) 1058 ≡ full longest-file
   -- two rows at once: the upper one
   pub rows-5-6 : write 1 4 (0 ∷ []) [] 33 ≡ refused 5
   pub rows-6-7 : write 4 0 [] [] 33 ≡ refused 6
