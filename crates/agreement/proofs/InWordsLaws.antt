@@ -7,17 +7,16 @@ use mathlib.Core.List.{List, [], _∷_, _++_}
 use lib.Dec.{eqb}
 use lib.ListN.{length}
 use Rattle.words.specs.Answers.{Answer, refused, full, lent-after, count-of}
-use Rattle.words.proofs.Answers.{table-full, table-none-holds}
 use Rattle.network.specs.declared.Network.{Network}
 use Rattle.findings.specs.declared.Finding.{Finding}
-use Rattle.findings.specs.FindingsTable.{FindingsRows, Findings, findings-answer}
-use Rattle.findings.proofs.FindingsLaws.{findings-by-table, none-holds-accepted}
+use Rattle.findings.specs.FindingsTable.{findings-answer}
+use Rattle.findings.proofs.FindingsLaws.{records-fit}
 use Rattle.reader.specs.Reader.{JobContent, counted}
 use Rattle.packing.specs.Packed.{finding-words, job-words, size-words}
 use Rattle.exports.specs.Exported.{code, in-words, wrong-length, of-length}
 use Rattle.exports.proofs.CallLaws.{code-counted, code-read}
 use Rattle.demands.specs.Programs.{our-findings}
-use Rattle.agreement.specs.InWords.{records-of, rest-of, read-words, wrote-words, with-length}
+use Rattle.agreement.specs.InWords.{records-of, rest-of, returned-job-words, returned-size-words, if-of-length}
 
 -- ---- tables
 
@@ -52,14 +51,6 @@ unfolding in-words lent-after
 table-words (refused number) words fits = sym (records-there words)
 table-words (full records) words fits = records-put records words (fits records refl)
 
--- an accepted call writes no more records than there is room for
-fits-room : (net : Network) (state : List ℕ) (room : ℕ) (records : List Finding) → findings-answer net state room ≡ full records → length records ≤ room
-fits-room net state room records e =
-    let table = findings-by-table net state room in
-    let ok = none-holds-accepted net state room (table-none-holds (Findings net state) (FindingsRows net state room) records (rw e at table)) in
-    let size = table-full (Findings net state) (FindingsRows net state room) records (rw e at table) .one-a-net in
-    omega (arith, size, ok .fits)
-
 pub found-in-words : (net : Network) (state words table : List ℕ) (number : ℕ) → let room = length words / 3 in
     number ≡ code (findings-answer net state room) → table ≡ lent-after (in-words finding-words (findings-answer net state room)) words
     → let did = our-findings net state (records-of words) in
@@ -68,16 +59,16 @@ found-in-words net state words table number e f =
     let a = findings-answer net state (length (records-of words)) in
     let same : findings-answer net state (length words / 3) ≡ a = ap (findings-answer net state) (sym (records-size words)) in (
       e ∙ ap code same ∙ sym (code-counted a (count-of a) refl),
-      f ∙ ap (λ (b : Answer (List Finding)). lent-after (in-words finding-words b) words) same ∙ table-words a words (fits-room net state (length (records-of words))),
+      f ∙ ap (λ (b : Answer (List Finding)). lent-after (in-words finding-words b) words) same ∙ table-words a words (records-fit net state (length (records-of words))),
     )
 
 -- ---- lists of a fixed length
 
 -- what is told alike of two answers, and of a refusal, is told alike of both with a list that must have a length
-alike-of-length : {A B C : Type 0} (size : ℕ) (list : List ℕ) (a : Answer A) (b : Answer B) (told : Answer A → C) (other : Answer B → C) → told a ≡ other b
+of-length-alike : {A B C : Type 0} (size : ℕ) (list : List ℕ) (a : Answer A) (b : Answer B) (told : Answer A → C) (other : Answer B → C) → told a ≡ other b
     → told (refused wrong-length) ≡ other (refused wrong-length) → told (of-length size list a) ≡ other (of-length size list b)
 unfolding of-length
-alike-of-length {A} {B} {C} size list a b told other same none = go (eqb (length list) size)
+of-length-alike {A} {B} {C} size list a b told other same none = go (eqb (length list) size)
   where
     go : (right : Bool) → told (cond right a (refused wrong-length)) ≡ other (cond right b (refused wrong-length))
     go true = same
@@ -85,7 +76,7 @@ alike-of-length {A} {B} {C} size list a b told other same none = go (eqb (length
 
 -- a list that is lent besides is as it was if the first has another length
 pub lent-of-length : {A : Type 0} (size : ℕ) (list : List ℕ) (a : Answer A) (written : Answer A → Answer (List ℕ)) (lent : List ℕ) → written (refused wrong-length) ≡ refused wrong-length
-    → lent-after (written (of-length size list a)) lent ≡ with-length size list (lent-after (written a) lent) lent
+    → lent-after (written (of-length size list a)) lent ≡ if-of-length size list (lent-after (written a) lent) lent
 unfolding of-length lent-after
 lent-of-length {A} size list a written lent none = go (eqb (length list) size)
   where
@@ -95,29 +86,29 @@ lent-of-length {A} size list a written lent none = go (eqb (length list) size)
 
 -- ---- what is returned, with a list that must have a length
 
-read-alike : (a : Answer JobContent) → in-words job-words a ≡ in-words read-words (counted a)
+read-alike : (a : Answer JobContent) → in-words job-words a ≡ in-words returned-job-words (counted a)
 unfolding in-words job-words
 read-alike (refused number) = refl
 read-alike (full job) = refl
 
-wrote-alike : (a : Answer (List ℕ)) → in-words size-words a ≡ in-words wrote-words (count-of a)
+wrote-alike : (a : Answer (List ℕ)) → in-words size-words a ≡ in-words returned-size-words (count-of a)
 unfolding in-words count-of
 wrote-alike (refused number) = refl
 wrote-alike (full bytes) = refl
 
 module _ (size : ℕ) (list : List ℕ) where
   pub read-in-words : (a : Answer JobContent)
-      → (code (of-length size list a) ≡ code (of-length size list (counted a))) × (in-words job-words (of-length size list a) ≡ in-words read-words (of-length size list (counted a)))
+      → (code (of-length size list a) ≡ code (of-length size list (counted a))) × (in-words job-words (of-length size list a) ≡ in-words returned-job-words (of-length size list (counted a)))
   unfolding in-words code
   read-in-words a = (
-    alike-of-length size list a (counted a) code code (sym (code-read a (counted a) refl)) refl,
-    alike-of-length size list a (counted a) (in-words job-words) (in-words read-words) (read-alike a) refl,
+    of-length-alike size list a (counted a) code code (sym (code-read a (counted a) refl)) refl,
+    of-length-alike size list a (counted a) (in-words job-words) (in-words returned-job-words) (read-alike a) refl,
   )
 
   pub wrote-in-words : (a : Answer (List ℕ))
-      → (code (of-length size list a) ≡ code (of-length size list (count-of a))) × (in-words size-words (of-length size list a) ≡ in-words wrote-words (of-length size list (count-of a)))
+      → (code (of-length size list a) ≡ code (of-length size list (count-of a))) × (in-words size-words (of-length size list a) ≡ in-words returned-size-words (of-length size list (count-of a)))
   unfolding in-words code
   wrote-in-words a = (
-    alike-of-length size list a (count-of a) code code (sym (code-counted a (count-of a) refl)) refl,
-    alike-of-length size list a (count-of a) (in-words size-words) (in-words wrote-words) (wrote-alike a) refl,
+    of-length-alike size list a (count-of a) code code (sym (code-counted a (count-of a) refl)) refl,
+    of-length-alike size list a (count-of a) (in-words size-words) (in-words returned-size-words) (wrote-alike a) refl,
   )

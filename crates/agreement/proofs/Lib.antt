@@ -1,1 +1,2 @@
 pub mod InWordsLaws
+pub mod LentCalls

@@ -22,13 +22,13 @@ rest-of (a ∷ b ∷ []) = a ∷ b ∷ []
 rest-of (a ∷ b ∷ c ∷ words) = rest-of words
 
 -- what the reader returns: nets, class, number of vectors, number of responses
-abbrev pub read-words : Job → List ℕ
-read-words job = job .network .nets ∷ job .class ∷ job .vectors ∷ job .responses ∷ []
+abbrev pub returned-job-words : Job → List ℕ
+returned-job-words job = job .network .nets ∷ job .class ∷ job .vectors ∷ job .responses ∷ []
 
 -- what the writer returns: how many bytes it wrote
-abbrev pub wrote-words : ℕ → List ℕ
-wrote-words count = count ∷ []
+abbrev pub returned-size-words : ℕ → List ℕ
+returned-size-words count = count ∷ []
 
 -- one of two lists: by whether a lent list has its fixed length
-abbrev pub with-length : ℕ → (list filled lent : List ℕ) → List ℕ
-with-length size list filled lent = cond (eqb (length list) size) filled lent
+abbrev pub if-of-length : ℕ → (list filled lent : List ℕ) → List ℕ
+if-of-length size list filled lent = cond (eqb (length list) size) filled lent

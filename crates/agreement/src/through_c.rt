@@ -7,7 +7,7 @@ ghost use Rattle.exports.specs.Exported.{code, «in-words», «of-length», «d
 ghost use Rattle.demands.specs.SessionCalls.{begin, first, second};
 ghost use Rattle.demands.specs.Programs.{«our-check», «our-response», «our-diagnosis», «our-findings», «our-reader», «our-writer»};
 ghost use Rattle.demands.specs.ThroughC.{exported};
-ghost use Rattle.agreement.specs.InWords.{«records-of», «rest-of», «read-words», «wrote-words», «with-length»};
+ghost use Rattle.agreement.specs.InWords.{«records-of», «rest-of», «returned-job-words», «returned-size-words», «if-of-length»};
 
 // *check*
 pub fn check(nets: u64, class: u64, vectors: &[u64], verdict: &mut [u64]) -> u64
@@ -77,9 +77,9 @@ pub fn to_drive<'a>(session: &[u64], one: &'a [u64], two: &'a [u64]) -> u64
 // *read a job file*
 pub fn read_job(file: &[u8], vectors: &mut [u64], responses: &mut [u64], job: &mut [u64]) -> u64
     ensures returned { λ r. ⌜ r ≡ code (of-length 4 (now (job .entry)) (our-reader (now (file .entry)) (now (vectors .entry)) (now (responses .entry)) .returned)) ⌝ }
-    ensures vectors { λ r. ⌜ now (vectors .exit) ≡ with-length 4 (now (job .entry)) (our-reader (now (file .entry)) (now (vectors .entry)) (now (responses .entry)) .vectors) (now (vectors .entry)) ⌝ }
-    ensures responses { λ r. ⌜ now (responses .exit) ≡ with-length 4 (now (job .entry)) (our-reader (now (file .entry)) (now (vectors .entry)) (now (responses .entry)) .responses) (now (responses .entry)) ⌝ }
-    ensures job { λ r. ⌜ now (job .exit) ≡ lent-after (in-words read-words (of-length 4 (now (job .entry)) (our-reader (now (file .entry)) (now (vectors .entry)) (now (responses .entry)) .returned))) (now (job .entry)) ⌝ }
+    ensures vectors { λ r. ⌜ now (vectors .exit) ≡ if-of-length 4 (now (job .entry)) (our-reader (now (file .entry)) (now (vectors .entry)) (now (responses .entry)) .vectors) (now (vectors .entry)) ⌝ }
+    ensures responses { λ r. ⌜ now (responses .exit) ≡ if-of-length 4 (now (job .entry)) (our-reader (now (file .entry)) (now (vectors .entry)) (now (responses .entry)) .responses) (now (responses .entry)) ⌝ }
+    ensures job { λ r. ⌜ now (job .exit) ≡ lent-after (in-words returned-job-words (of-length 4 (now (job .entry)) (our-reader (now (file .entry)) (now (vectors .entry)) (now (responses .entry)) .returned))) (now (job .entry)) ⌝ }
 {
     exports::fontarelga_read_job(file, vectors, responses, job)
 }
@@ -94,8 +94,8 @@ pub fn write_job(
     size: &mut [u64],
 ) -> u64
     ensures returned { λ r. ⌜ r ≡ code (of-length 1 (now (size .entry)) (our-writer (network-of nets) class (now (vectors .entry)) (now (responses .entry)) (now (file .entry)) .returned)) ⌝ }
-    ensures file { λ r. ⌜ now (file .exit) ≡ with-length 1 (now (size .entry)) (our-writer (network-of nets) class (now (vectors .entry)) (now (responses .entry)) (now (file .entry)) .list) (now (file .entry)) ⌝ }
-    ensures size { λ r. ⌜ now (size .exit) ≡ lent-after (in-words wrote-words (of-length 1 (now (size .entry)) (our-writer (network-of nets) class (now (vectors .entry)) (now (responses .entry)) (now (file .entry)) .returned))) (now (size .entry)) ⌝ }
+    ensures file { λ r. ⌜ now (file .exit) ≡ if-of-length 1 (now (size .entry)) (our-writer (network-of nets) class (now (vectors .entry)) (now (responses .entry)) (now (file .entry)) .list) (now (file .entry)) ⌝ }
+    ensures size { λ r. ⌜ now (size .exit) ≡ lent-after (in-words returned-size-words (of-length 1 (now (size .entry)) (our-writer (network-of nets) class (now (vectors .entry)) (now (responses .entry)) (now (file .entry)) .returned))) (now (size .entry)) ⌝ }
 {
     exports::fontarelga_write_job(nets, class, vectors, responses, file, size)
 }

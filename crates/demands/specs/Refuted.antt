@@ -103,10 +103,10 @@ clears-when-refused net state lent =
 -- ---- sessions
 
 -- the state is guessed from the first answers, whatever the second ones are; what is answered to those is given
-abbrev pub guesses-so : (Session → List ℕ → Answer (List ℕ)) → (Network → List ℕ → List ℕ) → SessionProgram
-guesses-so answer-second guess session (begin net list) = our-sessions session (begin net list)
-guesses-so answer-second guess session (first answers list) = our-sessions session (first answers list)
-guesses-so answer-second guess session (second answers) = record {
+abbrev pub guesses-answering : (Session → List ℕ → Answer (List ℕ)) → (Network → List ℕ → List ℕ) → SessionProgram
+guesses-answering answer-second guess session (begin net list) = our-sessions session (begin net list)
+guesses-answering answer-second guess session (first answers list) = our-sessions session (first answers list)
+guesses-answering answer-second guess session (second answers) = record {
   answer = answer-second session answers;
   list = [];
   session = stepped (answer-second session answers)
@@ -115,11 +115,11 @@ guesses-so answer-second guess session (second answers) = record {
 
 -- our answer: it looks at the second answers to refuse
 abbrev pub guesses : (Network → List ℕ → List ℕ) → SessionProgram
-guesses guess = guesses-so (λ session answers. our-answer session (second answers)) guess
+guesses guess = guesses-answering (λ session answers. our-answer session (second answers)) guess
 
 -- the second answers are not looked at: accepted, whatever they are and however many, where the record waits for them
 abbrev pub ignores-second-answers : (Network → List ℕ → List ℕ) → SessionProgram
-ignores-second-answers guess = guesses-so (λ session answers. cond (awaits-second session) (full []) (refused 4)) guess
+ignores-second-answers guess = guesses-answering (λ session answers. cond (awaits-second session) (full []) (refused 4)) guess
 
 -- a finished record holds a count of the program's own
 abbrev pub recounted : ℕ → Session → Session

@@ -1,4 +1,5 @@
--- The call *findings* answers as its rows and its result say, and nothing is left open. A table of 48 records, and a table as a loop fills it.
+-- The call *findings* answers as its rows and its result say, and nothing is left open. A table of 48 records, and a
+-- table as a loop fills it.
 use mathlib.Core.Path.{_≡_, refl, sym, ap, _∙_, subst}
 use mathlib.Core.Bool.{Bool, true, false, cond}
 use mathlib.Core.List.{List, [], _∷_, _++_, map}
@@ -10,7 +11,7 @@ use lib.Seq.{ext-getD, length-take-le, getD-take}
 use Rattle.words.specs.Answers.{Answer, refused, full, ByTable, NoneHolds, by-tests, Decided, lent-after, count-of}
 use Rattle.words.specs.Bits.{at}
 use Rattle.words.specs.Turning.{tabulate}
-use Rattle.words.proofs.Answers.{refused-not-full, tests-by-table, table-determined, table-skip, let-through, none-passed, full-answer, shared-pass, front-written, counted-refused, counted-full}
+use Rattle.words.proofs.Answers.{refused-not-full, tests-by-table, table-determined, table-full, table-none-holds, table-skip, let-through, none-passed, full-answer, shared-pass, front-written, counted-refused, counted-full}
 use Rattle.words.proofs.Tests.{neither, test-fails}
 use Rattle.words.proofs.Making.{map-at, map-fill, map-filled}
 use Rattle.words.proofs.Columns.{length-tabulate, tabulate-at}
@@ -80,6 +81,14 @@ module _ (net : Network) (state : List ℕ) (room : ℕ) where
         fits = omega (arith, twelve, size);
         answer = result .1 ∙ ap full (tables-equal net state (result .0) (findings net state) (result .2) (findings-is net state));
       }
+
+  -- and writes no more records than there is room for
+  pub records-fit : (records : List Finding) → findings-answer net state room ≡ full records → length records ≤ room
+  records-fit records e =
+      let allowed = subst (ByTable (FindingsRows net state room) (Findings net state)) e (findings-by-table net state room) in
+      let ok = none-holds-accepted (table-none-holds (Findings net state) (FindingsRows net state room) records allowed) in
+      let size = table-full (Findings net state) (FindingsRows net state room) records allowed .one-a-net in
+      omega (arith, size, ok .fits)
 
   accepted-0 : table-meaning net 0 ≡ count-of (findings-answer net state room) → Accepted net state room
   unfolding table-meaning findings-answer
