@@ -54,7 +54,8 @@ fn begin_step(session: Session, net: Network, list: &mut [u64]) -> Stepped
     }
 }
 
-// The call *first answers* by value: the vectors of step two into the front of `list`, if a net is unclear. Rows 4, 9, 10 and 12.
+// The call *first answers* by value: the vectors of step two into the front of `list`, if a net is unclear. Rows 4, 9,
+// 10 and 12.
 fn first_step(session: Session, answers: &[u64], list: &mut [u64]) -> Stepped
     ensures { λ r. ⌜ (r .session ≡ first-answered session (now (answers .entry)) (length (now (list .entry))) .session) × (r .code ≡ first-answered session (now (answers .entry)) (length (now (list .entry))) .code) × (now (list .exit) ≡ lent-after (first-answer session (now (answers .entry)) (length (now (list .entry)))) (now (list .entry))) ⌝ }
 {

@@ -1,4 +1,5 @@
--- The state's borrow and the table's are handed on to `findings`, whole, and its result and the last table that it says are those of the call.
+-- The state's borrow and the table's are handed on to `findings`, whole; its result, and the last table that it says, are
+-- those of the call.
 -- All that the proof knows of `findings` is that it meets its contract.
 use mathlib.Core.Path.{_≡_, refl, ap}
 use Prim.Native.Nat.{ℕ, _<_, _^_}

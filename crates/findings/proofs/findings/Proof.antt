@@ -1,4 +1,5 @@
--- Where `table_refusal` says a number other than 0 it is returned; else the loop's turn calls `finding_of` with a copy of the state's borrow, opens the table's borrow, stores the record at the place, and closes it.
+-- Where `table_refusal` says a number other than 0 it is returned; else the loop's turn calls `finding_of` with a
+-- copy of the state's borrow, opens the table's borrow, stores the record at the place, and closes it.
 --     At i         the whole context where the loop's test is reached: the table's borrow is closed, at the table with i places filled
 --     more, ends   a turn that fills one place, and the turn that leaves the loop, with the rest of the body
 -- All that the proof knows of `table_refusal` and `finding_of` is that each meets its contract.
