@@ -1,4 +1,5 @@
-// The same for the calls of the C interface.
+// The same for the calls of the C interface. Those on a session cite what the claim on them is proved of, `exported` and
+// `drive-count`; the others cite the program, in words.
 ghost use mathlib.Core.Path.{_≡_};
 ghost use mathlib.Core.List.{_++_};
 ghost use Rattle.words.specs.Answers.{«lent-after»};
@@ -20,7 +21,7 @@ pub fn check(nets: u64, class: u64, vectors: &[u64], verdict: &mut [u64]) -> u64
 // *response from a state*
 pub fn respond(nets: u64, class: u64, vectors: &[u64], state: &[u64], response: &mut [u64]) -> u64
     ensures returned { λ r. ⌜ r ≡ code (our-response (network-of nets) class (now (vectors .entry)) (now (state .entry)) (now (response .entry)) .returned) ⌝ }
-    ensures list { λ r. ⌜ now (response .exit) ≡ our-response (network-of nets) class (now (vectors .entry)) (now (state .entry)) (now (response .entry)) .list ⌝ }
+    ensures response { λ r. ⌜ now (response .exit) ≡ our-response (network-of nets) class (now (vectors .entry)) (now (state .entry)) (now (response .entry)) .list ⌝ }
 {
     exports::fontarelga_respond(nets, class, vectors, state, response)
 }
@@ -28,7 +29,7 @@ pub fn respond(nets: u64, class: u64, vectors: &[u64], state: &[u64], response: 
 // *diagnosis*
 pub fn diagnose(nets: u64, class: u64, vectors: &[u64], responses: &[u64], state: &mut [u64]) -> u64
     ensures returned { λ r. ⌜ r ≡ code (our-diagnosis (network-of nets) class (now (vectors .entry)) (now (responses .entry)) (now (state .entry)) .returned) ⌝ }
-    ensures list { λ r. ⌜ now (state .exit) ≡ our-diagnosis (network-of nets) class (now (vectors .entry)) (now (responses .entry)) (now (state .entry)) .list ⌝ }
+    ensures state { λ r. ⌜ now (state .exit) ≡ our-diagnosis (network-of nets) class (now (vectors .entry)) (now (responses .entry)) (now (state .entry)) .list ⌝ }
 {
     exports::fontarelga_diagnose(nets, class, vectors, responses, state)
 }

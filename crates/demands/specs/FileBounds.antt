@@ -155,8 +155,8 @@ pub record ReaderBounds : Type 0 where
   pub room-1 : read-answer one-response 1 1 ≡ holds 4 4 (0 ∷ []) (0 ∷ [])
   pub set-room-0 : read-answer one-vector 0 0 ≡ refused 12
   pub set-room-1 : read-answer one-vector 1 0 ≡ holds 4 4 (0 ∷ []) []
-  pub longest : read-answer longest-file 64 64 ≡ holds 4 4 (replicate 64 0) (replicate 64 0)
   pub longest-short : read-answer longest-file 64 63 ≡ refused 12
+  pub longest : read-answer longest-file 64 64 ≡ holds 4 4 (replicate 64 0) (replicate 64 0)
   -- two rows at once: the upper one
   pub rows-1-2 : read (replicate 2049 0) ≡ refused 1
   pub rows-2-3 : read (two-bodies 3 7 ++ 0 ∷ []) ≡ refused 2

@@ -10,7 +10,7 @@ use Rattle.network.specs.declared.Network.{Network}
 use Rattle.checker.specs.declared.Verdict.the-variants.{Pass, Pair}
 use Rattle.diagnosis.specs.ReadBack.{read-back}
 use Rattle.diagnosis.specs.Diagnosis.{diagnosis-answer}
-use Rattle.findings.specs.FindingsTable.{findings-answer}
+use Rattle.findings.specs.FindingsTable.{findings-answer, blank}
 use Rattle.session.specs.declared.Session.{Session}
 use Rattle.session.specs.Record.{awaiting-first, finished, held-answers, awaits-second}
 use Rattle.session.specs.Calls.{stepped, vectors-driven}
@@ -98,7 +98,7 @@ one-record-short net state lent =
 abbrev pub clears-when-refused : FindingsProgram
 clears-when-refused net state lent =
     let answer = findings-answer net state (length lent) in
-    record { returned = count-of answer; list = clears-list (record { kind = 0; reach = 0; partners = 0 }) answer lent }
+    record { returned = count-of answer; list = clears-list blank answer lent }
 
 -- ---- sessions
 

@@ -22,7 +22,7 @@ use Rattle.network.proofs.States.{test→state, decides-not-a-state}
 use Rattle.network.proofs.Rows.{decides-row-5, decides-row-12, nets-admitted}
 use Rattle.findings.specs.declared.Finding.{Finding}
 use Rattle.findings.specs.Findings.{finding}
-use Rattle.findings.specs.FindingsTable.{FindingsRows, Findings, findings-tests, findings, findings-answer, table-meaning}
+use Rattle.findings.specs.FindingsTable.{FindingsRows, Findings, findings-tests, findings, findings-answer, table-meaning, blank}
 
 -- ---- the answer
 
@@ -42,7 +42,7 @@ module _ (net : Network) (state : List ℕ) where
 
   tables-equal : (s t : List Finding) → Findings net state s → Findings net state t → s ≡ t
   tables-equal s t p q =
-      ext-getD (record { kind = 0; reach = 0; partners = 0 }) s t (p .one-a-net ∙ sym (q .one-a-net))
+      ext-getD blank s t (p .one-a-net ∙ sym (q .one-a-net))
       (λ i l. let m : i < length state = rw (p .one-a-net) at l in p .found i m _ ∙ sym (q .found i m _))
 
 module _ (net : Network) (state : List ℕ) (room : ℕ) where

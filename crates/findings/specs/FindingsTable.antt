@@ -36,6 +36,9 @@ unfoldable pub table-meaning : Network → ℕ → Answer ℕ
 table-meaning net zero = full (net .nets)
 table-meaning net (suc number) = refused (suc number)
 
--- a table of 48 records with nothing in it
+-- a record with nothing in it, and a table of 48
+abbrev pub blank : Finding
+blank = record { kind = 0; reach = 0; partners = 0 }
+
 abbrev pub blank-table : List Finding
-blank-table = replicate 48 (record { kind = 0; reach = 0; partners = 0 })
+blank-table = replicate 48 blank

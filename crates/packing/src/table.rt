@@ -1,4 +1,4 @@
-// Findings as words, 3 a record. A helper between crates: it asks for room.
+// Findings as words, 3 a record. A helper between crates: it asks for at most 48 records, and for room.
 ghost use mathlib.Core.Path.{_≡_};
 ghost use Prim.Native.Nat.{_*_, _≤_};
 ghost use lib.ListN.{length, take};

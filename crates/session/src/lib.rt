@@ -36,7 +36,7 @@ fn refused(number: u64, session: Session) -> Stepped
     }
 }
 
-// The call *begin* by value: the vectors of step one into the front of `list`. Rows 5 and 12.
+// The step of *begin*, by value: the vectors of step one into the front of `list`. Rows 5 and 12.
 fn begin_step(session: Session, net: Network, list: &mut [u64]) -> Stepped
     ensures { λ r. ⌜ (r .session ≡ begun session net (length (now (list .entry))) .session) × (r .code ≡ begun session net (length (now (list .entry))) .code) × (now (list .exit) ≡ lent-after (begin-answer net (length (now (list .entry)))) (now (list .entry))) ⌝ }
 {
@@ -54,8 +54,8 @@ fn begin_step(session: Session, net: Network, list: &mut [u64]) -> Stepped
     }
 }
 
-// The call *first answers* by value: the vectors of step two into the front of `list`, if a net is unclear. Rows 4, 9,
-// 10 and 12.
+// The step of *first answers*, by value: the vectors of step two into the front of `list`, if a net is unclear. Rows 4,
+// 9, 10 and 12.
 fn first_step(session: Session, answers: &[u64], list: &mut [u64]) -> Stepped
     ensures { λ r. ⌜ (r .session ≡ first-answered session (now (answers .entry)) (length (now (list .entry))) .session) × (r .code ≡ first-answered session (now (answers .entry)) (length (now (list .entry))) .code) × (now (list .exit) ≡ lent-after (first-answer session (now (answers .entry)) (length (now (list .entry)))) (now (list .entry))) ⌝ }
 {
@@ -83,7 +83,7 @@ fn first_step(session: Session, answers: &[u64], list: &mut [u64]) -> Stepped
     }
 }
 
-// The call *second answers* by value: the only state that fits both steps. Rows 4, 9, 10 and 14.
+// The step of *second answers*, by value: the only state that fits both steps. Rows 4, 9, 10 and 14.
 fn second_step(session: Session, answers: &[u64]) -> Stepped
     ensures { λ r. ⌜ (r .session ≡ second-answered session (now (answers .entry)) .session) × (r .code ≡ second-answered session (now (answers .entry)) .code) ⌝ }
 {

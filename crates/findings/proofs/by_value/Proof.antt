@@ -54,7 +54,7 @@ use Rattle.network.proofs.Network as N
 use Rattle.network.proofs.Network.Laws as N′
 use Rattle.findings.specs.declared.Finding.{Finding}
 use Rattle.findings.specs.declared.Tabled.{Tabled}
-use Rattle.findings.specs.FindingsTable.{findings-answer, table-meaning, blank-table}
+use Rattle.findings.specs.FindingsTable.{findings-answer, table-meaning, blank, blank-table}
 use Rattle.findings.proofs.Finding as T
 use Rattle.findings.proofs.Finding.Laws as T′
 use Rattle.findings.proofs.Tabled as Tab
@@ -89,7 +89,7 @@ stayed = (stay-dropped (plain (λ _. N.the-row)) yes, (stay-dropped (shrSliceOf 
 
 -- the record that the array is made of
 abbrev z : Finding
-z = record { kind = 0; reach = 0; partners = 0 }
+z = blank
 
 abbrev mach : Finding → Val
 mach h = LL.val T.the-type T′.the-laws h

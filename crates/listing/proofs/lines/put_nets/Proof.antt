@@ -5,7 +5,7 @@ use lib.ListN.{length}
 use borrow.Author.Needs.{needs}
 use Rattle.words.specs.Writing.{written}
 use Rattle.findings.specs.declared.Finding.{Finding}
-use Rattle.findings.specs.FindingsTable.{blank-table}
+use Rattle.findings.specs.FindingsTable.{blank, blank-table}
 use Rattle.findings.proofs.FindingsLaws.{Accepted, none-holds-accepted, record-written}
 use Rattle.listing.specs.Report.{net-line}
 use Rattle.listing.proofs.NetsPut.{NetsPut, nets-none, nets-one, nets-all}
@@ -59,7 +59,7 @@ loop-again c =
     let a = s .args in
     let l = g .loop in
     let found = record-written (a .net) (a .state .now) blank-table (v .by-value .result .table) (accepted s) (v .by-value .ensures .1) (l .i) (h .if1 .taken)
-    (record { kind = 0; reach = 0; partners = 0 }) in
+    blank in
     nets-one (a .text .now) (a .at) (a .net) (a .state .now) (l .text) (l .end) (l .i) (l .inv) (s .pre .1) (n .last .0) (n .result) (h .if1 .taken)
     (n .ensures .0 ∙ ap (λ (x : Finding). l .end + length (net-line (l .i) x)) found)
     (n .ensures .1 ∙ ap (λ (x : Finding). written (l .text) (l .end) (net-line (l .i) x)) found)

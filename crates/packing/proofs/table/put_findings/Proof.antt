@@ -6,6 +6,7 @@ use lib.ListN.{drop, length, take}
 use lib.Seq.{getD-take, length-take-le}
 use Rattle.words.specs.Writing.{written}
 use Rattle.words.proofs.Writing.{written-front}
+use Rattle.findings.specs.FindingsTable.{blank}
 use Rattle.packing.specs.Packed.{finding-words}
 use Rattle.packing.proofs.Tabling.{findings-turn, findings-end}
 use Rattle.packing.proofs.table.put_findings.Statement.{statement}
@@ -58,7 +59,7 @@ loop-again c =
     let size = first-records s in (
       search needs,
       search needs,
-      findings-turn (take (a .count) (a .t1)) (l .i) (l .table) _ (record { kind = 0; reach = 0; partners = 0 }) _ (sym (getD-take (a .count) (a .t1) (l .i) _ (omega arith))) (p .put-at .ensures) (omega arith) (omega arith) ∙ l .inv .2,
+      findings-turn (take (a .count) (a .t1)) (l .i) (l .table) _ blank _ (sym (getD-take (a .count) (a .t1) (l .i) _ (omega arith))) (p .put-at .ensures) (omega arith) (omega arith) ∙ l .inv .2,
     )
 
 same-length : tie.Need-same-length Inv-loop μ-loop
