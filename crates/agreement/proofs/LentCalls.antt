@@ -20,7 +20,7 @@ use Rattle.session.proofs.first_answers as First
 use Rattle.session.proofs.second_answers as Second
 use Rattle.exports.proofs.CallLaws.{stepped-code}
 use Rattle.demands.specs.SessionCalls.{begin, first, second}
-use Rattle.agreement.specs.LentCalls.{AdvancesSo, WritesSo}
+use Rattle.agreement.specs.LentCalls.{AdvancesAsProgram, WritesAsProgram}
 
 -- what a call with two more parameters takes, and second answers
 abbrev Taken : Type 0 → Type 0
@@ -38,14 +38,14 @@ module _ {M : Type 1} (𝓤 : URA M) (H : Heap 𝓤) (A : Atoms 𝓤) (at-mem : 
       → let taken : Taken Network = (session, (net, (list, tt))) in
       let contract = Begin.clauses 𝓤 H A at-mem run κs taken in
       Says (contract .requires tt) (contract .ensures tt number (atExit Begin.ended κs taken (after, (tt, (filled, tt)))))
-      (let call = begin net (list .now) in AdvancesSo (session .now) call number after × WritesSo (session .now) call filled)
+      (let call = begin net (list .now) in AdvancesAsProgram (session .now) call number after × WritesAsProgram (session .now) call filled)
   begin-does κs net list filled = (id⊢ 𝓤 _, fact-mono 𝓤 _ _ (λ said. ((said .1 ∙ stepped-code _ _ _, said .0), said .2)))
 
   pub first-answers-does : (κs : Lfts 3) (answers list : RefT (List ℕ)) (filled : List ℕ)
       → let taken : Taken (RefT (List ℕ)) = (session, (answers, (list, tt))) in
       let contract = First.clauses 𝓤 H A at-mem run κs taken in
       Says (contract .requires tt) (contract .ensures tt number (atExit First.ended κs taken (after, (tt, (filled, tt)))))
-      (let call = first (answers .now) (list .now) in AdvancesSo (session .now) call number after × WritesSo (session .now) call filled)
+      (let call = first (answers .now) (list .now) in AdvancesAsProgram (session .now) call number after × WritesAsProgram (session .now) call filled)
   first-answers-does κs answers list filled = (id⊢ 𝓤 _, fact-mono 𝓤 _ _ (λ said. ((said .1 ∙ stepped-code _ _ _, said .0), said .2)))
 
   -- no list is lent
@@ -53,5 +53,5 @@ module _ {M : Type 1} (𝓤 : URA M) (H : Heap 𝓤) (A : Atoms 𝓤) (at-mem : 
       → let taken : SecondTaken = (session, (answers, tt)) in
       let contract = Second.clauses 𝓤 H A at-mem run κs taken in
       Says (contract .requires tt) (contract .ensures tt number (atExit Second.ended κs taken (after, (tt, tt))))
-      (AdvancesSo (session .now) (second (answers .now)) number after)
+      (AdvancesAsProgram (session .now) (second (answers .now)) number after)
   second-answers-does κs answers = (id⊢ 𝓤 _, fact-mono 𝓤 _ _ (λ said. (said .1 ∙ stepped-code _ _ _, said .0)))

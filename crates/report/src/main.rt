@@ -4,9 +4,10 @@ ghost use lib.ListN.{length};
 ghost use Rattle.listing.specs.Report.{«deciding-bytes»};
 ghost use Rattle.report.specs.Input.{Within};
 
-// How many bytes were read, or that a read failed.
+// How many bytes were read: to the end of standard input, or to the end of the buffer; or that a read failed.
 enum Input {
-    Bytes(usize),
+    Ended(usize),
+    Full(usize),
     Failed,
 }
 
@@ -24,25 +25,32 @@ fn read_input(buffer: &mut [u8]) -> Input
         }
         let more = io::count(got, &buffer[count..]);
         if more == 0 {
-            return Input::Bytes(count);
+            return Input::Ended(count);
         }
         count += more;
     }
-    Input::Bytes(count)
+    Input::Full(count)
+}
+
+// Writes the report on a file.
+fn write_report(file: &[u8]) {
+    let text = listing::report(file);
+    let count = text.count;
+    let bytes = text.bytes;
+    if !io::write_all(1, &bytes[..count]) {
+        io::write_all(2, b"report: standard output cannot be written\n");
+    }
 }
 
 // A job file has at most 2,048 bytes: one more is enough to tell that a file has too many.
 fn main() {
     let mut file = [0u8; 2049];
     let input = read_input(&mut file);
-    let Input::Bytes(size) = input else {
-        io::write_all(2, b"report: standard input cannot be read\n");
-        return;
-    };
-    let text = listing::report(&file[..size]);
-    let count = text.count;
-    let bytes = text.bytes;
-    if !io::write_all(1, &bytes[..count]) {
-        io::write_all(2, b"report: standard output cannot be written\n");
+    match input {
+        Input::Ended(size) => write_report(&file[..size]),
+        Input::Full(size) => write_report(&file[..size]),
+        Input::Failed => {
+            io::write_all(2, b"report: standard input cannot be read\n");
+        }
     }
 }
