@@ -2,9 +2,7 @@
 use native.Mathlib.Omega.{arith}
 use Prim.Native.Nat.{ℕ, _/_, _≤_}
 use mathlib.Core.Path.{_≡_, refl, sym, ap, _∙_}
-use mathlib.Core.Bool.{Bool, true, false, cond}
 use mathlib.Core.List.{List, [], _∷_, _++_}
-use lib.Dec.{eqb}
 use lib.ListN.{length}
 use Rattle.words.specs.Answers.{Answer, refused, full, lent-after, count-of}
 use Rattle.network.specs.declared.Network.{Network}
@@ -13,10 +11,10 @@ use Rattle.findings.specs.FindingsTable.{findings-answer}
 use Rattle.findings.proofs.FindingsLaws.{records-fit}
 use Rattle.reader.specs.Reader.{JobContent, counted}
 use Rattle.packing.specs.Packed.{finding-words, job-words, size-words}
-use Rattle.exports.specs.Exported.{code, in-words, wrong-length, of-length}
-use Rattle.exports.proofs.CallLaws.{code-counted, code-read}
+use Rattle.exports.specs.Exported.{code, in-words}
+use Rattle.exports.proofs.CallLaws.{code-counted}
 use Rattle.demands.specs.Programs.{our-findings}
-use Rattle.agreement.specs.InWords.{records-of, rest-of, returned-job-words, returned-size-words, if-of-length}
+use Rattle.agreement.specs.InWords.{records-of, rest-of, returned-job-words, returned-size-words}
 
 -- ---- tables
 
@@ -62,53 +60,16 @@ found-in-words net state words table number e f =
       f ∙ ap (λ (b : Answer (List Finding)). lent-after (in-words finding-words b) words) same ∙ table-words a words (records-fit net state (length (records-of words))),
     )
 
--- ---- lists of a fixed length
+-- ---- what is returned
 
--- what is told alike of two answers, and of a refusal, is told alike of both with a list that must have a length
-of-length-alike : {A B C : Type 0} (size : ℕ) (list : List ℕ) (a : Answer A) (b : Answer B) (told : Answer A → C) (other : Answer B → C) → told a ≡ other b
-    → told (refused wrong-length) ≡ other (refused wrong-length) → told (of-length size list a) ≡ other (of-length size list b)
-unfolding of-length
-of-length-alike {A} {B} {C} size list a b told other same none = go (eqb (length list) size)
-  where
-    go : (right : Bool) → told (cond right a (refused wrong-length)) ≡ other (cond right b (refused wrong-length))
-    go true = same
-    go false = none
+pub read-in-words : (a : Answer JobContent)
+    → (code a ≡ code (counted a)) × (in-words job-words a ≡ in-words returned-job-words (counted a))
+unfolding code in-words job-words
+read-in-words (refused number) = (refl, refl)
+read-in-words (full job) = (refl, refl)
 
--- a list that is lent besides is as it was if the first has another length
-pub lent-of-length : {A : Type 0} (size : ℕ) (list : List ℕ) (a : Answer A) (written : Answer A → Answer (List ℕ)) (lent : List ℕ) → written (refused wrong-length) ≡ refused wrong-length
-    → lent-after (written (of-length size list a)) lent ≡ if-of-length size list (lent-after (written a) lent) lent
-unfolding of-length lent-after
-lent-of-length {A} size list a written lent none = go (eqb (length list) size)
-  where
-    go : (right : Bool) → lent-after (written (cond right a (refused wrong-length))) lent ≡ cond right (lent-after (written a) lent) lent
-    go true = refl
-    go false = ap (λ (b : Answer (List ℕ)). lent-after b lent) none
-
--- ---- what is returned, with a list that must have a length
-
-read-alike : (a : Answer JobContent) → in-words job-words a ≡ in-words returned-job-words (counted a)
-unfolding in-words job-words
-read-alike (refused number) = refl
-read-alike (full job) = refl
-
-wrote-alike : (a : Answer (List ℕ)) → in-words size-words a ≡ in-words returned-size-words (count-of a)
-unfolding in-words count-of
-wrote-alike (refused number) = refl
-wrote-alike (full bytes) = refl
-
-module _ (size : ℕ) (list : List ℕ) where
-  pub read-in-words : (a : Answer JobContent)
-      → (code (of-length size list a) ≡ code (of-length size list (counted a))) × (in-words job-words (of-length size list a) ≡ in-words returned-job-words (of-length size list (counted a)))
-  unfolding in-words code
-  read-in-words a = (
-    of-length-alike size list a (counted a) code code (sym (code-read a (counted a) refl)) refl,
-    of-length-alike size list a (counted a) (in-words job-words) (in-words returned-job-words) (read-alike a) refl,
-  )
-
-  pub wrote-in-words : (a : Answer (List ℕ))
-      → (code (of-length size list a) ≡ code (of-length size list (count-of a))) × (in-words size-words (of-length size list a) ≡ in-words returned-size-words (of-length size list (count-of a)))
-  unfolding in-words code
-  wrote-in-words a = (
-    of-length-alike size list a (count-of a) code code (sym (code-counted a (count-of a) refl)) refl,
-    of-length-alike size list a (count-of a) (in-words size-words) (in-words returned-size-words) (wrote-alike a) refl,
-  )
+pub wrote-in-words : (a : Answer (List ℕ))
+    → (code a ≡ code (count-of a)) × (in-words size-words a ≡ in-words returned-size-words (count-of a))
+unfolding code in-words count-of
+wrote-in-words (refused number) = (refl, refl)
+wrote-in-words (full bytes) = (refl, refl)

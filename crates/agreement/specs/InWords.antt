@@ -1,9 +1,6 @@
 -- A table of findings from words, and what the reader and the writer return, as words.
 use Prim.Native.Nat.{ℕ}
-use mathlib.Core.Bool.{cond}
 use mathlib.Core.List.{List, [], _∷_}
-use lib.Dec.{eqb}
-use lib.ListN.{length}
 use Rattle.findings.specs.declared.Finding.{Finding}
 use Rattle.reader.specs.declared.Job.{Job}
 
@@ -28,7 +25,3 @@ returned-job-words job = job .network .nets ∷ job .class ∷ job .vectors ∷ 
 -- what the writer returns: how many bytes it wrote
 abbrev pub returned-size-words : ℕ → List ℕ
 returned-size-words count = count ∷ []
-
--- one of two lists: by whether a lent list has its fixed length
-abbrev pub if-of-length : ℕ → (list filled lent : List ℕ) → List ℕ
-if-of-length size list filled lent = cond (eqb (length list) size) filled lent

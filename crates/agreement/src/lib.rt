@@ -63,7 +63,8 @@ pub fn diagnose(
 
 // *findings*
 pub fn find(net: Network, state: &[u64], table: &mut [Finding]) -> u64
-    ensures { λ r. ⌜ (table-meaning net r ≡ our-findings net (now (state .entry)) (now (table .entry)) .returned) × (now (table .exit) ≡ our-findings net (now (state .entry)) (now (table .entry)) .list) ⌝ }
+    ensures returned { λ r. ⌜ table-meaning net r ≡ our-findings net (now (state .entry)) (now (table .entry)) .returned ⌝ }
+    ensures table { λ r. ⌜ now (table .exit) ≡ our-findings net (now (state .entry)) (now (table .entry)) .list ⌝ }
 {
     findings::findings(net, state, table)
 }

@@ -2,18 +2,17 @@
 // `drive-count`; the others cite the program, in words.
 ghost use mathlib.Core.Path.{_≡_};
 ghost use mathlib.Core.List.{_++_};
-ghost use Rattle.words.specs.Answers.{«lent-after»};
 ghost use Rattle.packing.specs.Packed.{«network-of», «verdict-words», «finding-words»};
-ghost use Rattle.exports.specs.Exported.{code, «in-words», «of-length», «drive-count»};
+ghost use Rattle.exports.specs.Exported.{code, «in-words», «fixed-after», «drive-count»};
 ghost use Rattle.demands.specs.SessionCalls.{begin, first, second};
 ghost use Rattle.demands.specs.Programs.{«our-check», «our-response», «our-diagnosis», «our-findings», «our-reader», «our-writer»};
 ghost use Rattle.demands.specs.ThroughC.{exported};
-ghost use Rattle.agreement.specs.InWords.{«records-of», «rest-of», «returned-job-words», «returned-size-words», «if-of-length»};
+ghost use Rattle.agreement.specs.InWords.{«records-of», «rest-of», «returned-job-words», «returned-size-words»};
 
 // *check*
-pub fn check(nets: u64, class: u64, vectors: &[u64], verdict: &mut [u64]) -> u64
-    ensures returned { λ r. ⌜ r ≡ code (of-length 3 (now (verdict .entry)) (our-check (network-of nets) class (now (vectors .entry)))) ⌝ }
-    ensures verdict { λ r. ⌜ now (verdict .exit) ≡ lent-after (in-words verdict-words (of-length 3 (now (verdict .entry)) (our-check (network-of nets) class (now (vectors .entry))))) (now (verdict .entry)) ⌝ }
+pub fn check(nets: u64, class: u64, vectors: &[u64], verdict: &mut [u64; 3]) -> u64
+    ensures returned { λ r. ⌜ r ≡ code (our-check (network-of nets) class (now (vectors .entry))) ⌝ }
+    ensures verdict { λ r. ⌜ now (verdict .exit) ≡ fixed-after (in-words verdict-words (our-check (network-of nets) class (now (vectors .entry)))) (now (verdict .entry)) ⌝ }
 {
     exports::fontarelga_check(nets, class, vectors, verdict)
 }
@@ -43,7 +42,7 @@ pub fn find(nets: u64, state: &[u64], table: &mut [u64]) -> u64
 }
 
 // *begin*
-pub fn begin(session: &mut [u64], nets: u64, list: &mut [u64]) -> u64
+pub fn begin(session: &mut [u64; 59], nets: u64, list: &mut [u64]) -> u64
     ensures returned { λ r. ⌜ r ≡ exported (now (session .entry)) (begin (network-of nets) (now (list .entry))) .returned ⌝ }
     ensures session { λ r. ⌜ now (session .exit) ≡ exported (now (session .entry)) (begin (network-of nets) (now (list .entry))) .session ⌝ }
     ensures list { λ r. ⌜ now (list .exit) ≡ exported (now (session .entry)) (begin (network-of nets) (now (list .entry))) .list ⌝ }
@@ -52,7 +51,7 @@ pub fn begin(session: &mut [u64], nets: u64, list: &mut [u64]) -> u64
 }
 
 // *first answers*
-pub fn first_answers(session: &mut [u64], answers: &[u64], list: &mut [u64]) -> u64
+pub fn first_answers(session: &mut [u64; 59], answers: &[u64], list: &mut [u64]) -> u64
     ensures returned { λ r. ⌜ r ≡ exported (now (session .entry)) (first (now (answers .entry)) (now (list .entry))) .returned ⌝ }
     ensures session { λ r. ⌜ now (session .exit) ≡ exported (now (session .entry)) (first (now (answers .entry)) (now (list .entry))) .session ⌝ }
     ensures list { λ r. ⌜ now (list .exit) ≡ exported (now (session .entry)) (first (now (answers .entry)) (now (list .entry))) .list ⌝ }
@@ -61,7 +60,7 @@ pub fn first_answers(session: &mut [u64], answers: &[u64], list: &mut [u64]) -> 
 }
 
 // *second answers*
-pub fn second_answers(session: &mut [u64], answers: &[u64]) -> u64
+pub fn second_answers(session: &mut [u64; 59], answers: &[u64]) -> u64
     ensures returned { λ r. ⌜ r ≡ exported (now (session .entry)) (second (now (answers .entry))) .returned ⌝ }
     ensures session { λ r. ⌜ now (session .exit) ≡ exported (now (session .entry)) (second (now (answers .entry))) .session ⌝ }
 {
@@ -69,18 +68,18 @@ pub fn second_answers(session: &mut [u64], answers: &[u64]) -> u64
 }
 
 // the vectors to drive next
-pub fn to_drive<'a>(session: &[u64], one: &'a [u64], two: &'a [u64]) -> u64
+pub fn to_drive<'a>(session: &[u64; 59], one: &'a [u64], two: &'a [u64]) -> u64
     ensures { λ r. ⌜ r ≡ drive-count (now (session .entry)) (now (one .entry)) (now (two .entry)) ⌝ }
 {
     exports::fontarelga_to_drive(session, one, two)
 }
 
 // *read a job file*
-pub fn read_job(file: &[u8], vectors: &mut [u64], responses: &mut [u64], job: &mut [u64]) -> u64
-    ensures returned { λ r. ⌜ r ≡ code (of-length 4 (now (job .entry)) (our-reader (now (file .entry)) (now (vectors .entry)) (now (responses .entry)) .returned)) ⌝ }
-    ensures vectors { λ r. ⌜ now (vectors .exit) ≡ if-of-length 4 (now (job .entry)) (our-reader (now (file .entry)) (now (vectors .entry)) (now (responses .entry)) .vectors) (now (vectors .entry)) ⌝ }
-    ensures responses { λ r. ⌜ now (responses .exit) ≡ if-of-length 4 (now (job .entry)) (our-reader (now (file .entry)) (now (vectors .entry)) (now (responses .entry)) .responses) (now (responses .entry)) ⌝ }
-    ensures job { λ r. ⌜ now (job .exit) ≡ lent-after (in-words returned-job-words (of-length 4 (now (job .entry)) (our-reader (now (file .entry)) (now (vectors .entry)) (now (responses .entry)) .returned))) (now (job .entry)) ⌝ }
+pub fn read_job(file: &[u8], vectors: &mut [u64], responses: &mut [u64], job: &mut [u64; 4]) -> u64
+    ensures returned { λ r. ⌜ r ≡ code (our-reader (now (file .entry)) (now (vectors .entry)) (now (responses .entry)) .returned) ⌝ }
+    ensures vectors { λ r. ⌜ now (vectors .exit) ≡ our-reader (now (file .entry)) (now (vectors .entry)) (now (responses .entry)) .vectors ⌝ }
+    ensures responses { λ r. ⌜ now (responses .exit) ≡ our-reader (now (file .entry)) (now (vectors .entry)) (now (responses .entry)) .responses ⌝ }
+    ensures job { λ r. ⌜ now (job .exit) ≡ fixed-after (in-words returned-job-words (our-reader (now (file .entry)) (now (vectors .entry)) (now (responses .entry)) .returned)) (now (job .entry)) ⌝ }
 {
     exports::fontarelga_read_job(file, vectors, responses, job)
 }
@@ -92,11 +91,11 @@ pub fn write_job(
     vectors: &[u64],
     responses: &[u64],
     file: &mut [u8],
-    size: &mut [u64],
+    size: &mut [u64; 1],
 ) -> u64
-    ensures returned { λ r. ⌜ r ≡ code (of-length 1 (now (size .entry)) (our-writer (network-of nets) class (now (vectors .entry)) (now (responses .entry)) (now (file .entry)) .returned)) ⌝ }
-    ensures file { λ r. ⌜ now (file .exit) ≡ if-of-length 1 (now (size .entry)) (our-writer (network-of nets) class (now (vectors .entry)) (now (responses .entry)) (now (file .entry)) .list) (now (file .entry)) ⌝ }
-    ensures size { λ r. ⌜ now (size .exit) ≡ lent-after (in-words returned-size-words (of-length 1 (now (size .entry)) (our-writer (network-of nets) class (now (vectors .entry)) (now (responses .entry)) (now (file .entry)) .returned))) (now (size .entry)) ⌝ }
+    ensures returned { λ r. ⌜ r ≡ code (our-writer (network-of nets) class (now (vectors .entry)) (now (responses .entry)) (now (file .entry)) .returned) ⌝ }
+    ensures file { λ r. ⌜ now (file .exit) ≡ our-writer (network-of nets) class (now (vectors .entry)) (now (responses .entry)) (now (file .entry)) .list ⌝ }
+    ensures size { λ r. ⌜ now (size .exit) ≡ fixed-after (in-words returned-size-words (our-writer (network-of nets) class (now (vectors .entry)) (now (responses .entry)) (now (file .entry)) .returned)) (now (size .entry)) ⌝ }
 {
     exports::fontarelga_write_job(nets, class, vectors, responses, file, size)
 }

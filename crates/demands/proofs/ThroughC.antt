@@ -1,8 +1,8 @@
 -- Through the C interface the session's calls are the calls on the record.
-use borrow.Author.Tests.{eq-eqb, ne-eqb, eqb-true, leb-true, not-false}
+use borrow.Author.Tests.{eqb-true, leb-true, not-false}
 use native.Mathlib.Omega.{arith}
 use Prim.Native.Nat.{ℕ, _^_, _≤_}
-use mathlib.Core.Path.{_≡_, refl, sym, ap, ap₂, _∙_, subst}
+use mathlib.Core.Path.{_≡_, refl, sym, ap, _∙_, subst}
 use mathlib.Core.Logic.{_≢_}
 use mathlib.Core.Bool.{Bool, true, false, cond}
 use mathlib.Core.List.{List, [], _∷_}
@@ -28,9 +28,8 @@ use Rattle.session.specs.Drive.{front, to-drive}
 use Rattle.session.proofs.Padding.{pad-size}
 use Rattle.session.proofs.Records.{awaits-first-step, awaits-first-is, awaits-second-step, awaits-second-nets}
 use Rattle.packing.specs.Packed.{session-size, session-words, session-of}
-use Rattle.packing.proofs.Words.{all-written, session-there, Sized, session-sized, words-size, session-back}
-use Rattle.exports.specs.Exported.{code, in-words, wrong-length, of-length, drive-count}
-use Rattle.exports.proofs.CallLaws.{other-length, right-length}
+use Rattle.packing.proofs.Words.{session-there, Sized, session-sized, words-size, session-back}
+use Rattle.exports.specs.Exported.{code, in-words, fixed-after}
 use Rattle.demands.specs.SessionCalls.{Call, begin, first, second, lent}
 use Rattle.demands.specs.Programs.{our-answer, our-new, our-sessions}
 use Rattle.demands.specs.ThroughC.{exported-answer, exported-session, exported, SameInWords, SessionsThroughC}
@@ -67,13 +66,14 @@ new-sized session (second answers) words e =
 -- ---- one call
 
 -- what the interface says of the words is what the call does on their record
-answer-is : (words : List ℕ) (call : Call) → exported-answer words call ≡ of-length session-size words (our-answer (session-of words) call)
-answer-is words (begin net list) = refl
-answer-is words (first answers list) = refl
-answer-is words (second answers) = refl
+answered : (words : List ℕ) (call : Call) → exported-answer words call ≡ our-answer (session-of words) call
+answered words (begin net list) = refl
+answered words (first answers list) = refl
+answered words (second answers) = refl
 
 session-is : (words : List ℕ) (call : Call)
-    → exported-session words call ≡ in-words (λ _. session-words (our-sessions (session-of words) call .session)) (of-length session-size words (our-answer (session-of words) call))
+    → exported-session words call
+    ≡ in-words (λ _. session-words (our-sessions (session-of words) call .session)) (our-answer (session-of words) call)
 session-is words (begin net list) = refl
 session-is words (first answers list) = refl
 session-is words (second answers) = refl
@@ -82,26 +82,20 @@ module _ (words : List ℕ) (size : length words ≡ session-size) where
   -- the words after a call on the record that they are, by its answer
   written-back : (a : Answer (List ℕ)) (new : Session) → ((list : List ℕ) → a ≡ full list → Sized new)
       → let after = stepped a new (session-of words) .session in
-      Sized after × (lent-after (in-words (λ _. session-words after) a) words ≡ session-words after)
-  unfolding stepped in-words lent-after
+      Sized after × (fixed-after (in-words (λ _. session-words after) a) words ≡ session-words after)
+  unfolding stepped in-words fixed-after
   written-back (refused number) new sized = (session-sized words size, sym (session-there words size))
-  written-back (full list) new sized = let s = sized list refl in (s, all-written (session-words new) words (words-size new s ∙ sym size))
+  written-back (full list) new sized = (sized list refl, refl)
 
   module _ (call : Call) where
-    answered : exported-answer words call ≡ our-answer (session-of words) call
-    answered = answer-is words call ∙ right-length session-size words (our-answer (session-of words) call) size
-
     abbrev after : Session
     after = our-sessions (session-of words) call .session
 
-    kept : Sized after × (lent-after (in-words (λ _. session-words after) (our-answer (session-of words) call)) words ≡ session-words after)
+    kept : Sized after × (fixed-after (in-words (λ _. session-words after) (our-answer (session-of words) call)) words ≡ session-words after)
     kept = written-back (our-answer (session-of words) call) (our-new (session-of words) call) (new-sized (session-of words) call)
 
     words-are : exported words call .session ≡ session-words after
-    words-are =
-        ap (λ (a : Answer (List ℕ)). lent-after a words) (session-is words call)
-        ∙ ap (λ (a : Answer (List ℕ)). lent-after (in-words (λ _. session-words after) a) words) (right-length session-size words (our-answer (session-of words) call) size)
-        ∙ kept .1
+    words-are = ap (λ (a : Answer (List ℕ)). fixed-after a words) (session-is words call) ∙ kept .1
 
     size-kept : length (exported words call .session) ≡ session-size
     size-kept = ap length words-are ∙ words-size after (kept .0)
@@ -163,34 +157,19 @@ step-is : (words : List ℕ) → session-of words .step ≡ at words 0
 unfolding session-of
 step-is words = refl
 
--- ---- a list of another length
-
-other : (words : List ℕ) → length words ≢ session-size → (call : Call) → exported words call ≡ record { returned = wrong-length; list = lent call; session = words }
-unfolding code in-words lent-after
-other words n call =
-    let wrong = other-length session-size words (our-answer (session-of words) call) n in
-    let new : List ℕ → List ℕ = λ _. session-words (our-sessions (session-of words) call .session) in
-    ap₂ (λ (a b : Answer (List ℕ)). record { returned = code a; list = lent-after a (lent call); session = lent-after b words })
-    (answer-is words call ∙ wrong) (session-is words call ∙ ap (in-words new) wrong)
-
 -- ---- lists of calls
 
-same : (words : List ℕ) → length words ≡ session-size → (calls : List Call) → SameInWords words (session-of words) calls
-unfolding drive-count
-same words size [] = record {
+pub sessions-through-c : SessionsThroughC
+sessions-through-c words size [] = record {
   size = size;
   session = refl;
-  returned = λ call. ap code (answered words size call);
-  accepted = λ call e. zero-accepted (session-of words) call (sym (ap code (answered words size call)) ∙ e);
-  list = λ call. ap (λ (a : Answer (List ℕ)). lent-after a (lent call)) (answered words size call);
-  drive-size = λ one two. rw (eq-eqb (length words) session-size size);
-  drive = λ one two. rw (eq-eqb (length words) session-size size, sym (step-is words)) (drive-part (session-of words) one two);
+  returned = λ call. ap code (answered words call);
+  accepted = λ call e. zero-accepted (session-of words) call (sym (ap code (answered words call)) ∙ e);
+  list = λ call. ap (λ (a : Answer (List ℕ)). lent-after a (lent call)) (answered words call);
+  drive-size = λ one two. refl;
+  drive = λ one two. rw (sym (step-is words)) (drive-part (session-of words) one two);
 }
-same words size (call ∷ calls) =
+sessions-through-c words size (call ∷ calls) =
     let next = exported words call .session in
-    let r = subst (λ (start : Session). SameInWords next start calls) (session-kept words size call) (same next (size-kept words size call) calls) in
+    let r = subst (λ (start : Session). SameInWords next start calls) (session-kept words size call) (sessions-through-c next (size-kept words size call) calls) in
     record { size = r .size; session = r .session; returned = r .returned; accepted = r .accepted; list = r .list; drive-size = r .drive-size; drive = r .drive }
-
-pub sessions-through-c : SessionsThroughC
-unfolding drive-count
-sessions-through-c = record { same = same; other-length = other; no-drive = λ words one two n. rw (ne-eqb (length words) session-size n) }

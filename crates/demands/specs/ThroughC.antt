@@ -1,7 +1,6 @@
 -- The session's calls through the C interface, one after the other: what they do to 59 words is what they do to the record that the words are.
 use Prim.Native.Nat.{ℕ}
 use mathlib.Core.Path.{_≡_}
-use mathlib.Core.Logic.{_≢_}
 use mathlib.Core.Bool.{cond}
 use mathlib.Core.List.{List, [], _∷_}
 use lib.Dec.{eqb}
@@ -9,8 +8,9 @@ use lib.ListN.{length, take}
 use Rattle.words.specs.Bits.{at}
 use Rattle.words.specs.Answers.{Answer, full, lent-after}
 use Rattle.session.specs.declared.Session.{Session}
-use Rattle.packing.specs.Packed.{session-size, session-of}
-use Rattle.exports.specs.Exported.{code, wrong-length, begin-exported, first-exported, second-exported, session-begun, session-first, session-second, drive-count}
+use Rattle.session.specs.Calls.{begin-answer, first-answer, second-answer}
+use Rattle.packing.specs.Packed.{network-of, session-size, session-of}
+use Rattle.exports.specs.Exported.{code, fixed-after, session-begun, session-first, session-second, drive-count}
 use Rattle.demands.specs.SessionCalls.{Call, begin, first, second, lent, record-after}
 use Rattle.demands.specs.Programs.{our-sessions, our-drive}
 
@@ -22,9 +22,9 @@ pub record DidInWords : Type 0 where
 
 -- by the contracts of the C interface: the answer, and the session's words if it is accepted
 abbrev pub exported-answer : List ℕ → Call → Answer (List ℕ)
-exported-answer words (begin net list) = begin-exported words (net .nets) (length list)
-exported-answer words (first answers list) = first-exported words answers (length list)
-exported-answer words (second answers) = second-exported words answers
+exported-answer words (begin net list) = begin-answer (network-of (net .nets)) (length list)
+exported-answer words (first answers list) = first-answer (session-of words) answers (length list)
+exported-answer words (second answers) = second-answer (session-of words) answers
 
 abbrev pub exported-session : List ℕ → Call → Answer (List ℕ)
 exported-session words (begin net list) = session-begun words (net .nets) (length list)
@@ -35,7 +35,7 @@ abbrev pub exported : List ℕ → Call → DidInWords
 exported words call = record {
   returned = code (exported-answer words call);
   list = lent-after (exported-answer words call) (lent call);
-  session = lent-after (exported-session words call) words;
+  session = fixed-after (exported-session words call) words;
 }
 
 -- the session's words after a list of calls, each with the words as the one before left them
@@ -56,9 +56,6 @@ pub record SameInWords (words : List ℕ) (start : Session) (calls : List Call) 
   pub drive : (one two : List ℕ)
       → take (drive-count (words-after words calls) one two) (cond (eqb (at (words-after words calls) 0) 1) one two) ≡ our-drive (record-after our-sessions start calls) one two
 
-pub record SessionsThroughC : Type 0 where
-  -- from any 59 words, over every list of calls
-  pub same : (words : List ℕ) → length words ≡ session-size → (calls : List Call) → SameInWords words (session-of words) calls
-  -- a list of any other length is refused with 99, nothing lent is changed, and there is nothing to drive
-  pub other-length : (words : List ℕ) → length words ≢ session-size → (call : Call) → exported words call ≡ record { returned = wrong-length; list = lent call; session = words }
-  pub no-drive : (words one two : List ℕ) → length words ≢ session-size → drive-count words one two ≡ 0
+-- from any 59 words, over every list of calls
+abbrev pub SessionsThroughC : Type 0
+SessionsThroughC = (words : List ℕ) → length words ≡ session-size → (calls : List Call) → SameInWords words (session-of words) calls

@@ -1,5 +1,4 @@
 -- What an exported call owes: the number returned, and the lists lent.
-use borrow.Author.Tests.{eq-eqb, ne-eqb}
 use Prim.Native.Nat.{ℕ}
 use mathlib.Core.Path.{_≡_, refl, sym, ap, _∙_}
 use mathlib.Core.List.{List, [], _∷_}
@@ -13,19 +12,8 @@ use Rattle.reader.specs.declared.Job.{Job}
 use Rattle.reader.specs.Reader.{JobContent, counted}
 use Rattle.reader.proofs.ReaderAnswers.{read-counted-full}
 use Rattle.packing.specs.Packed.{size-words, job-words, session-size, session-words, session-of}
-use Rattle.packing.proofs.Words.{all-written, session-there}
-use Rattle.exports.specs.Exported.{code, in-words, wrong-length, of-length}
-
--- ---- lists of a fixed length
-
-module _ {A : Type 0} (size : ℕ) (list : List ℕ) (a : Answer A) where
-  pub other-length : (length list ≡ size → ⊥) → of-length size list a ≡ refused wrong-length
-  unfolding of-length
-  other-length n = rw (ne-eqb (length list) size n)
-
-  pub right-length : length list ≡ size → of-length size list a ≡ a
-  unfolding of-length
-  right-length e = rw (eq-eqb (length list) size e)
+use Rattle.packing.proofs.Words.{session-there}
+use Rattle.exports.specs.Exported.{code, in-words, fixed-after}
 
 -- ---- a refusal, and a result
 
@@ -38,6 +26,10 @@ module _ {A : Type 0} (a : Answer A) (number : ℕ) (e : a ≡ refused number) w
   unfolding in-words lent-after
   words-refused words lent = rw e
 
+  pub fixed-refused : (words : A → List ℕ) (lent : List ℕ) → lent ≡ fixed-after (in-words words a) lent
+  unfolding in-words fixed-after
+  fixed-refused words lent = rw e
+
 module _ {A : Type 0} (a : Answer A) (x : A) (e : a ≡ full x) where
   pub code-full : 0 ≡ code a
   unfolding code
@@ -47,6 +39,10 @@ module _ {A : Type 0} (a : Answer A) (x : A) (e : a ≡ full x) where
   unfolding in-words
   words-full words lent list l = rw e l
 
+  pub fixed-full : (words : A → List ℕ) (lent : List ℕ) → words x ≡ fixed-after (in-words words a) lent
+  unfolding in-words fixed-after
+  fixed-full words lent = rw e
+
 -- ---- a call that returns how much it wrote
 
 pub code-counted : {A : Type 0} (a : Answer (List A)) (n : Answer ℕ) → n ≡ count-of a → code n ≡ code a
@@ -54,21 +50,25 @@ unfolding code count-of
 code-counted (refused number) n said = ap code said
 code-counted (full xs) n said = ap code said
 
-pub counted-size : (a : Answer (List ℕ)) (count : ℕ) → full count ≡ count-of a → in-words size-words a ≡ full (count ∷ [])
-unfolding in-words
-counted-size a count said = let r = counted-full a count (sym said) in ap (in-words size-words) (r .1) ∙ ap (λ (n : ℕ). full (n ∷ [])) (r .2)
+pub fixed-size : (a : Answer (List ℕ)) (count : ℕ) (lent : List ℕ) → full count ≡ count-of a
+    → count ∷ [] ≡ fixed-after (in-words size-words a) lent
+unfolding in-words fixed-after
+fixed-size a count lent said =
+    let r = counted-full a count (sym said) in
+    ap (λ (n : ℕ). n ∷ []) (sym (r .2)) ∙ ap (λ (b : Answer (List ℕ)). fixed-after (in-words size-words b) lent) (sym (r .1))
 
 pub code-read : (a : Answer JobContent) (n : Answer Job) → n ≡ counted a → code n ≡ code a
 unfolding code
 code-read (refused number) n said = ap code said
 code-read (full job) n said = ap code said
 
-pub read-words : (a : Answer JobContent) (job : Job) → full job ≡ counted a
-    → in-words job-words a ≡ full (job .network .nets ∷ job .class ∷ job .vectors ∷ job .responses ∷ [])
-unfolding in-words job-words
-read-words a job said =
+pub fixed-read : (a : Answer JobContent) (job : Job) (lent : List ℕ) → full job ≡ counted a
+    → job .network .nets ∷ job .class ∷ job .vectors ∷ job .responses ∷ [] ≡ fixed-after (in-words job-words a) lent
+unfolding in-words fixed-after job-words
+fixed-read a job lent said =
     let r = read-counted-full a job (sym said) in
-    ap (in-words job-words) (r .1) ∙ ap (λ (j : Job). full (j .network .nets ∷ j .class ∷ j .vectors ∷ j .responses ∷ [])) (r .2)
+    ap (λ (j : Job). j .network .nets ∷ j .class ∷ j .vectors ∷ j .responses ∷ []) (sym (r .2))
+    ∙ ap (λ (b : Answer JobContent). fixed-after (in-words job-words b) lent) (sym (r .1))
 
 -- ---- a call on a session
 
@@ -77,32 +77,28 @@ unfolding stepped code
 stepped-code (refused number) new old = refl
 stepped-code (full words) new old = refl
 
--- a refused call writes back the words that it was lent
+-- what the call leaves in the words: those of the record after it
 stepped-words : (a : Answer (List ℕ)) (new : Session) (words : List ℕ) → length words ≡ session-size
-    → lent-after (full (session-words (stepped a new (session-of words) .session))) words
-    ≡ lent-after (in-words (λ _. session-words (stepped a new (session-of words) .session)) a) words
-unfolding stepped in-words lent-after
-stepped-words (refused number) new words e = rw (session-there words e) (all-written words words refl)
-stepped-words (full list) new words e = refl
+    → session-words (stepped a new (session-of words) .session)
+    ≡ fixed-after (in-words (λ _. session-words (stepped a new (session-of words) .session)) a) words
+unfolding stepped in-words fixed-after
+stepped-words (refused number) new words size = session-there words size
+stepped-words (full list) new words size = refl
 
 -- by what a call answers on a record, and what it does to it
-module _ (answer : Session → Answer (List ℕ)) (done : Session → Stepped) (by-answer : (session : Session) → (new : Session) × (done session ≡ stepped (answer session) new session))
-    (words : List ℕ) (size : length words ≡ session-size) (held : Session) (same : held ≡ session-of words) where
-  pub step-code : (number : ℕ) → number ≡ done held .code → number ≡ code (of-length session-size words (answer (session-of words)))
+module _ (answer : Session → Answer (List ℕ)) (done : Session → Stepped)
+    (by-answer : (session : Session) → (new : Session) × (done session ≡ stepped (answer session) new session))
+    (words : List ℕ) (held : Session) (same : held ≡ session-of words) where
+  pub step-code : (number : ℕ) → number ≡ done held .code → number ≡ code (answer (session-of words))
   step-code number e =
       let by = by-answer (session-of words) in
-      rw (right-length session-size words (answer (session-of words)) size)
-      (e ∙ ap (λ (session : Session). done session .code) same ∙ ap (λ (d : Stepped). d .code) (by .1) ∙ stepped-code (answer (session-of words)) (by .0) (session-of words))
+      e ∙ ap (λ (session : Session). done session .code) same ∙ ap (λ (d : Stepped). d .code) (by .1)
+      ∙ stepped-code (answer (session-of words)) (by .0) (session-of words)
 
-  pub step-words : (new : Session) (after : List ℕ) → new ≡ done held .session → after ≡ lent-after (full (session-words new)) words
-      → after ≡ lent-after (in-words (λ _. session-words (done (session-of words) .session)) (of-length session-size words (answer (session-of words)))) words
-  step-words new after e f =
+  pub step-words : (new : Session) (after : List ℕ) → length words ≡ session-size → new ≡ done held .session
+      → after ≡ session-words new
+      → after ≡ fixed-after (in-words (λ _. session-words (done (session-of words) .session)) (answer (session-of words))) words
+  step-words new after size e f =
       let by = by-answer (session-of words) in
-      rw (right-length session-size words (answer (session-of words)) size)
-      (f ∙ ap (λ (session : Session). lent-after (full (session-words session)) words) (e ∙ ap (λ (session : Session). done session .session) same)
-      ∙ rw (by .1) (stepped-words (answer (session-of words)) (by .0) words size))
-
-pub step-lent : (answer : Session → Answer (List ℕ)) (words : List ℕ) → length words ≡ session-size → (held : Session) → held ≡ session-of words
-    → (lent list : List ℕ) → list ≡ lent-after (answer held) lent → list ≡ lent-after (of-length session-size words (answer (session-of words))) lent
-step-lent answer words size held same lent list e =
-    rw (right-length session-size words (answer (session-of words)) size) (e ∙ ap (λ (session : Session). lent-after (answer session) lent) same)
+      f ∙ ap session-words (e ∙ ap (λ (session : Session). done session .session) same)
+      ∙ rw (by .1) (stepped-words (answer (session-of words)) (by .0) words size)

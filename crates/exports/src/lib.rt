@@ -1,13 +1,17 @@
-// The calls for C and Rust, where a list is a pointer and a length. Each but `fontarelga_to_drive`, which returns a count, returns 0 if it
-// is accepted, or the number of the refusal. What else it answers goes into lent lists; after a refusal they are as they were.
+// The calls for C and Rust, where a list is a pointer and a length, and a list of a fixed length a pointer. Each but
+// `fontarelga_to_drive`, which returns a count, returns 0 if it is accepted, or the number of the refusal. What else it
+// answers goes into lent lists; after a refusal they are as they were.
 ghost use mathlib.Core.Path.{_≡_};
 ghost use lib.ListN.{length};
 ghost use Rattle.words.specs.Answers.{«lent-after»};
 ghost use Rattle.network.specs.Respond.{«response-answer»};
+ghost use Rattle.checker.specs.Check.{«check-answer»};
 ghost use Rattle.diagnosis.specs.Diagnosis.{«diagnosis-answer»};
-ghost use Rattle.reader.specs.Reader.{«vectors-read», «responses-read»};
-ghost use Rattle.packing.specs.Packed.{«network-of», «verdict-words», «finding-words», «job-words», «size-words»};
-ghost use Rattle.exports.specs.Exported.{code, «in-words», «check-exported», «findings-exported», «begin-exported», «first-exported», «second-exported», «read-exported», «write-exported», «session-begun», «session-first», «session-second», «drive-count»};
+ghost use Rattle.session.specs.Calls.{«begin-answer», «first-answer», «second-answer»};
+ghost use Rattle.reader.specs.Reader.{«read-answer», «vectors-read», «responses-read»};
+ghost use Rattle.writer.specs.Writer.{«write-answer»};
+ghost use Rattle.packing.specs.Packed.{«network-of», «verdict-words», «finding-words», «job-words», «size-words», «session-of»};
+ghost use Rattle.exports.specs.Exported.{code, «in-words», «fixed-after», «findings-exported», «session-begun», «session-first», «session-second», «drive-count»};
 use checker::Checked;
 use diagnosis::Diagnosed;
 use network::Network;
@@ -15,29 +19,26 @@ use network::Responded;
 use reader::ReadJob;
 use writer::Wrote;
 
-// The refusal of a list of a fixed length that has another. It comes before every row of the table.
-const WRONG_LENGTH: u64 = 99;
-
-// The words of a session: step, nets, 8 words of first answers, 48 reaches, vectors spent.
-const SESSION_WORDS: usize = 59;
-
 // The call *check*. The verdict's 3 words: 0 0 0 for pass, or 1 and the pair. Rows 5, 6, 7, 8.
 #[no_mangle]
 pub extern "C" fn fontarelga_check(
     nets: u64,
     class: u64,
     vectors: &[u64],
-    verdict: &mut [u64],
+    verdict: &mut [u64; 3],
 ) -> u64
-    ensures answer { λ r. ⌜ r ≡ code (check-exported nets class (now (vectors .entry)) (now (verdict .entry))) ⌝ }
-    ensures verdict { λ r. ⌜ now (verdict .exit) ≡ lent-after (in-words verdict-words (check-exported nets class (now (vectors .entry)) (now (verdict .entry)))) (now (verdict .entry)) ⌝ }
+    ensures answer { λ r. ⌜ r ≡ code (check-answer (network-of nets) class (now (vectors .entry))) ⌝ }
+    ensures verdict { λ r. ⌜ now (verdict .exit) ≡ fixed-after (in-words verdict-words (check-answer (network-of nets) class (now (vectors .entry)))) (now (verdict .entry)) ⌝ }
 {
-    if verdict.len() != 3 {
-        return WRONG_LENGTH;
-    }
     match checker::check(Network { nets: nets }, class, vectors) {
-        Checked::Pass => packing::lists::put_three(0, 0, 0, verdict),
-        Checked::Pair(a, b) => packing::lists::put_three(1, a, b, verdict),
+        Checked::Pass => {
+            *verdict = [0, 0, 0];
+            0
+        }
+        Checked::Pair(a, b) => {
+            *verdict = [1, a, b];
+            0
+        }
         Checked::Refused(number) => number,
     }
 }
@@ -99,67 +100,58 @@ pub extern "C" fn fontarelga_findings(nets: u64, state: &[u64], table: &mut [u64
 
 // The call *begin*: the vectors of step one into the front of `first`. Rows 5 and 12.
 #[no_mangle]
-pub extern "C" fn fontarelga_begin(session: &mut [u64], nets: u64, first: &mut [u64]) -> u64
-    ensures answer { λ r. ⌜ r ≡ code (begin-exported (now (session .entry)) nets (length (now (first .entry)))) ⌝ }
-    ensures session { λ r. ⌜ now (session .exit) ≡ lent-after (session-begun (now (session .entry)) nets (length (now (first .entry)))) (now (session .entry)) ⌝ }
-    ensures first { λ r. ⌜ now (first .exit) ≡ lent-after (begin-exported (now (session .entry)) nets (length (now (first .entry)))) (now (first .entry)) ⌝ }
+pub extern "C" fn fontarelga_begin(session: &mut [u64; 59], nets: u64, first: &mut [u64]) -> u64
+    ensures answer { λ r. ⌜ r ≡ code (begin-answer (network-of nets) (length (now (first .entry)))) ⌝ }
+    ensures session { λ r. ⌜ now (session .exit) ≡ fixed-after (session-begun (now (session .entry)) nets (length (now (first .entry)))) (now (session .entry)) ⌝ }
+    ensures first { λ r. ⌜ now (first .exit) ≡ lent-after (begin-answer (network-of nets) (length (now (first .entry)))) (now (first .entry)) ⌝ }
 {
-    if session.len() != SESSION_WORDS {
-        return WRONG_LENGTH;
-    }
     let held = packing::record::session_of(session);
     let done = session::by_value::begin(held, Network { nets: nets }, first);
-    packing::record::put_session(done.session, session);
+    let words = packing::record::words_of(done.session);
+    *session = words;
     done.code
 }
 
 // The call *first answers*: the vectors of step two into the front of `second`, if a net is unclear. Rows 4, 9, 10 and 12.
 #[no_mangle]
 pub extern "C" fn fontarelga_first_answers(
-    session: &mut [u64],
+    session: &mut [u64; 59],
     answers: &[u64],
     second: &mut [u64],
 ) -> u64
-    ensures answer { λ r. ⌜ r ≡ code (first-exported (now (session .entry)) (now (answers .entry)) (length (now (second .entry)))) ⌝ }
-    ensures session { λ r. ⌜ now (session .exit) ≡ lent-after (session-first (now (session .entry)) (now (answers .entry)) (length (now (second .entry)))) (now (session .entry)) ⌝ }
-    ensures second { λ r. ⌜ now (second .exit) ≡ lent-after (first-exported (now (session .entry)) (now (answers .entry)) (length (now (second .entry)))) (now (second .entry)) ⌝ }
+    ensures answer { λ r. ⌜ r ≡ code (first-answer (session-of (now (session .entry))) (now (answers .entry)) (length (now (second .entry)))) ⌝ }
+    ensures session { λ r. ⌜ now (session .exit) ≡ fixed-after (session-first (now (session .entry)) (now (answers .entry)) (length (now (second .entry)))) (now (session .entry)) ⌝ }
+    ensures second { λ r. ⌜ now (second .exit) ≡ lent-after (first-answer (session-of (now (session .entry))) (now (answers .entry)) (length (now (second .entry)))) (now (second .entry)) ⌝ }
 {
-    if session.len() != SESSION_WORDS {
-        return WRONG_LENGTH;
-    }
     let held = packing::record::session_of(session);
     let done = session::by_value::first_answers(held, answers, second);
-    packing::record::put_session(done.session, session);
+    let words = packing::record::words_of(done.session);
+    *session = words;
     done.code
 }
 
 // The call *second answers*: the only state that fits both steps, into the session. Rows 4, 9, 10 and 14.
 #[no_mangle]
-pub extern "C" fn fontarelga_second_answers(session: &mut [u64], answers: &[u64]) -> u64
-    ensures answer { λ r. ⌜ r ≡ code (second-exported (now (session .entry)) (now (answers .entry))) ⌝ }
-    ensures session { λ r. ⌜ now (session .exit) ≡ lent-after (session-second (now (session .entry)) (now (answers .entry))) (now (session .entry)) ⌝ }
+pub extern "C" fn fontarelga_second_answers(session: &mut [u64; 59], answers: &[u64]) -> u64
+    ensures answer { λ r. ⌜ r ≡ code (second-answer (session-of (now (session .entry))) (now (answers .entry))) ⌝ }
+    ensures session { λ r. ⌜ now (session .exit) ≡ fixed-after (session-second (now (session .entry)) (now (answers .entry))) (now (session .entry)) ⌝ }
 {
-    if session.len() != SESSION_WORDS {
-        return WRONG_LENGTH;
-    }
     let held = packing::record::session_of(session);
     let done = session::by_value::second_answers(held, answers);
-    packing::record::put_session(done.session, session);
+    let words = packing::record::words_of(done.session);
+    *session = words;
     done.code
 }
 
-// How many words to drive next, from the start of `first` in step 1 or of `second` in step 2; 0 if none, or if `session` has another length.
+// How many words to drive next, from the start of `first` in step 1 or of `second` in step 2; 0 if none.
 #[no_mangle]
 pub extern "C" fn fontarelga_to_drive<'a>(
-    session: &[u64],
+    session: &[u64; 59],
     first: &'a [u64],
     second: &'a [u64],
 ) -> u64
     ensures { λ r. ⌜ r ≡ drive-count (now (session .entry)) (now (first .entry)) (now (second .entry)) ⌝ }
 {
-    if session.len() != SESSION_WORDS {
-        return 0;
-    }
     let held = packing::record::session_of(session);
     let driven = session::drive::to_drive(held, first, second);
     driven.len() as u64
@@ -171,18 +163,23 @@ pub extern "C" fn fontarelga_read_job(
     file: &[u8],
     vectors: &mut [u64],
     responses: &mut [u64],
-    job: &mut [u64],
+    job: &mut [u64; 4],
 ) -> u64
-    ensures answer { λ r. ⌜ r ≡ code (read-exported (now (file .entry)) (now (job .entry)) (length (now (vectors .entry))) (length (now (responses .entry)))) ⌝ }
-    ensures vectors { λ r. ⌜ now (vectors .exit) ≡ lent-after (vectors-read (read-exported (now (file .entry)) (now (job .entry)) (length (now (vectors .entry))) (length (now (responses .entry))))) (now (vectors .entry)) ⌝ }
-    ensures responses { λ r. ⌜ now (responses .exit) ≡ lent-after (responses-read (read-exported (now (file .entry)) (now (job .entry)) (length (now (vectors .entry))) (length (now (responses .entry))))) (now (responses .entry)) ⌝ }
-    ensures job { λ r. ⌜ now (job .exit) ≡ lent-after (in-words job-words (read-exported (now (file .entry)) (now (job .entry)) (length (now (vectors .entry))) (length (now (responses .entry))))) (now (job .entry)) ⌝ }
+    ensures answer { λ r. ⌜ r ≡ code (read-answer (now (file .entry)) (length (now (vectors .entry))) (length (now (responses .entry)))) ⌝ }
+    ensures vectors { λ r. ⌜ now (vectors .exit) ≡ lent-after (vectors-read (read-answer (now (file .entry)) (length (now (vectors .entry))) (length (now (responses .entry))))) (now (vectors .entry)) ⌝ }
+    ensures responses { λ r. ⌜ now (responses .exit) ≡ lent-after (responses-read (read-answer (now (file .entry)) (length (now (vectors .entry))) (length (now (responses .entry))))) (now (responses .entry)) ⌝ }
+    ensures job { λ r. ⌜ now (job .exit) ≡ fixed-after (in-words job-words (read-answer (now (file .entry)) (length (now (vectors .entry))) (length (now (responses .entry))))) (now (job .entry)) ⌝ }
 {
-    if job.len() != 4 {
-        return WRONG_LENGTH;
-    }
     match reader::read_job(file, vectors, responses) {
-        ReadJob::Content(content) => packing::lists::put_job(content, job),
+        ReadJob::Content(content) => {
+            *job = [
+                content.network.nets,
+                content.class,
+                content.vectors as u64,
+                content.responses as u64,
+            ];
+            0
+        }
         ReadJob::Refused(number) => number,
     }
 }
@@ -195,17 +192,17 @@ pub extern "C" fn fontarelga_write_job(
     vectors: &[u64],
     responses: &[u64],
     file: &mut [u8],
-    size: &mut [u64],
+    size: &mut [u64; 1],
 ) -> u64
-    ensures answer { λ r. ⌜ r ≡ code (write-exported nets class (now (vectors .entry)) (now (responses .entry)) (length (now (file .entry))) (now (size .entry))) ⌝ }
-    ensures file { λ r. ⌜ now (file .exit) ≡ lent-after (write-exported nets class (now (vectors .entry)) (now (responses .entry)) (length (now (file .entry))) (now (size .entry))) (now (file .entry)) ⌝ }
-    ensures size { λ r. ⌜ now (size .exit) ≡ lent-after (in-words size-words (write-exported nets class (now (vectors .entry)) (now (responses .entry)) (length (now (file .entry))) (now (size .entry)))) (now (size .entry)) ⌝ }
+    ensures answer { λ r. ⌜ r ≡ code (write-answer (network-of nets) class (now (vectors .entry)) (now (responses .entry)) (length (now (file .entry)))) ⌝ }
+    ensures file { λ r. ⌜ now (file .exit) ≡ lent-after (write-answer (network-of nets) class (now (vectors .entry)) (now (responses .entry)) (length (now (file .entry)))) (now (file .entry)) ⌝ }
+    ensures size { λ r. ⌜ now (size .exit) ≡ fixed-after (in-words size-words (write-answer (network-of nets) class (now (vectors .entry)) (now (responses .entry)) (length (now (file .entry))))) (now (size .entry)) ⌝ }
 {
-    if size.len() != 1 {
-        return WRONG_LENGTH;
-    }
     match writer::write_job(Network { nets: nets }, class, vectors, responses, file) {
-        Wrote::Bytes(count) => packing::lists::put_one(count, size),
+        Wrote::Bytes(count) => {
+            *size = [count];
+            0
+        }
         Wrote::Refused(number) => number,
     }
 }

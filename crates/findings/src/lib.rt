@@ -92,7 +92,9 @@ fn table_refusal(net: Network, state: &[u64], room: usize) -> u64
 
 // The call *findings*: a record a net into the front of `table`. Rows 5, 11 with k = n, and 12; 0 is accepted.
 pub fn findings(net: Network, state: &[u64], table: &mut [Finding]) -> u64
-    ensures { λ r. ⌜ (table-meaning net r ≡ count-of (findings-answer net (now (state .entry)) (length (now (table .entry))))) × (now (table .exit) ≡ lent-after (findings-answer net (now (state .entry)) (length (now (table .entry)))) (now (table .entry))) ⌝ }
+    ensures answer { λ r. ⌜ table-meaning net r ≡ count-of (findings-answer net (now (state .entry)) (length (now (table .entry)))) ⌝ }
+    ensures table { λ r. ⌜ now (table .exit) ≡
+        lent-after (findings-answer net (now (state .entry)) (length (now (table .entry)))) (now (table .entry)) ⌝ }
 {
     let code = table_refusal(net, state, table.len());
     if code != 0 {
@@ -108,7 +110,8 @@ pub fn findings(net: Network, state: &[u64], table: &mut [Finding]) -> u64
 
 // The call *findings* by value, with a blank table lent.
 pub fn by_value(net: Network, state: &[u64]) -> Tabled
-    ensures { λ r. ⌜ (table-meaning net (r .code) ≡ count-of (findings-answer net (now (state .entry)) 48)) × (r .table ≡ lent-after (findings-answer net (now (state .entry)) 48) blank-table) ⌝ }
+    ensures answer { λ r. ⌜ table-meaning net (r .code) ≡ count-of (findings-answer net (now (state .entry)) 48) ⌝ }
+    ensures table { λ r. ⌜ r .table ≡ lent-after (findings-answer net (now (state .entry)) 48) blank-table ⌝ }
 {
     let mut table = [Finding {
         kind: 0,

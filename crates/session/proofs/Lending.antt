@@ -1,4 +1,5 @@
--- What the walks of the calls on a lent session share: the record as a machine value, and the record that stands in a local's cell.
+-- What the walks of the calls on a lent session share: the record as a machine value, and the record that stands in a
+-- local's cell.
 use mathlib.Core.Path.{refl}
 use Prim.Native.Nat.{ℕ, _<_, _^_}
 use mathlib.Core.List.{[], _∷_, List}

@@ -9,7 +9,9 @@ use network::Network;
 
 // The call *begin*.
 pub fn begin(session: Session, net: Network, list: &mut [u64]) -> Stepped
-    ensures { λ r. ⌜ (r .session ≡ begun session net (length (now (list .entry))) .session) × (r .code ≡ begun session net (length (now (list .entry))) .code) × (now (list .exit) ≡ lent-after (begin-answer net (length (now (list .entry)))) (now (list .entry))) ⌝ }
+    ensures session { λ r. ⌜ r .session ≡ begun session net (length (now (list .entry))) .session ⌝ }
+    ensures code { λ r. ⌜ r .code ≡ begun session net (length (now (list .entry))) .code ⌝ }
+    ensures list { λ r. ⌜ now (list .exit) ≡ lent-after (begin-answer net (length (now (list .entry)))) (now (list .entry)) ⌝ }
 {
     let mut record = session;
     let code = crate::begin(&mut record, net, list);
@@ -21,7 +23,10 @@ pub fn begin(session: Session, net: Network, list: &mut [u64]) -> Stepped
 
 // The call *first answers*.
 pub fn first_answers(session: Session, answers: &[u64], list: &mut [u64]) -> Stepped
-    ensures { λ r. ⌜ (r .session ≡ first-answered session (now (answers .entry)) (length (now (list .entry))) .session) × (r .code ≡ first-answered session (now (answers .entry)) (length (now (list .entry))) .code) × (now (list .exit) ≡ lent-after (first-answer session (now (answers .entry)) (length (now (list .entry)))) (now (list .entry))) ⌝ }
+    ensures session { λ r. ⌜ r .session ≡ first-answered session (now (answers .entry)) (length (now (list .entry))) .session ⌝ }
+    ensures code { λ r. ⌜ r .code ≡ first-answered session (now (answers .entry)) (length (now (list .entry))) .code ⌝ }
+    ensures list { λ r. ⌜ now (list .exit) ≡
+        lent-after (first-answer session (now (answers .entry)) (length (now (list .entry)))) (now (list .entry)) ⌝ }
 {
     let mut record = session;
     let code = crate::first_answers(&mut record, answers, list);
@@ -33,7 +38,8 @@ pub fn first_answers(session: Session, answers: &[u64], list: &mut [u64]) -> Ste
 
 // The call *second answers*.
 pub fn second_answers(session: Session, answers: &[u64]) -> Stepped
-    ensures { λ r. ⌜ (r .session ≡ second-answered session (now (answers .entry)) .session) × (r .code ≡ second-answered session (now (answers .entry)) .code) ⌝ }
+    ensures session { λ r. ⌜ r .session ≡ second-answered session (now (answers .entry)) .session ⌝ }
+    ensures code { λ r. ⌜ r .code ≡ second-answered session (now (answers .entry)) .code ⌝ }
 {
     let mut record = session;
     let code = crate::second_answers(&mut record, answers);

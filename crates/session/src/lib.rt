@@ -28,7 +28,8 @@ pub struct Stepped {
 
 // A refusal: the record is as it was.
 fn refused(number: u64, session: Session) -> Stepped
-    ensures { λ r. ⌜ (r .code ≡ number) × (r .session ≡ session) ⌝ }
+    ensures code { λ r. ⌜ r .code ≡ number ⌝ }
+    ensures session { λ r. ⌜ r .session ≡ session ⌝ }
 {
     Stepped {
         code: number,
@@ -38,7 +39,9 @@ fn refused(number: u64, session: Session) -> Stepped
 
 // The step of *begin*, by value: the vectors of step one into the front of `list`. Rows 5 and 12.
 fn begin_step(session: Session, net: Network, list: &mut [u64]) -> Stepped
-    ensures { λ r. ⌜ (r .session ≡ begun session net (length (now (list .entry))) .session) × (r .code ≡ begun session net (length (now (list .entry))) .code) × (now (list .exit) ≡ lent-after (begin-answer net (length (now (list .entry)))) (now (list .entry))) ⌝ }
+    ensures session { λ r. ⌜ r .session ≡ begun session net (length (now (list .entry))) .session ⌝ }
+    ensures code { λ r. ⌜ r .code ≡ begun session net (length (now (list .entry))) .code ⌝ }
+    ensures list { λ r. ⌜ now (list .exit) ≡ lent-after (begin-answer net (length (now (list .entry)))) (now (list .entry)) ⌝ }
 {
     if network::refusals::bad_net_count(net) {
         return refused(5, session);
@@ -57,7 +60,10 @@ fn begin_step(session: Session, net: Network, list: &mut [u64]) -> Stepped
 // The step of *first answers*, by value: the vectors of step two into the front of `list`, if a net is unclear. Rows 4,
 // 9, 10 and 12.
 fn first_step(session: Session, answers: &[u64], list: &mut [u64]) -> Stepped
-    ensures { λ r. ⌜ (r .session ≡ first-answered session (now (answers .entry)) (length (now (list .entry))) .session) × (r .code ≡ first-answered session (now (answers .entry)) (length (now (list .entry))) .code) × (now (list .exit) ≡ lent-after (first-answer session (now (answers .entry)) (length (now (list .entry)))) (now (list .entry))) ⌝ }
+    ensures session { λ r. ⌜ r .session ≡ first-answered session (now (answers .entry)) (length (now (list .entry))) .session ⌝ }
+    ensures code { λ r. ⌜ r .code ≡ first-answered session (now (answers .entry)) (length (now (list .entry))) .code ⌝ }
+    ensures list { λ r. ⌜ now (list .exit) ≡
+        lent-after (first-answer session (now (answers .entry)) (length (now (list .entry)))) (now (list .entry)) ⌝ }
 {
     if !record::awaits_first(session) {
         return refused(4, session);
@@ -85,7 +91,8 @@ fn first_step(session: Session, answers: &[u64], list: &mut [u64]) -> Stepped
 
 // The step of *second answers*, by value: the only state that fits both steps. Rows 4, 9, 10 and 14.
 fn second_step(session: Session, answers: &[u64]) -> Stepped
-    ensures { λ r. ⌜ (r .session ≡ second-answered session (now (answers .entry)) .session) × (r .code ≡ second-answered session (now (answers .entry)) .code) ⌝ }
+    ensures session { λ r. ⌜ r .session ≡ second-answered session (now (answers .entry)) .session ⌝ }
+    ensures code { λ r. ⌜ r .code ≡ second-answered session (now (answers .entry)) .code ⌝ }
 {
     if !record::awaits_second(session) {
         return refused(4, session);
@@ -116,7 +123,9 @@ fn second_step(session: Session, answers: &[u64]) -> Stepped
 
 // The call *begin* on a lent record.
 pub fn begin(session: &mut Session, net: Network, list: &mut [u64]) -> u64
-    ensures { λ r. ⌜ (now (session .exit) ≡ begun (now (session .entry)) net (length (now (list .entry))) .session) × (r ≡ begun (now (session .entry)) net (length (now (list .entry))) .code) × (now (list .exit) ≡ lent-after (begin-answer net (length (now (list .entry)))) (now (list .entry))) ⌝ }
+    ensures session { λ r. ⌜ now (session .exit) ≡ begun (now (session .entry)) net (length (now (list .entry))) .session ⌝ }
+    ensures code { λ r. ⌜ r ≡ begun (now (session .entry)) net (length (now (list .entry))) .code ⌝ }
+    ensures list { λ r. ⌜ now (list .exit) ≡ lent-after (begin-answer net (length (now (list .entry)))) (now (list .entry)) ⌝ }
 {
     let done = begin_step(*session, net, list);
     *session = done.session;
@@ -125,7 +134,11 @@ pub fn begin(session: &mut Session, net: Network, list: &mut [u64]) -> u64
 
 // The call *first answers* on a lent record.
 pub fn first_answers(session: &mut Session, answers: &[u64], list: &mut [u64]) -> u64
-    ensures { λ r. ⌜ (now (session .exit) ≡ first-answered (now (session .entry)) (now (answers .entry)) (length (now (list .entry))) .session) × (r ≡ first-answered (now (session .entry)) (now (answers .entry)) (length (now (list .entry))) .code) × (now (list .exit) ≡ lent-after (first-answer (now (session .entry)) (now (answers .entry)) (length (now (list .entry)))) (now (list .entry))) ⌝ }
+    ensures session { λ r. ⌜ now (session .exit) ≡
+        first-answered (now (session .entry)) (now (answers .entry)) (length (now (list .entry))) .session ⌝ }
+    ensures code { λ r. ⌜ r ≡ first-answered (now (session .entry)) (now (answers .entry)) (length (now (list .entry))) .code ⌝ }
+    ensures list { λ r. ⌜ now (list .exit) ≡
+        lent-after (first-answer (now (session .entry)) (now (answers .entry)) (length (now (list .entry)))) (now (list .entry)) ⌝ }
 {
     let done = first_step(*session, answers, list);
     *session = done.session;
@@ -134,7 +147,8 @@ pub fn first_answers(session: &mut Session, answers: &[u64], list: &mut [u64]) -
 
 // The call *second answers* on a lent record.
 pub fn second_answers(session: &mut Session, answers: &[u64]) -> u64
-    ensures { λ r. ⌜ (now (session .exit) ≡ second-answered (now (session .entry)) (now (answers .entry)) .session) × (r ≡ second-answered (now (session .entry)) (now (answers .entry)) .code) ⌝ }
+    ensures session { λ r. ⌜ now (session .exit) ≡ second-answered (now (session .entry)) (now (answers .entry)) .session ⌝ }
+    ensures code { λ r. ⌜ r ≡ second-answered (now (session .entry)) (now (answers .entry)) .code ⌝ }
 {
     let done = second_step(*session, answers);
     *session = done.session;

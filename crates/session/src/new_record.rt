@@ -56,7 +56,8 @@ pub fn finished(net: Network, state: &[u64], spent: u64) -> Session
 
 // The record after first answers, by the number of vectors that they ask for: finished if it is 0.
 pub fn answered(net: Network, answers: &[u64], count: usize) -> Session
-    requires { ⌜ (2 ≤ net .nets) × (net .nets ≤ 48) × (length (now answers) ≡ word-length net) × (count ≡ length (second-vectors net (now answers))) ⌝ }
+    requires { ⌜ (2 ≤ net .nets) × (net .nets ≤ 48) × (length (now answers) ≡ word-length net)
+        × (count ≡ length (second-vectors net (now answers))) ⌝ }
     ensures { λ r. ⌜ r ≡ answered-by net (now (answers .entry)) (unclear net (now (answers .entry))) ⌝ }
 {
     if count == 0 {

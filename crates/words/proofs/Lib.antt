@@ -8,3 +8,4 @@ pub mod Passing
 pub mod Counting
 pub mod Answers
 pub mod Writing
+pub mod Clauses

@@ -15,7 +15,7 @@ use prog.Memory.{Memory}
 use prog.Routine.{Routine}
 use prog.Wp.{Heap, Calls, Loops, WpFn, Tables}
 use ghost.Atoms.{Atoms, sem}
-use contract.Monad.{Fun, fact}
+use contract.Monad.{Fun}
 use contract.Running.{givenOf, tables, tablesOf}
 use types.Kit.{Given, ‵, raw, some, later, _⊛_, ⋆, _$_, _∵_, !, qed, by, move, keep, drop, use1, use2, split, join, pick, rewrite, fsplit, fjoin, feqL, suffices, frame, await, done}
 use types.Run.{look, init, forget, stop, hop, fld, from, load, addr, and-then, no-more, assigns, land, returns, enter, alloc1, alloc0, params1, pass1, pass0, free1, free0}
@@ -27,7 +27,7 @@ use denote.Plain.{uint-makes, uint-lawful}
 use denote.Builtin.{u64}
 use denote.Ref.{RefT}
 use denote.Slice.{sliceVal, MutSlice, ShrSlice, Room, finally, slice-vals, mut-slice-tells, shr-slice-tells}
-use denote.Steps.{only, owned, peeks, heard, nothing}
+use denote.Steps.{only, owned, peeks, nothing}
 use denote.Struct.Laws as LL
 use denote.Triple.Entry.{onEntry}
 use denote.Triple.Spec.{Meets, tripleOf}
@@ -38,6 +38,7 @@ use denote.Triple.Table.{entered, cited}
 use denote.Triple.Walked.{says, Stays, stay-dropped, gave-slice, walkOf, AllGo, goes-dropped, goes-gave-slice, Walks, ends-at, walked, walk-meets}
 use denote.Exit.{yes}
 use denote.Signature.{plain, shrSliceOf}
+use Rattle.words.proofs.Clauses.{facts, All, hears, says-all}
 use Rattle.network.specs.declared.Network.{Network}
 use Rattle.network.proofs.Network as N
 use Rattle.network.proofs.Network.Laws as N′
@@ -69,8 +70,8 @@ abbrev Findings : {M : Type 1} (𝓤 : URA M) (H : Heap 𝓤) (A : Atoms 𝓤) (
 Findings 𝓤 H A at-mem run = tripleOf 𝓤 H A G.signature (G.spec 𝓤 H A at-mem run)
 
 -- what is said of the number returned and of the table after the call: the program's
-abbrev Says : Network → List ℕ → List Finding → ℕ → List Finding → Type 0
-Says net xs ys c zs = let did = our-findings net xs ys in (table-meaning net c ≡ did .returned) × (zs ≡ did .list)
+abbrev Says : Network → List ℕ → List Finding → ℕ → List Finding → List (Type 0)
+Says net xs ys c zs = let did = our-findings net xs ys in (table-meaning net c ≡ did .returned) ∷ (zs ≡ did .list) ∷ []
 
 module _ {M : Type 1} (𝓤 : URA M) (H : Heap 𝓤) (A : Atoms 𝓤) (W : Given 𝓤 H A) (at-mem : Memory → SProp 𝓤) (run : Routine → Fun 𝓤) (κ κ′ : Lft) (q q′ : Share) (net : Network) (net-is : Is N.the-row net (nmach net ∷ [])) (b o : ℕ) (γ : GName) (xs : List ℕ) (b′ o′ : ℕ) (γ′ : GName) (ys : List Finding) (room-s : Room u64 (length xs)) (room-t : Room R (length ys)) where
   -- the two borrows, and their machine values
@@ -102,10 +103,10 @@ module _ {M : Type 1} (𝓤 : URA M) (H : Heap 𝓤) (A : Atoms 𝓤) (W : Given
   goes : ent 𝓤 (sep 𝓤 (sep 𝓤 (A .lft κ q) (sep 𝓤 (A .lft κ′ q′) (sem 𝓤 H A ftrue))) (sem 𝓤 H A (owns (N.the-row ∷ ShrSlice (named 0) κ u64 ∷ MutSlice (named 1) κ′ R ∷ []) a vals))) (Findings 𝓤 H A at-mem run .pre to)
   goes = qed W ((‵ (flft κ q) ⊛ ‵ (flft κ′ q′) ⊛ ‵ ftrue) ∷ ‵ (owns (N.the-row ∷ ShrSlice (named 0) κ u64 ∷ MutSlice (named 1) κ′ R ∷ []) a vals) ∷ []) ∵ join ! $ frame ! $ done !
 
-  exits : (c : ℕ) (zs : List Finding) → c < 2 ^ 64 → length zs ≡ length ys → Says net xs ys c zs → ent 𝓤 (⋆ 𝓤 H A ((‵ (flft κ q) ⊛ ‵ (flft κ′ q′) ⊛ ‵ ftrue) ∷ ‵ (finally R γ′ zs) ∷ [])) (Post (vint w64 c))
+  exits : (c : ℕ) (zs : List Finding) → c < 2 ^ 64 → length zs ≡ length ys → All (Says net xs ys c zs) → ent 𝓤 (⋆ 𝓤 H A ((‵ (flft κ q) ⊛ ‵ (flft κ′ q′) ⊛ ‵ ftrue) ∷ ‵ (finally R γ′ zs) ∷ [])) (Post (vint w64 c))
   exits c zs fits size e =
       qed W ((‵ (flft κ q) ⊛ ‵ (flft κ′ q′) ⊛ ‵ ftrue) ∷ ‵ (finally R γ′ zs) ∷ []) ∵
-      suffices ! _ (ends-at 𝓤 H A F.ended stayed (F.clauses 𝓤 H A at-mem run) W (((κ, (κ′, tt)), (q, (q′, tt)), tt, a, vals), tt) (vint w64 c) c (tt, (tt, (zs, tt))) (tt, (tt, (size, tt)))) $ says ! e $ frame ! $
+      suffices ! _ (ends-at 𝓤 H A F.ended stayed (F.clauses 𝓤 H A at-mem run) W (((κ, (κ′, tt)), (q, (q′, tt)), tt, a, vals), tt) (vint w64 c) c (tt, (tt, (zs, tt))) (tt, (tt, (size, tt)))) $ says-all ! (Says net xs ys c zs) e $ frame ! $
       nothing ! $ move ! (1 ∷ 0 ∷ []) $ fjoin ! $ nothing ! $ fjoin ! $ nothing ! $ fjoin ! $ owned ! u64 (Is u64) (uint-makes 𝓤 H A W w64) c _ (refl, fits) $ move ! (1 ∷ 0 ∷ []) $ done !
 
   module _ (C : Calls 𝓤 H) (Λ : Loops 𝓤 H) (fm : FmC 𝓤 H (W .laws) C) (known : Triple 𝓤 (C #findings·findings) (Findings 𝓤 H A at-mem run)) where
@@ -120,8 +121,8 @@ module _ {M : Type 1} (𝓤 : URA M) (H : Heap 𝓤) (A : Atoms 𝓤) (W : Given
         move ! (12 ∷ 13 ∷ []) $ use2 W (raw (Findings 𝓤 H A at-mem run .pre to)) goes $
         calls-at ! fm (Findings 𝓤 H A at-mem run) known to (and-then ! (load ! (from ! (stop !)) (look ! 9 refl)) (and-then ! (load ! (from ! (stop !)) (look ! 7 refl)) (and-then ! (load ! (from ! (stop !)) (look ! 1 refl)) (no-more !)))) (λ w.
         use1 W (later (some (λ (r : ℕ). ((‵ (flft κ q) ⊛ ‵ (flft κ′ q′) ⊛ ‵ ftrue) ⊛ ‵ (u64 .own r (w ∷ []))) ⊛ raw (ensured 𝓤 H A G.ended (G.clauses 𝓤 H A at-mem run) (κ, (κ′, tt)) a tt r)))) (id⊢ 𝓤 _) $ await ! tt $ pick ! (λ r.
-        split ! $ move ! (1 ∷ []) $ use1 W (some (λ (zs : Unit {0} × (Unit {0} × (List Finding × Unit {0}))). ‵ (lasts G.ended (κ, (κ′, tt)) a zs) ⊛ raw (fact 𝓤 (Says net xs ys r (zs .1 .1 .0))))) (id⊢ 𝓤 _) $ pick ! (λ zs.
-        split ! $ move ! (1 ∷ []) $ heard ! (Says net xs ys r (zs .1 .1 .0)) (λ e. fsplit ! $ drop ! $ fsplit ! $ drop ! $ fsplit ! $ fsplit ! $ move ! (1 ∷ []) $ feqL ! (λ size. move ! (1 ∷ []) $ drop ! $
+        split ! $ move ! (1 ∷ []) $ use1 W (some (λ (zs : Unit {0} × (Unit {0} × (List Finding × Unit {0}))). ‵ (lasts G.ended (κ, (κ′, tt)) a zs) ⊛ raw (facts 𝓤 (Says net xs ys r (zs .1 .1 .0))))) (id⊢ 𝓤 _) $ pick ! (λ zs.
+        split ! $ move ! (1 ∷ []) $ hears ! (Says net xs ys r (zs .1 .1 .0)) (λ e. fsplit ! $ drop ! $ fsplit ! $ drop ! $ fsplit ! $ fsplit ! $ move ! (1 ∷ []) $ feqL ! (λ size. move ! (1 ∷ []) $ drop ! $
         -- [the last table; the tokens and the result; _5; …; and so down to _1; …; room for _0; …]
         move ! (1 ∷ []) $ split ! $ move ! (1 ∷ []) $ peeks ! u64 (Is u64) (shows 𝓤 H A u64) r (w ∷ []) (λ is.
         land ! (from ! (stop !)) (init ! 13 refl (uint-lawful 𝓤 H A W w64 .typed r _ is .0)) $ rewrite ! 13 (λ (u : Val). ‵ (fat fullShare (tyInt w64) l₀ 0 u)) (ap only (is .0)) refl $

@@ -15,7 +15,7 @@ use prog.Memory.{Memory}
 use prog.Routine.{Routine}
 use prog.Wp.{Heap, Calls, Loops, WpFn, Tables}
 use ghost.Atoms.{Atoms, sem}
-use contract.Monad.{Fun, fact}
+use contract.Monad.{Fun}
 use contract.Running.{givenOf, tables, tablesOf}
 use types.Kit.{Given, ‵, raw, given, some, later, _⊛_, _$_, _∵_, !, qed, by, move, keep, drop, use1, use2, use3, split, join, pick, learn, check, rewrite, fsplit, fjoin, fpick, fpack, feqL, feqI, suffices, frame, await, done}
 use types.Run.{look, init, forget, stop, from, load, lit, addr, of-opd, and-then, no-more, assigns, land, returns, enter, alloc1, alloc0, params1, pass1, pass0, free1, free0}
@@ -36,7 +36,7 @@ use denote.ArrayMemory.{array-apart, array-whole}
 use denote.Index.{row, whole-in, whole-out}
 use denote.Lend.{Held, lends-slice, slice-back}
 use denote.Slice.{sliceVal, MutSlice, ShrSlice, Room, slice-vals, shr-slice-tells}
-use denote.Steps.{only, owned, peeks, heard, nothing}
+use denote.Steps.{only, owned, peeks, nothing}
 use denote.Struct.Steps.{spelt}
 use denote.Struct.Laws as LL
 use denote.Triple.Entry.{onEntry}
@@ -45,10 +45,11 @@ use denote.Triple.Statement.{Contract, Triple}
 use denote.Triple.Call.{calls-at}
 use denote.Triple.Clauses.{ensured, lasts}
 use denote.Triple.Table.{entered, cited}
-use denote.Triple.Walked.{says, Stays, stay-dropped, walkOf, AllGo, goes-dropped, Walks, ends-at, walked, walk-meets}
+use denote.Triple.Walked.{Stays, stay-dropped, walkOf, AllGo, goes-dropped, Walks, ends-at, walked, walk-meets}
 use denote.Exit.{yes}
 use denote.Signature.{plain, shrSliceOf}
 use Rattle.words.specs.Answers.{count-of, lent-after}
+use Rattle.words.proofs.Clauses.{facts, All, hears, says-all}
 use Rattle.network.specs.declared.Network.{Network}
 use Rattle.network.proofs.Network as N
 use Rattle.network.proofs.Network.Laws as N′
@@ -109,8 +110,9 @@ abbrev Findings : {M : Type 1} (𝓤 : URA M) (H : Heap 𝓤) (A : Atoms 𝓤) (
 Findings 𝓤 H A at-mem run = tripleOf 𝓤 H A G.signature (G.spec 𝓤 H A at-mem run)
 
 -- what it says of its result and of the last list
-abbrev Says : Network → List ℕ → ℕ → List Finding → Type 0
-Says net xs r zs = (table-meaning net r ≡ count-of (findings-answer net xs 48)) × (zs ≡ lent-after (findings-answer net xs 48) blank-table)
+abbrev Says : Network → List ℕ → ℕ → List Finding → List (Type 0)
+Says net xs r zs =
+    (table-meaning net r ≡ count-of (findings-answer net xs 48)) ∷ (zs ≡ lent-after (findings-answer net xs 48) blank-table) ∷ []
 
 -- what is made of its result and of that list
 abbrev res : ℕ → List Finding → Tabled
@@ -184,10 +186,10 @@ module _ {M : Type 1} (𝓤 : URA M) (H : Heap 𝓤) (A : Atoms 𝓤) (W : Given
       qed W ((‵ (flft κ q) ⊛ ‵ (flft (α ∷ []) fullShare) ⊛ ‵ ftrue) ∷ ‵ (ShrSlice (named 0) κ u64 .own x (s ∷ [])) ∷ ‵ (MutSlice (named 1) (α ∷ []) R .own (lent l δ) (sliceVal (l, 0) 48 ∷ [])) ∷ []) ∵
       nothing ! $ move ! (3 ∷ 0 ∷ []) $ fjoin ! $ move ! (2 ∷ 0 ∷ []) $ fjoin ! $ owned ! N.the-row (Is N.the-row) (LL.makes N.the-type N′.the-plain 𝓤 H A) net _ net-is $ fjoin ! $ move ! (1 ∷ 0 ∷ []) $ join ! $ frame ! $ done !
 
-  exits : (c : ℕ) (zs : List Finding) → c < 2 ^ 64 → Is B zs (vals-of zs) → Says net xs c zs → ent 𝓤 (A .lft κ q) (Post (LL.val Tab.the-type Tab′.the-laws (res c zs)))
+  exits : (c : ℕ) (zs : List Finding) → c < 2 ^ 64 → Is B zs (vals-of zs) → All (Says net xs c zs) → ent 𝓤 (A .lft κ q) (Post (LL.val Tab.the-type Tab′.the-laws (res c zs)))
   exits c zs fits g e =
       qed W (‵ (flft κ q) ∷ []) ∵
-      suffices ! _ (ends-at 𝓤 H A F.ended stayed (F.clauses 𝓤 H A at-mem run) W (((κ, tt), (q, tt), tt, (net, (x, tt)), (nmach net ∷ [], (s ∷ [], tt))), tt) (LL.val Tab.the-type Tab′.the-laws (res c zs)) (res c zs) (tt, (tt, tt)) (tt, (tt, tt))) $ says ! e $
+      suffices ! _ (ends-at 𝓤 H A F.ended stayed (F.clauses 𝓤 H A at-mem run) W (((κ, tt), (q, tt), tt, (net, (x, tt)), (nmach net ∷ [], (s ∷ [], tt))), tt) (LL.val Tab.the-type Tab′.the-laws (res c zs)) (res c zs) (tt, (tt, tt)) (tt, (tt, tt))) $ says-all ! (Says net xs c zs) e $
       nothing ! $ move ! (1 ∷ 0 ∷ []) $ join ! $ frame ! $ nothing ! $ nothing ! $ fjoin ! $ nothing ! $ fjoin ! $
       owned ! Tab.the-row (Is Tab.the-row) (LL.makes Tab.the-type Tab′.the-plain 𝓤 H A) (res c zs) _ (made c zs fits g) $ move ! (1 ∷ 0 ∷ []) $ done !
 
@@ -212,8 +214,8 @@ module _ {M : Type 1} (𝓤 : URA M) (H : Heap 𝓤) (A : Atoms 𝓤) (W : Given
         move ! (0 ∷ 1 ∷ 3 ∷ []) $ use3 W (raw (Findings 𝓤 H A at-mem run .pre (to l₃ α δ))) (goes l₃ α δ) $
         calls-at ! fm (Findings 𝓤 H A at-mem run) known (to l₃ α δ) (and-then ! (load ! (from ! (stop !)) (look ! 16 refl)) (and-then ! (load ! (from ! (stop !)) (look ! 14 refl)) (and-then ! (load ! (from ! (stop !)) (look ! 5 refl)) (no-more !)))) (λ w.
         use1 W (later (some (λ (r : ℕ). ((‵ (flft κ q) ⊛ ‵ (flft (α ∷ []) fullShare) ⊛ ‵ ftrue) ⊛ ‵ (u64 .own r (w ∷ []))) ⊛ raw (ensured 𝓤 H A G.ended (G.clauses 𝓤 H A at-mem run) (κ, (α ∷ [], tt)) (net, (x, (lent l₃ δ, tt))) tt r)))) (id⊢ 𝓤 _) $ await ! tt $ pick ! (λ r.
-        split ! $ move ! (1 ∷ []) $ use1 W (some (λ (zs : Unit {0} × (Unit {0} × (List Finding × Unit {0}))). ‵ (lasts G.ended (κ, (α ∷ [], tt)) (net, (x, (lent l₃ δ, tt))) zs) ⊛ raw (fact 𝓤 (Says net xs r (zs .1 .1 .0))))) (id⊢ 𝓤 _) $ pick ! (λ zs.
-        split ! $ move ! (1 ∷ []) $ heard ! (Says net xs r (zs .1 .1 .0)) (λ e. fsplit ! $ drop ! $ fsplit ! $ drop ! $ fsplit ! $ fsplit ! $ move ! (1 ∷ []) $ feqL ! (λ l.
+        split ! $ move ! (1 ∷ []) $ use1 W (some (λ (zs : Unit {0} × (Unit {0} × (List Finding × Unit {0}))). ‵ (lasts G.ended (κ, (α ∷ [], tt)) (net, (x, (lent l₃ δ, tt))) zs) ⊛ raw (facts 𝓤 (Says net xs r (zs .1 .1 .0))))) (id⊢ 𝓤 _) $ pick ! (λ zs.
+        split ! $ move ! (1 ∷ []) $ hears ! (Says net xs r (zs .1 .1 .0)) (λ e. fsplit ! $ drop ! $ fsplit ! $ drop ! $ fsplit ! $ fsplit ! $ move ! (1 ∷ []) $ feqL ! (λ l.
         -- [the last list; true; the tokens and the result; true; the lender's part; _8; …]
         move ! (2 ∷ []) $ split ! $ move ! (1 ∷ []) $ peeks ! u64 (Is u64) (shows 𝓤 H A u64) r (w ∷ []) (λ is. land ! (from ! (stop !)) (init ! 14 refl (uint-lawful 𝓤 H A W w64 .typed r _ is .0)) $
         rewrite ! 14 (λ (u : Val). ‵ (fat fullShare (tyInt w64) l₄ 0 u)) (ap only (is .0)) refl $

@@ -52,6 +52,7 @@ use denote.Exit.{yes}
 use denote.Signature.{plain, shrSliceOf}
 use Rattle.words.specs.Answers.{Answer, count-of, lent-after}
 use Rattle.words.proofs.Answers.{owed-refused}
+use Rattle.words.proofs.Clauses.{All, says-all}
 use Rattle.network.specs.declared.Network.{Network}
 use Rattle.network.specs.States.{State}
 use Rattle.network.proofs.Network as N
@@ -87,13 +88,15 @@ abbrev nmach : Network → Val
 nmach net = LL.val N.the-type N′.the-laws net
 
 -- ---- what is said of the number returned and of the table after the call
-abbrev Says : Network → List ℕ → List Finding → ℕ → List Finding → Type 0
-Says net xs ys c zs = (table-meaning net c ≡ count-of (findings-answer net xs (length ys))) × (zs ≡ lent-after (findings-answer net xs (length ys)) ys)
+abbrev Says : Network → List ℕ → List Finding → ℕ → List Finding → List (Type 0)
+Says net xs ys c zs =
+    (table-meaning net c ≡ count-of (findings-answer net xs (length ys)))
+    ∷ (zs ≡ lent-after (findings-answer net xs (length ys)) ys) ∷ []
 
-says-refused : (net : Network) (xs : List ℕ) (ys : List Finding) (r : ℕ) → table-meaning net r ≡ count-of (findings-answer net xs (length ys)) → (r ≡ 0 → ⊥) → Says net xs ys r (filled net xs 0 ys)
+says-refused : (net : Network) (xs : List ℕ) (ys : List Finding) (r : ℕ) → table-meaning net r ≡ count-of (findings-answer net xs (length ys)) → (r ≡ 0 → ⊥) → All (Says net xs ys r (filled net xs 0 ys))
 says-refused net xs ys r e n = (e, sym (filled-none net xs ys) ∙ owed-refused (findings-answer net xs (length ys)) r ys (table-refused net xs (length ys) r n e) .1)
 
-says-filled : (net : Network) (xs : List ℕ) (ys : List Finding) (i : ℕ) → table-meaning net 0 ≡ count-of (findings-answer net xs (length ys)) → i ≡ length xs → Says net xs ys 0 (filled net xs i ys)
+says-filled : (net : Network) (xs : List ℕ) (ys : List Finding) (i : ℕ) → table-meaning net 0 ≡ count-of (findings-answer net xs (length ys)) → i ≡ length xs → All (Says net xs ys 0 (filled net xs i ys))
 says-filled net xs ys i e all = (e, filled-all net xs ys i all ∙ ap (λ (a : Answer (List Finding)). lent-after a ys) (sym (table-accepted net xs (length ys) 0 refl e .answer)))
 
 nonzero : (r : ℕ) → Holds (not (eqb r 0)) → r ≡ 0 → ⊥
@@ -181,10 +184,10 @@ module _ {M : Type 1} (𝓤 : URA M) (H : Heap 𝓤) (A : Atoms 𝓤) (W : Given
   find-said k f = exE 𝓤 _ (λ ws. snd∗ 𝓤 (sem 𝓤 H A (lasts find.ended (κ, tt) (net, (x, (k, tt))) ws)) (fact 𝓤 (f ≡ finding net xs k)))
 
   -- from what is had at either return, with the result c and the table at zs
-  exits : (c : ℕ) (zs : List Finding) → c < 2 ^ 64 → length zs ≡ length ys → Says net xs ys c zs → ent 𝓤 (⋆ 𝓤 H A (‵ (fobs γ′ (codedHoleys R .code (heres R zs))) ∷ ‵ (flft κ′ q′) ∷ (‵ (flft κ q) ⊛ ‵ ftrue) ∷ [])) (Post (vint w64 c))
+  exits : (c : ℕ) (zs : List Finding) → c < 2 ^ 64 → length zs ≡ length ys → All (Says net xs ys c zs) → ent 𝓤 (⋆ 𝓤 H A (‵ (fobs γ′ (codedHoleys R .code (heres R zs))) ∷ ‵ (flft κ′ q′) ∷ (‵ (flft κ q) ⊛ ‵ ftrue) ∷ [])) (Post (vint w64 c))
   exits c zs fits size e =
       qed W (‵ (fobs γ′ (codedHoleys R .code (heres R zs))) ∷ ‵ (flft κ′ q′) ∷ (‵ (flft κ q) ⊛ ‵ ftrue) ∷ []) ∵
-      suffices ! _ (ends-at 𝓤 H A F.ended stayed (F.clauses 𝓤 H A at-mem run) W (((κ, (κ′, tt)), (q, (q′, tt)), tt, a, vals), tt) (vint w64 c) c (tt, (tt, (zs, tt))) (tt, (tt, (size, tt)))) $ says ! e $
+      suffices ! _ (ends-at 𝓤 H A F.ended stayed (F.clauses 𝓤 H A at-mem run) W (((κ, (κ′, tt)), (q, (q′, tt)), tt, a, vals), tt) (vint w64 c) c (tt, (tt, (zs, tt))) (tt, (tt, (size, tt)))) $ says-all ! (Says net xs ys c zs) e $
       move ! (2 ∷ []) $ split ! $ move ! (3 ∷ 1 ∷ []) $ join ! $ move ! (1 ∷ 0 ∷ []) $ join ! $ frame ! $
       use1 W (‵ (fres γ′ (codedHoleys R .code (heres R zs)))) (W .names .obs-res γ′ (codedHoleys R .code (heres R zs))) $
       use1 W (‵ (finally R γ′ zs)) (res-finally 𝓤 H A W (named 1) κ′ R γ′ zs) $

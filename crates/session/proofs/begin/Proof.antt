@@ -14,7 +14,7 @@ use prog.Memory.{Memory}
 use prog.Routine.{Routine}
 use prog.Wp.{Heap, Calls, Loops, WpFn, Tables}
 use ghost.Atoms.{Atoms, sem}
-use contract.Monad.{Fun, fact}
+use contract.Monad.{Fun}
 use contract.Running.{givenOf, tables, tablesOf}
 use types.Kit.{Given, ‵, raw, some, later, _⊛_, ⋆, _$_, _∵_, !, qed, by, move, drop, use1, use3, split, join, pick, rewrite, fsplit, fsplit3, fjoin, fjoin3, feqL, feqI, suffices, frame, await, done}
 use types.Run.{look, look-raw, init, store-raw, forget, stop, hop, fld, from, load, addr, of-opd, and-then, no-more, assigns, land, returns, enter, alloc1, alloc0, params1, pass1, pass0, free1, free0}
@@ -28,7 +28,7 @@ use denote.Plain.{uint-makes}
 use denote.Builtin.{u64}
 use denote.Ref.{RefT, MutRef, ptr-vals, mut-tells}
 use denote.Slice.{sliceVal, MutSlice, Room, finally, slice-vals, mut-slice-tells}
-use denote.Steps.{only, opens, closes, owned, peeks, heard, nothing}
+use denote.Steps.{only, opens, closes, owned, peeks, nothing}
 use denote.Struct.Steps.{spelt}
 use denote.Struct.Laws as LL
 use denote.Triple.Entry.{onEntry}
@@ -37,10 +37,11 @@ use denote.Triple.Statement.{Contract, Triple}
 use denote.Triple.Call.{calls-at}
 use denote.Triple.Clauses.{ensured, lasts}
 use denote.Triple.Table.{entered, cited}
-use denote.Triple.Walked.{says, Stays, stay-ref, stay-dropped, gave-slice, walkOf, AllGo, goes-ref, goes-dropped, goes-gave-slice, Walks, ends-at, walked, walk-meets}
+use denote.Triple.Walked.{Stays, stay-ref, stay-dropped, gave-slice, walkOf, AllGo, goes-ref, goes-dropped, goes-gave-slice, Walks, ends-at, walked, walk-meets}
 use denote.Exit.{yes}
 use denote.Signature.{plain}
 use Rattle.words.specs.Answers.{lent-after}
+use Rattle.words.proofs.Clauses.{facts, All, hears, says-all}
 use Rattle.network.specs.declared.Network.{Network}
 use Rattle.network.proofs.Network as N
 use Rattle.network.proofs.Network.Laws as N′
@@ -72,8 +73,12 @@ abbrev Arg : Type 0
 Arg = RefT Session × (Network × (RefT (List ℕ) × (Unit {0})))
 
 -- what the step says of its result r and of the last lists
-abbrev Says : Session → Network → List ℕ → Stepped → List ℕ → Type 0
-Says h net list₀ r list₁ = (r .session ≡ begun h net (length list₀) .session) × (r .code ≡ begun h net (length list₀) .code) × (list₁ ≡ lent-after (begin-answer net (length list₀)) list₀)
+abbrev Says : Session → Network → List ℕ → Stepped → List ℕ → List (Type 0)
+Says h net list₀ r list₁ =
+    (r .session ≡ begun h net (length list₀) .session) ∷
+    (r .code ≡ begun h net (length list₀) .code) ∷
+    (list₁ ≡ lent-after (begin-answer net (length list₀)) list₀) ∷
+    []
 
 module _ {M : Type 1} (𝓤 : URA M) (H : Heap 𝓤) (A : Atoms 𝓤) (W : Given 𝓤 H A) (at-mem : Memory → SProp 𝓤) (run : Routine → Fun 𝓤) (κ κ1 : Lft) (q q1 : Share) (b o : ℕ) (γ : GName) (h : Session) (net : Network) (net-is : Is N.the-row net (LL.val N.the-type N′.the-laws net ∷ [])) (b-list o-list : ℕ) (γ-list : GName) (list₀ : List ℕ) where
   -- the borrow of list, and its machine value
@@ -101,11 +106,11 @@ module _ {M : Type 1} (𝓤 : URA M) (H : Heap 𝓤) (A : Atoms 𝓤) (W : Given
       qed W ((‵ (flft κ1 q1) ⊛ ‵ ftrue) ∷ ‵ (R .own h (mach h ∷ [])) ∷ ‵ (owns (N.the-row ∷ MutSlice (named 0) κ1 u64 ∷ []) (net, (x-list, tt)) (LL.val N.the-type N′.the-laws net ∷ [], (s-list ∷ [], tt))) ∷ []) ∵
       move ! (1 ∷ 2 ∷ []) $ fjoin ! $ move ! (1 ∷ 0 ∷ []) $ join ! $ frame ! $ done !
 
-  exits : (r : Stepped) (w : Val) → Is Adv.the-row r (w ∷ []) → (list₁ : List ℕ) → Says h net list₀ r list₁ → length list₁ ≡ length list₀
+  exits : (r : Stepped) (w : Val) → Is Adv.the-row r (w ∷ []) → (list₁ : List ℕ) → All (Says h net list₀ r list₁) → length list₁ ≡ length list₀
       → ent 𝓤 (⋆ 𝓤 H A (‵ (fobs γ (R .coded .code (r .session))) ∷ ‵ (fbor κ (Body (mem R) b o γ)) ∷ ‵ (flft κ q) ∷ (‵ (flft κ1 q1) ⊛ ‵ ftrue) ∷ ‵ (finally u64 γ-list list₁) ∷ [])) (Post (vint w64 (r .code)))
   exits r w is list₁ e l-list =
       qed W (‵ (fobs γ (R .coded .code (r .session))) ∷ ‵ (fbor κ (Body (mem R) b o γ)) ∷ ‵ (flft κ q) ∷ (‵ (flft κ1 q1) ⊛ ‵ ftrue) ∷ ‵ (finally u64 γ-list list₁) ∷ []) ∵
-      suffices ! _ (ends-at 𝓤 H A F.ended stayed (F.clauses 𝓤 H A at-mem run) W (((κ, (κ1, tt)), (q, (q1, tt)), tt, a, vals), tt) (vint w64 (r .code)) (r .code) (r .session, (tt, (list₁, tt))) (tt, (tt, (l-list, tt)))) $ says ! e $
+      suffices ! _ (ends-at 𝓤 H A F.ended stayed (F.clauses 𝓤 H A at-mem run) W (((κ, (κ1, tt)), (q, (q1, tt)), tt, a, vals), tt) (vint w64 (r .code)) (r .code) (r .session, (tt, (list₁, tt))) (tt, (tt, (l-list, tt)))) $ says-all ! (Says h net list₀ r list₁) e $
       -- the tokens, what is had of the parameters, and the result
       move ! (2 ∷ 3 ∷ []) $ join ! $ frame ! $ feqI ! (List Val) (vptr b o ∷ []) (vptr b o ∷ []) refl $ fjoin3 ! $
       nothing ! $ move ! (2 ∷ 0 ∷ []) $ fjoin ! $ nothing ! $ fjoin ! $ move ! (1 ∷ 0 ∷ []) $ fjoin ! $
@@ -129,8 +134,8 @@ module _ {M : Type 1} (𝓤 : URA M) (H : Heap 𝓤) (A : Atoms 𝓤) (W : Given
         move ! (5 ∷ 1 ∷ 6 ∷ []) $ use3 W (raw (Step 𝓤 H A at-mem run .pre to)) goes $
         calls-at ! fm (Step 𝓤 H A at-mem run) known to (and-then ! (load ! (from ! (stop !)) (look ! 9 refl)) (and-then ! (load ! (from ! (stop !)) (look ! 15 refl)) (and-then ! (load ! (from ! (stop !)) (look ! 5 refl)) (no-more !)))) (λ w.
         use1 W (later (some (λ (r : Stepped). ((‵ (flft κ1 q1) ⊛ ‵ ftrue) ⊛ ‵ (Adv.the-row .own r (w ∷ []))) ⊛ raw (ensured 𝓤 H A G.ended (G.clauses 𝓤 H A at-mem run) (κ1, tt) (h, (net, (x-list, tt))) tt r)))) (id⊢ 𝓤 _) $ await ! tt $ pick ! (λ r.
-        split ! $ move ! (1 ∷ []) $ use1 W (some (λ (zs : Unit {0} × (Unit {0} × (List ℕ × (Unit {0})))). ‵ (lasts G.ended (κ1, tt) (h, (net, (x-list, tt))) zs) ⊛ raw (fact 𝓤 (Says h net list₀ r (zs .1 .1 .0))))) (id⊢ 𝓤 _) $ pick ! (λ zs.
-        split ! $ move ! (1 ∷ []) $ heard ! (Says h net list₀ r (zs .1 .1 .0)) (λ e. fsplit ! $ drop ! $
+        split ! $ move ! (1 ∷ []) $ use1 W (some (λ (zs : Unit {0} × (Unit {0} × (List ℕ × (Unit {0})))). ‵ (lasts G.ended (κ1, tt) (h, (net, (x-list, tt))) zs) ⊛ raw (facts 𝓤 (Says h net list₀ r (zs .1 .1 .0))))) (id⊢ 𝓤 _) $ pick ! (λ zs.
+        split ! $ move ! (1 ∷ []) $ hears ! (Says h net list₀ r (zs .1 .1 .0)) (λ e. fsplit ! $ drop ! $
         fsplit ! $ drop ! $ fsplit ! $ fsplit ! $ move ! (1 ∷ []) $ feqL ! (λ l-list. move ! (1 ∷ []) $ drop ! $
         -- [the last lists, the last first; the tokens and the result; the cell; …]
         move ! (1 ∷ []) $ split ! $ move ! (1 ∷ []) $ peeks ! Adv.the-row (Is Adv.the-row) (shows 𝓤 H A Adv.the-row) r (w ∷ []) (λ is.

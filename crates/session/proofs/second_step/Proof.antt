@@ -63,7 +63,7 @@ module _ (session : Session) (answers : List ℕ) where
       → (done .session ≡ second-answered session answers .session) × (done .code ≡ second-answered session answers .code)
   owed number done r e =
       let o = step-refused (second-answer session answers) (finished (session .network) (state-read session answers) (length (vectors-driven session))) session number done [] r e in
-      (o .0, o .1)
+      (o .0, o .1 .0)
 
 -- a list to which nothing is written
 nothing : (list : List ℕ) → lent-after (full []) list ≡ list
@@ -309,7 +309,7 @@ returns-5 c =
     (c .finished .result) [] [] []
     (accepted (session w) (given z) (waits (waiting w)) (nine (passed e)) (ten e) (not-true _ (sym (fits-is z) ∙ fits)))
     (c .finished .ensures ∙ ap₂ (finished (session w .network)) (state-is z fits) (spent-is z)) (sym (nothing [])) in
-    (o .0, o .1)
+    (o .0, o .1 .0)
 
 pub second-step-spec : {M : Type 1} → statement M
 second-step-spec =

@@ -1,12 +1,13 @@
 use borrow.Author.Needs.{needs}
 use Prim.Native.Nat.{ℕ}
-use mathlib.Core.Path.{refl, ap, _∙_}
+use mathlib.Core.Path.{ap, _∙_}
 use mathlib.Core.List.{List}
 use lib.ListN.{length}
-use Rattle.words.specs.Answers.{Answer, lent-after}
+use Rattle.words.specs.Answers.{Answer}
 use Rattle.writer.specs.Writer.{write-answer}
 use Rattle.packing.specs.Packed.{network-of}
-use Rattle.agreement.proofs.InWordsLaws.{lent-of-length, wrote-in-words}
+use Rattle.exports.specs.Exported.{fixed-after}
+use Rattle.agreement.proofs.InWordsLaws.{wrote-in-words}
 use Rattle.agreement.proofs.through_c.write_job.Statement.{statement}
 use Rattle.agreement.proofs.through_c.write_job.Tie as tie
 
@@ -16,22 +17,14 @@ fontarelga-write-job-requires c κs = search needs
 same-length : tie.Need-same-length
 same-length c = search needs
 
-same-length-2 : tie.Need-same-length-2
-same-length-2 c = search needs
-
 returns : tie.Need-returns
 returns c =
-    let done = c .before .before .before .before in
-    let a = done .before .before .before .before .before .before .before .args in
+    let done = c .before .before in
+    let a = done .before .before .before .before .before .before .args in
     let e = done .fontarelga-write-job .ensures in
-    let lent = a .size .now in
-    let answer = write-answer (network-of (a .nets)) (a .class) (a .vectors .now) (a .responses .now) (length (a .file .now)) in (
-      e .0 ∙ wrote-in-words 1 lent answer .0,
-      (
-        e .1 .0 ∙ lent-of-length 1 lent answer (λ (b : Answer (List ℕ)). b) (a .file .now) refl,
-        e .1 .1 ∙ ap (λ (b : Answer (List ℕ)). lent-after b lent) (wrote-in-words 1 lent answer .1),
-      ),
-    )
+    let answer = write-answer (network-of (a .nets)) (a .class) (a .vectors .now) (a .responses .now) (length (a .file .now)) in
+    let words = wrote-in-words answer in
+    (e .0 ∙ words .0, (e .1 .0, e .1 .1 ∙ ap (λ (b : Answer (List ℕ)). fixed-after b (a .size .now)) (words .1)))
 
 pub write-job-spec : {M : Type 1} → statement M
-write-job-spec = tie.close (tie.spec fontarelga-write-job-requires same-length same-length-2 returns)
+write-job-spec = tie.close (tie.spec fontarelga-write-job-requires same-length returns)

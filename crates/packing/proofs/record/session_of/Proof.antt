@@ -4,7 +4,8 @@ use mathlib.Core.Path.{_≡_, ap₂, _∙_}
 use mathlib.Core.List.{List}
 use lib.ListN.{take, drop}
 use Rattle.words.specs.Bits.{at}
-use Rattle.packing.specs.Packed.{session-of}
+use Rattle.session.specs.declared.Session.{Session}
+use Rattle.packing.specs.Packed.{network-of, session-of}
 use Rattle.packing.proofs.Words.{all-written}
 use Rattle.packing.proofs.record.session_of.Statement.{statement}
 use Rattle.packing.proofs.record.session_of.Tie as tie
@@ -39,22 +40,31 @@ slice-aggregate-copy-words-2 c = search needs
 copy-words-requires-2 : tie.Need-copy-words-requires-2
 copy-words-requires-2 c κs = search needs
 
-shared-slice-read-t17 : tie.Need-shared-slice-read-t17
-shared-slice-read-t17 c = search needs
+element-copy-out-t20 : tie.Need-element-copy-out-t20
+element-copy-out-t20 c = search needs
 
-shared-slice-read-t19 : tie.Need-shared-slice-read-t19
-shared-slice-read-t19 c = search needs
+element-copy-out-t23 : tie.Need-element-copy-out-t23
+element-copy-out-t23 c = search needs
 
-shared-slice-read-t24 : tie.Need-shared-slice-read-t24
-shared-slice-read-t24 c = search needs
+element-copy-out-t29 : tie.Need-element-copy-out-t29
+element-copy-out-t29 c = search needs
 
 returns : tie.Need-returns
 unfolding session-of
 returns c =
     let a = c .before .before .before .before .before .before .before .before .before .before .before .before .args in
-    let first : _ ≡ take 8 (drop 2 (a .words .now)) = c .before .before .before .before .before .before .before .before .copy-words .ensures ∙ all-written _ _ (search needs) in
-    let reaches : _ ≡ take 48 (drop 10 (a .words .now)) = c .before .before .before .before .copy-words2 .ensures ∙ all-written _ _ (search needs) in
-    ap₂ (λ (f r : List ℕ). record { step = at (a .words .now) 0; network = record { nets = at (a .words .now) 1 }; first = f; reaches = r; spent = at (a .words .now) 58 }) first reaches
+    let first : _ ≡ take 8 (drop 2 (a .words .now)) =
+    c .before .before .before .before .before .before .before .before .copy-words .ensures ∙ all-written _ _ (search needs) in
+    let reaches : _ ≡ take 48 (drop 10 (a .words .now)) =
+    c .before .before .before .before .copy-words2 .ensures ∙ all-written _ _ (search needs) in
+    let of : List ℕ → List ℕ → Session = λ first reaches. record {
+      step = at (a .words .now) 0;
+      network = network-of (at (a .words .now) 1);
+      first = first;
+      reaches = reaches;
+      spent = at (a .words .now) 58;
+    } in
+    (ap₂ of first reaches, search needs)
 
 pub session-of-spec : {M : Type 1} → statement M
 session-of-spec =
@@ -70,7 +80,7 @@ session-of-spec =
     part-copy-words-end-2
     slice-aggregate-copy-words-2
     copy-words-requires-2
-    shared-slice-read-t17
-    shared-slice-read-t19
-    shared-slice-read-t24
+    element-copy-out-t20
+    element-copy-out-t23
+    element-copy-out-t29
     returns)
