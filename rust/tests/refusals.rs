@@ -9,7 +9,7 @@ mod support;
 use model::checker::rows_of_check;
 use model::diagnosis::{rows_of_diagnose, rows_of_findings};
 use model::jobfile::{laid_out, reader_rows_holding, rows_of_write_job};
-use model::network::{respond, rows_of_respond};
+use model::responding::{respond, rows_of_respond};
 use model::session::{rows_of_begin, rows_of_first_answers, rows_of_second_answers};
 use model::{check, diagnose, findings, read_job, write_job, Record};
 use std::collections::BTreeSet;
@@ -54,8 +54,8 @@ impl<I: Clone> Table<I> {
         println!("rows {:?}: {} inputs", self.rows, 1 + self.ways.len() + self.ways.len().pow(2));
     }
 
-    /// Every row was returned, and every two rows held at once with no earlier one. There are no two rows of a call that
-    /// cannot.
+    /// Every row was returned, and every two rows held at once with no earlier one. There are no two rows of a call
+    /// that cannot.
     fn assert_all_tried(&self, together: &BTreeSet<(u64, u64)>) {
         for (i, row) in self.rows.iter().enumerate() {
             assert!(together.contains(&(*row, *row)), "row {row} was never the first");

@@ -1,8 +1,9 @@
 //! Reading back: the state that fits a response, and the findings.
 
 use crate::checker::{check, sets_of_class, Verdict};
-use crate::network::{all_states, bit, extended, is_state, meet_and_differ, reads, response, word_of};
+use crate::network::{all_states, extended, is_state, meet_and_differ, reads, response};
 use crate::rows::{bad_net_count, bad_state, rows_of_responses, rows_of_set, Rows};
+use crate::words::{bit, word_of};
 
 /// A record of the findings.
 #[derive(Clone, Copy, Debug, PartialEq, Eq)]

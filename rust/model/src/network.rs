@@ -1,11 +1,6 @@
 //! The network: what receivers read, and wiring states.
 
-use crate::rows::{bad_state, rows_of_set, Rows};
-
-/// Bit i of a word.
-pub fn bit(word: u64, i: u64) -> bool {
-    i < 64 && (word >> i) & 1 == 1
-}
+use crate::words::{bit, word_of};
 
 /// What a receiver with this reach reads on a vector.
 pub fn reads(reach: u64, vector: u64) -> bool {
@@ -18,11 +13,6 @@ pub fn reads(reach: u64, vector: u64) -> bool {
 pub fn read_along(reach: u64, vectors: &[u64]) -> u64 {
     assert!(vectors.len() <= 64, "a sequential word has 64 bits");
     word_of(vectors.iter().map(|vector| reads(reach, *vector)))
-}
-
-/// The word with these bits, bit 0 first.
-pub fn word_of(bits: impl Iterator<Item = bool>) -> u64 {
-    bits.enumerate().map(|(i, bit)| u64::from(bit) << i).sum()
 }
 
 /// The response of a state: a parallel word a vector.
@@ -68,16 +58,6 @@ pub fn all_lists(limit: u64, length: usize) -> Vec<Vec<u64>> {
         lists = lists.iter().flat_map(|front| (0..limit).map(|word| extended(front, word))).collect();
     }
     lists
-}
-
-pub fn rows_of_respond<'a>(n: u64, k: u64, vectors: &'a [u64], state: &'a [u64], room: usize) -> Rows<'a> {
-    rows_of_set(n, k, vectors).row(11, move || bad_state(n, k, state)).row(12, move || room < vectors.len())
-}
-
-/// The call *response from a state*.
-pub fn respond(n: u64, k: u64, vectors: &[u64], state: &[u64], room: usize) -> Result<Vec<u64>, u64> {
-    rows_of_respond(n, k, vectors, state, room).admit()?;
-    Ok(response(vectors, state))
 }
 
 #[cfg(test)]

@@ -1,6 +1,7 @@
 //! The table "Where a call is turned away": its rows, each a test of its own.
 
-use crate::network::{bit, is_state};
+use crate::network::is_state;
+use crate::words::bit;
 
 /// The rows of a call in the table's order: number, and whether it holds.
 #[derive(Default)]

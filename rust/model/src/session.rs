@@ -1,8 +1,9 @@
 //! The two-step session.
 
 use crate::diagnosis::{fitting_by_receivers, fitting_states, only};
-use crate::network::{bit, is_state, response, word_of};
+use crate::network::{is_state, response};
 use crate::rows::{bad_net_count, rows_of_responses, Rows};
+use crate::words::{bit, word_of};
 
 /// Waits for first answers.
 pub const FIRST: u64 = 1;
