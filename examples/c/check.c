@@ -17,15 +17,15 @@ int main(void)
     const size_t count = sizeof vectors / sizeof vectors[0];
     uint64_t verdict[FONTARELGA_VERDICT_WORDS];
 
-    uint64_t refusal = fontarelga_check(nets, class_, vectors, count, verdict, FONTARELGA_VERDICT_WORDS);
+    uint64_t refusal = fontarelga_check(nets, class_, vectors, count, verdict);
     if (refusal != 0) {
         printf("refused %" PRIu64 "\n", refusal);
         return 1;
     }
-    if (verdict[0] == 0) {
-        printf("pass\n");
+    if (verdict[FONTARELGA_VERDICT_IS_PAIR]) {
+        printf("pair %" PRIu64 " %" PRIu64 "\n", verdict[FONTARELGA_VERDICT_A], verdict[FONTARELGA_VERDICT_B]);
     } else {
-        printf("pair %" PRIu64 " %" PRIu64 "\n", verdict[1], verdict[2]);
+        printf("pass\n");
     }
     return 0;
 }

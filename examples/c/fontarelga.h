@@ -3,12 +3,21 @@
  * Link with libexports.a, which `rt staticlib exports` writes to target/staticlib. It wants memcpy and memset.
  *
  * A call returns 0 if it is accepted, else the number of the first row of the table of refusals that holds. After a
- * refusal every list is as it was. A result goes to the front of a list; a longer list keeps its tail. A list of fixed
- * length (verdict, session, job, size) that has another length is refused with FONTARELGA_WRONG_LENGTH, before any row.
+ * refusal every list is as it was. A result goes to the front of a list; a longer list keeps its tail.
  *
- * A list is a pointer and a length in elements. Any numbers, any bytes and any lengths are ordinary inputs. The caller
- * owes pointers that are not null, also for length 0, words aligned to 8 bytes, and that a list which is written
- * overlaps no other list of the call.
+ * A list is a pointer and a length in elements. One that always has the same length (verdict, session, job) is a
+ * pointer alone, and its length stands in the brackets. Any numbers, any bytes and any lengths are ordinary inputs.
+ * The caller owes:
+ *
+ * - pointers that are not null, also for length 0, and words aligned to 8 bytes;
+ * - as many elements behind a pointer as its length says, or the brackets; behind size one word;
+ * - that what a call writes overlaps nothing else that it is given.
+ *
+ * A call allocates nothing: what it needs it takes from the stack. Check and diagnosis take up to 300,000 bytes of it,
+ * for every class; all else takes up to 10,000. So check and diagnosis run on a thread with a stack of at least
+ * FONTARELGA_CHECK_STACK_BYTES (320 KB), all else with FONTARELGA_OTHER_STACK_BYTES (32 KB). By default a thread has
+ * 8 MB on Linux with glibc, but 128 KB with musl. A program whose threads have less makes the call on a thread to which
+ * it gives as much, with pthread_attr_setstacksize.
  *
  * nets is n, 2 to 48. class_ is k: 1, 2, 3 or n. Bit i of a word stands for net i. */
 
@@ -22,16 +31,24 @@
 extern "C" {
 #endif
 
-#define FONTARELGA_WRONG_LENGTH 99
-#define FONTARELGA_VERDICT_WORDS 3
-#define FONTARELGA_SESSION_WORDS 59
-#define FONTARELGA_JOB_WORDS 4
-#define FONTARELGA_SIZE_WORDS 1
+/* The most that a network, a test set and a job file may have. */
+#define FONTARELGA_MOST_NETS 48
+#define FONTARELGA_MOST_VECTORS 64
+#define FONTARELGA_MOST_FILE_BYTES 2048
 
-/* Can the test set tell all states of the class apart? verdict: 0 0 0 for pass, 1 A B for a pair of driver sets that
- * it cannot tell apart. Rows 5 to 8. */
+/* The stack of a thread that is enough for check and diagnosis, and for all else. */
+#define FONTARELGA_CHECK_STACK_BYTES 327680
+#define FONTARELGA_OTHER_STACK_BYTES 32768
+
+/* A verdict: 0 0 0 for pass, or 1 and a pair of driver sets that the test set cannot tell apart. */
+#define FONTARELGA_VERDICT_WORDS 3
+#define FONTARELGA_VERDICT_IS_PAIR 0
+#define FONTARELGA_VERDICT_A 1
+#define FONTARELGA_VERDICT_B 2
+
+/* Can the test set tell all states of the class apart? Rows 5 to 8. */
 uint64_t fontarelga_check(uint64_t nets, uint64_t class_, const uint64_t *vectors, size_t vectors_len,
-                          uint64_t *verdict, size_t verdict_len);
+                          uint64_t verdict[FONTARELGA_VERDICT_WORDS]);
 
 /* The response of a wiring state of nets words: a word a vector. Rows 5 to 8, 11, 12. */
 uint64_t fontarelga_respond(uint64_t nets, uint64_t class_, const uint64_t *vectors, size_t vectors_len,
@@ -41,39 +58,67 @@ uint64_t fontarelga_respond(uint64_t nets, uint64_t class_, const uint64_t *vect
 uint64_t fontarelga_diagnose(uint64_t nets, uint64_t class_, const uint64_t *vectors, size_t vectors_len,
                              const uint64_t *responses, size_t responses_len, uint64_t *state, size_t state_len);
 
-/* What is found on each net of a state: three words a net, kind (0 sound, 1 open, 2 short, 3 both), reach, partners.
- * A table has room for a third as many records as it has words. Rows 5, 11, 12. */
+/* A finding: kind (0 sound, 1 open, 2 short, 3 both), reach, partners. */
+#define FONTARELGA_FINDING_WORDS 3
+#define FONTARELGA_FINDING_KIND 0
+#define FONTARELGA_FINDING_REACH 1
+#define FONTARELGA_FINDING_PARTNERS 2
+
+/* What is found on each net of a state: a finding a net. A table has room for a third as many findings as it has words.
+ * Rows 5, 11, 12. */
 uint64_t fontarelga_findings(uint64_t nets, const uint64_t *state, size_t state_len, uint64_t *table,
                              size_t table_len);
 
-/* A session record: step (1 waits for first answers, 2 for second answers, 3 finished), nets, 8 words of first
- * answers, 48 reaches, vectors spent. What a step does not use is 0. A record of any content may be given to begin. */
+/* A session record: step, nets, 8 words of first answers, 48 reaches, vectors spent. What a step does not use is 0. A
+ * record of any content may be given to begin. */
+#define FONTARELGA_SESSION_WORDS 59
+#define FONTARELGA_SESSION_STEP 0
+#define FONTARELGA_SESSION_NETS 1
+#define FONTARELGA_SESSION_FIRST_ANSWERS 2
+#define FONTARELGA_SESSION_REACHES 10
+#define FONTARELGA_SESSION_SPENT 58
 
-/* Starts the record anew, and writes the vectors of step one, at most 8. Rows 5, 12. */
-uint64_t fontarelga_begin(uint64_t *session, size_t session_len, uint64_t nets, uint64_t *first, size_t first_len);
+/* The steps of a session: it waits for first answers, it waits for second answers, it is finished. */
+#define FONTARELGA_STEP_FIRST 1
+#define FONTARELGA_STEP_SECOND 2
+#define FONTARELGA_STEP_FINISHED 3
 
-/* Takes the answers to step one. Writes the vectors of step two, at most 49, if a net is unclear; else the session is
- * finished. Rows 4, 9, 10, 12. */
-uint64_t fontarelga_first_answers(uint64_t *session, size_t session_len, const uint64_t *answers, size_t answers_len,
-                                  uint64_t *second, size_t second_len);
+/* The most vectors of step one, and of step two. */
+#define FONTARELGA_MOST_FIRST_VECTORS 8
+#define FONTARELGA_MOST_SECOND_VECTORS 49
+
+/* Starts the record anew, and writes the vectors of step one. Rows 5, 12. */
+uint64_t fontarelga_begin(uint64_t session[FONTARELGA_SESSION_WORDS], uint64_t nets, uint64_t *first,
+                          size_t first_len);
+
+/* Takes the answers to step one. Writes the vectors of step two if a net is unclear; else the session is finished.
+ * Rows 4, 9, 10, 12. */
+uint64_t fontarelga_first_answers(uint64_t session[FONTARELGA_SESSION_WORDS], const uint64_t *answers,
+                                  size_t answers_len, uint64_t *second, size_t second_len);
 
 /* Takes the answers to step two, and finishes with the only state that fits both steps. Rows 4, 9, 10, 14. */
-uint64_t fontarelga_second_answers(uint64_t *session, size_t session_len, const uint64_t *answers,
+uint64_t fontarelga_second_answers(uint64_t session[FONTARELGA_SESSION_WORDS], const uint64_t *answers,
                                    size_t answers_len);
 
-/* How many words to drive next, from the start of first if word 0 of the session is 1, of second if it is 2; 0 if
- * none. No refusal: a session of another length gives 0 too. */
-uint64_t fontarelga_to_drive(const uint64_t *session, size_t session_len, const uint64_t *first, size_t first_len,
-                             const uint64_t *second, size_t second_len);
+/* How many words to drive next, from the start of first in step 1, of second in step 2; 0 if none. No refusal. */
+uint64_t fontarelga_to_drive(const uint64_t session[FONTARELGA_SESSION_WORDS], const uint64_t *first,
+                             size_t first_len, const uint64_t *second, size_t second_len);
 
-/* Reads a job file. job: nets, class, number of vectors, number of responses. Rows 1 to 3, 5 to 10, 12. */
+/* A job: nets, class, number of vectors, number of responses. */
+#define FONTARELGA_JOB_WORDS 4
+#define FONTARELGA_JOB_NETS 0
+#define FONTARELGA_JOB_CLASS 1
+#define FONTARELGA_JOB_VECTORS 2
+#define FONTARELGA_JOB_RESPONSES 3
+
+/* Reads a job file. Rows 1 to 3, 5 to 10, 12. */
 uint64_t fontarelga_read_job(const uint8_t *file, size_t file_len, uint64_t *vectors, size_t vectors_len,
-                             uint64_t *responses, size_t responses_len, uint64_t *job, size_t job_len);
+                             uint64_t *responses, size_t responses_len, uint64_t job[FONTARELGA_JOB_WORDS]);
 
-/* Writes a job file, with two entries if there are no responses. size: how many bytes. Rows 5 to 10, 12. */
+/* Writes a job file, with two entries if there are no responses. size: one word, how many bytes. Rows 5 to 10, 12. */
 uint64_t fontarelga_write_job(uint64_t nets, uint64_t class_, const uint64_t *vectors, size_t vectors_len,
                               const uint64_t *responses, size_t responses_len, uint8_t *file, size_t file_len,
-                              uint64_t *size, size_t size_len);
+                              uint64_t *size);
 
 #ifdef __cplusplus
 }

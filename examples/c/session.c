@@ -1,0 +1,76 @@
+/* Finds the wiring state of a simulated board of four nets in a session, and prints what is driven and read, the
+ * reaches found, and the number of vectors spent.
+ *
+ * At the repository's root, after `rt staticlib exports`:
+ *
+ *     cc examples/c/session.c target/staticlib/libexports.a -o target/session && target/session
+ */
+
+#include "fontarelga.h"
+
+#include <inttypes.h>
+#include <stdio.h>
+
+enum { NETS = 4, FIRST = FONTARELGA_MOST_FIRST_VECTORS, SECOND = FONTARELGA_MOST_SECOND_VECTORS };
+
+/* The board: nets 0 and 1 are tied together, and receiver 2 floats. */
+static const uint64_t board[NETS] = {3, 3, 0, 8};
+
+/* What the board's receivers read: 1 if the receiver floats, or if a driver in its reach drives 1. */
+static uint64_t read_board(uint64_t vector)
+{
+    uint64_t word = 0;
+    for (int net = 0; net < NETS; net++) {
+        if (board[net] == 0 || (board[net] & vector) != 0) {
+            word |= UINT64_C(1) << net;
+        }
+    }
+    return word;
+}
+
+static void print_words(const char *name, const uint64_t *words, uint64_t count)
+{
+    printf("%s", name);
+    for (uint64_t i = 0; i < count; i++) {
+        printf(" %" PRIu64, words[i]);
+    }
+    printf("\n");
+}
+
+/* Drives the vectors of the step that the session waits for, and gives it the answers. Returns its refusal, or 0. */
+static uint64_t do_step(uint64_t session[FONTARELGA_SESSION_WORDS], const uint64_t first[FIRST],
+                        uint64_t second[SECOND])
+{
+    const int in_step_one = session[FONTARELGA_SESSION_STEP] == FONTARELGA_STEP_FIRST;
+    const uint64_t *vectors = in_step_one ? first : second;
+    const uint64_t count = fontarelga_to_drive(session, first, FIRST, second, SECOND);
+    uint64_t answers[SECOND] = {0};
+
+    for (uint64_t i = 0; i < count; i++) {
+        answers[i] = read_board(vectors[i]);
+    }
+    print_words("drive", vectors, count);
+    print_words("read", answers, count);
+    if (in_step_one) {
+        return fontarelga_first_answers(session, answers, count, second, SECOND);
+    }
+    return fontarelga_second_answers(session, answers, count);
+}
+
+int main(void)
+{
+    uint64_t session[FONTARELGA_SESSION_WORDS] = {0};
+    uint64_t first[FIRST] = {0}, second[SECOND] = {0};
+
+    uint64_t refusal = fontarelga_begin(session, NETS, first, FIRST);
+    while (refusal == 0 && session[FONTARELGA_SESSION_STEP] != FONTARELGA_STEP_FINISHED) {
+        refusal = do_step(session, first, second);
+    }
+    if (refusal != 0) {
+        printf("refused %" PRIu64 "\n", refusal);
+        return 1;
+    }
+    print_words("reaches", &session[FONTARELGA_SESSION_REACHES], NETS);
+    print_words("spent", &session[FONTARELGA_SESSION_SPENT], 1);
+    return 0;
+}
