@@ -1,7 +1,9 @@
 //! The calls on test sets, responses and states.
 
 use crate::interface as raw;
-use crate::{Refusal, MOST_NETS};
+use crate::network::Network;
+use crate::refusal::Refusal;
+use crate::sizes::{FINDING_WORDS, MOST_NETS, VERDICT_WORDS};
 
 /// The checker's answer.
 #[derive(Clone, Copy, Debug, PartialEq, Eq, Hash)]
@@ -49,19 +51,20 @@ pub struct Finding {
 
 /// Can a test set tell all states of a class apart?
 ///
-/// `nets` is n, 2 to 48. `class` is 1, 2, 3 or n: the most drivers that a reach may have. `vectors` has 1 to 64 words;
-/// bit i is what driver i drives.
+/// The network has n nets, 2 to 48. `class` is 1, 2, 3 or n: the most drivers that a reach may have. `vectors` has 1 to
+/// 64 words; bit i is what driver i drives.
 ///
 /// Refused: 5, 6, 7, 8.
 ///
 /// ```
-/// use fontarelga::{check, Verdict};
-/// assert_eq!(check(4, 4, &[0, 1, 2, 4, 8]), Ok(Verdict::Pass));
-/// assert_eq!(check(4, 4, &[1, 2, 4, 8]), Ok(Verdict::Pair { a: 0, b: 15 }));
+/// use fontarelga::{check, Network, Verdict};
+/// let network = Network::new(4);
+/// assert_eq!(check(network, 4, &[0, 1, 2, 4, 8]), Ok(Verdict::Pass));
+/// assert_eq!(check(network, 4, &[1, 2, 4, 8]), Ok(Verdict::Pair { a: 0, b: 15 }));
 /// ```
-pub fn check(nets: u64, class: u64, vectors: &[u64]) -> Result<Verdict, Refusal> {
-    let mut verdict = [0; 3];
-    Refusal::from_code(raw::check(nets, class, vectors, &mut verdict))?;
+pub fn check(network: impl Into<Network>, class: u64, vectors: &[u64]) -> Result<Verdict, Refusal> {
+    let mut verdict = [0; VERDICT_WORDS];
+    Refusal::from_code(raw::check(network, class, vectors, &mut verdict))?;
     Ok(match verdict {
         [0, ..] => Verdict::Pass,
         [_, a, b] => Verdict::Pair { a, b },
@@ -75,12 +78,13 @@ pub fn check(nets: u64, class: u64, vectors: &[u64]) -> Result<Verdict, Refusal>
 /// Refused: 5, 6, 7, 8, 11.
 ///
 /// ```
-/// let response = fontarelga::respond(4, 4, &[0, 1, 2, 4, 8], &[3, 3, 0, 8]);
+/// use fontarelga::{respond, Network};
+/// let response = respond(Network::new(4), 4, &[0, 1, 2, 4, 8], &[3, 3, 0, 8]);
 /// assert_eq!(response, Ok(vec![4, 7, 7, 4, 12]));
 /// ```
-pub fn respond(nets: u64, class: u64, vectors: &[u64], state: &[u64]) -> Result<Vec<u64>, Refusal> {
+pub fn respond(network: impl Into<Network>, class: u64, vectors: &[u64], state: &[u64]) -> Result<Vec<u64>, Refusal> {
     let mut response = vec![0; vectors.len()];
-    Refusal::from_code(raw::respond(nets, class, vectors, state, &mut response))?;
+    Refusal::from_code(raw::respond(network, class, vectors, state, &mut response))?;
     Ok(response)
 }
 
@@ -91,15 +95,21 @@ pub fn respond(nets: u64, class: u64, vectors: &[u64], state: &[u64]) -> Result<
 /// Refused: 5, 6, 7, 8, 9, 10, 13, 14.
 ///
 /// ```
-/// use fontarelga::{diagnose, Refusal};
-/// let vectors = [0, 1, 2, 4, 8];
-/// assert_eq!(diagnose(4, 4, &vectors, &[4, 7, 7, 4, 12]), Ok(vec![3, 3, 0, 8]));
-/// assert_eq!(diagnose(4, 4, &vectors, &[4, 7, 7, 4, 4]), Err(Refusal(14)));
+/// use fontarelga::{diagnose, Network, Refusal};
+/// let (network, vectors) = (Network::new(4), [0, 1, 2, 4, 8]);
+/// assert_eq!(diagnose(network, 4, &vectors, &[4, 7, 7, 4, 12]), Ok(vec![3, 3, 0, 8]));
+/// assert_eq!(diagnose(network, 4, &vectors, &[4, 7, 7, 4, 4]), Err(Refusal(14)));
 /// ```
-pub fn diagnose(nets: u64, class: u64, vectors: &[u64], responses: &[u64]) -> Result<Vec<u64>, Refusal> {
+pub fn diagnose(
+    network: impl Into<Network>,
+    class: u64,
+    vectors: &[u64],
+    responses: &[u64],
+) -> Result<Vec<u64>, Refusal> {
+    let network = network.into();
     let mut state = [0; MOST_NETS];
-    Refusal::from_code(raw::diagnose(nets, class, vectors, responses, &mut state))?;
-    Ok(state[..nets as usize].to_vec())
+    Refusal::from_code(raw::diagnose(network, class, vectors, responses, &mut state))?;
+    Ok(state[..network.nets() as usize].to_vec())
 }
 
 /// What is found on each net of a wiring state, net 0 first.
@@ -107,14 +117,15 @@ pub fn diagnose(nets: u64, class: u64, vectors: &[u64], responses: &[u64]) -> Re
 /// Refused: 5, 11 (for class n).
 ///
 /// ```
-/// use fontarelga::{findings, Finding, Kind};
-/// let found = findings(4, &[3, 3, 0, 8]).unwrap();
+/// use fontarelga::{findings, Finding, Kind, Network};
+/// let found = findings(Network::new(4), &[3, 3, 0, 8]).unwrap();
 /// assert_eq!(found[0], Finding { kind: Kind::Short, reach: 3, partners: 2 });
 /// assert_eq!(found[2], Finding { kind: Kind::Open, reach: 0, partners: 0 });
 /// ```
-pub fn findings(nets: u64, state: &[u64]) -> Result<Vec<Finding>, Refusal> {
-    let mut table = [0; 3 * MOST_NETS];
-    Refusal::from_code(raw::findings(nets, state, &mut table))?;
+pub fn findings(network: impl Into<Network>, state: &[u64]) -> Result<Vec<Finding>, Refusal> {
+    let network = network.into();
+    let mut table = [0; FINDING_WORDS * MOST_NETS];
+    Refusal::from_code(raw::findings(network, state, &mut table))?;
     let record = |r: &[u64]| Finding { kind: Kind::from_number(r[0]), reach: r[1], partners: r[2] };
-    Ok(table.chunks(3).take(nets as usize).map(record).collect())
+    Ok(table.chunks(FINDING_WORDS).take(network.nets() as usize).map(record).collect())
 }

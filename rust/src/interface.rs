@@ -1,7 +1,10 @@
 //! The C interface, and a safe function over each of its calls. The only file with `unsafe`.
 //!
-//! A list is a pointer and a length in elements. A call writes nothing but the lists that it is lent for writing, and
-//! keeps no pointer; it takes any numbers, any bytes and any lengths.
+//! A list is a pointer and a length in elements; one of a fixed length is a pointer alone. A call writes nothing but
+//! the lists that it is lent for writing, and keeps no pointer; it takes any numbers, any bytes and any lengths.
+
+use crate::network::Network;
+use crate::sizes::{JOB_WORDS, RECORD_WORDS, VERDICT_WORDS};
 
 mod c {
     extern "C" {
@@ -11,7 +14,6 @@ mod c {
             vectors: *const u64,
             vectors_len: usize,
             verdict: *mut u64,
-            verdict_len: usize,
         ) -> u64;
 
         pub fn fontarelga_respond(
@@ -44,33 +46,20 @@ mod c {
             table_len: usize,
         ) -> u64;
 
-        pub fn fontarelga_begin(
-            session: *mut u64,
-            session_len: usize,
-            nets: u64,
-            first: *mut u64,
-            first_len: usize,
-        ) -> u64;
+        pub fn fontarelga_begin(session: *mut u64, nets: u64, first: *mut u64, first_len: usize) -> u64;
 
         pub fn fontarelga_first_answers(
             session: *mut u64,
-            session_len: usize,
             answers: *const u64,
             answers_len: usize,
             second: *mut u64,
             second_len: usize,
         ) -> u64;
 
-        pub fn fontarelga_second_answers(
-            session: *mut u64,
-            session_len: usize,
-            answers: *const u64,
-            answers_len: usize,
-        ) -> u64;
+        pub fn fontarelga_second_answers(session: *mut u64, answers: *const u64, answers_len: usize) -> u64;
 
         pub fn fontarelga_to_drive(
             session: *const u64,
-            session_len: usize,
             first: *const u64,
             first_len: usize,
             second: *const u64,
@@ -85,7 +74,6 @@ mod c {
             responses: *mut u64,
             responses_len: usize,
             job: *mut u64,
-            job_len: usize,
         ) -> u64;
 
         pub fn fontarelga_write_job(
@@ -98,24 +86,25 @@ mod c {
             file: *mut u8,
             file_len: usize,
             size: *mut u64,
-            size_len: usize,
         ) -> u64;
     }
 }
 
-// In each function below: pointer and length come from one slice, so they name memory that may be read, and written
-// where the slice is `&mut`. The slices that are written overlap no other, since they are borrowed.
+// In each function below: pointer and length come from one slice, and a pointer alone from an array of the length that
+// the call has, or from a word. So they name memory that may be read, and written where it is `&mut`. What is written
+// overlaps nothing else, since it is borrowed.
 
-/// Pass is 0 0 0 in `verdict`, a pair 1 A B. Exactly 3 words, else 99.
-pub fn check(nets: u64, class: u64, vectors: &[u64], verdict: &mut [u64]) -> u64 {
-    unsafe { c::fontarelga_check(nets, class, vectors.as_ptr(), vectors.len(), verdict.as_mut_ptr(), verdict.len()) }
+/// Pass is 0 0 0 in `verdict`, a pair 1 A B.
+pub fn check(network: impl Into<Network>, class: u64, vectors: &[u64], verdict: &mut [u64; VERDICT_WORDS]) -> u64 {
+    let nets = network.into().nets();
+    unsafe { c::fontarelga_check(nets, class, vectors.as_ptr(), vectors.len(), verdict.as_mut_ptr()) }
 }
 
 /// A word a vector into the front of `response`.
-pub fn respond(nets: u64, class: u64, vectors: &[u64], state: &[u64], response: &mut [u64]) -> u64 {
+pub fn respond(network: impl Into<Network>, class: u64, vectors: &[u64], state: &[u64], response: &mut [u64]) -> u64 {
     unsafe {
         c::fontarelga_respond(
-            nets,
+            network.into().nets(),
             class,
             vectors.as_ptr(),
             vectors.len(),
@@ -128,10 +117,10 @@ pub fn respond(nets: u64, class: u64, vectors: &[u64], state: &[u64], response: 
 }
 
 /// A word a net into the front of `state`.
-pub fn diagnose(nets: u64, class: u64, vectors: &[u64], responses: &[u64], state: &mut [u64]) -> u64 {
+pub fn diagnose(network: impl Into<Network>, class: u64, vectors: &[u64], responses: &[u64], state: &mut [u64]) -> u64 {
     unsafe {
         c::fontarelga_diagnose(
-            nets,
+            network.into().nets(),
             class,
             vectors.as_ptr(),
             vectors.len(),
@@ -144,21 +133,22 @@ pub fn diagnose(nets: u64, class: u64, vectors: &[u64], responses: &[u64], state
 }
 
 /// Three words a net, kind, reach and partners, into the front of `table`. It has room for a third of its words.
-pub fn findings(nets: u64, state: &[u64], table: &mut [u64]) -> u64 {
+pub fn findings(network: impl Into<Network>, state: &[u64], table: &mut [u64]) -> u64 {
+    let nets = network.into().nets();
     unsafe { c::fontarelga_findings(nets, state.as_ptr(), state.len(), table.as_mut_ptr(), table.len()) }
 }
 
-/// The vectors of step one into the front of `first`. `session` has exactly 59 words, else 99.
-pub fn begin(session: &mut [u64], nets: u64, first: &mut [u64]) -> u64 {
-    unsafe { c::fontarelga_begin(session.as_mut_ptr(), session.len(), nets, first.as_mut_ptr(), first.len()) }
+/// The vectors of step one into the front of `first`.
+pub fn begin(session: &mut [u64; RECORD_WORDS], network: impl Into<Network>, first: &mut [u64]) -> u64 {
+    let nets = network.into().nets();
+    unsafe { c::fontarelga_begin(session.as_mut_ptr(), nets, first.as_mut_ptr(), first.len()) }
 }
 
-/// The vectors of step two, if a net is unclear, into the front of `second`. `session` has exactly 59 words, else 99.
-pub fn first_answers(session: &mut [u64], answers: &[u64], second: &mut [u64]) -> u64 {
+/// The vectors of step two, if a net is unclear, into the front of `second`.
+pub fn first_answers(session: &mut [u64; RECORD_WORDS], answers: &[u64], second: &mut [u64]) -> u64 {
     unsafe {
         c::fontarelga_first_answers(
             session.as_mut_ptr(),
-            session.len(),
             answers.as_ptr(),
             answers.len(),
             second.as_mut_ptr(),
@@ -167,29 +157,19 @@ pub fn first_answers(session: &mut [u64], answers: &[u64], second: &mut [u64]) -
     }
 }
 
-/// `session` has exactly 59 words, else 99.
-pub fn second_answers(session: &mut [u64], answers: &[u64]) -> u64 {
-    unsafe { c::fontarelga_second_answers(session.as_mut_ptr(), session.len(), answers.as_ptr(), answers.len()) }
+/// The only state that fits both steps, into the session.
+pub fn second_answers(session: &mut [u64; RECORD_WORDS], answers: &[u64]) -> u64 {
+    unsafe { c::fontarelga_second_answers(session.as_mut_ptr(), answers.as_ptr(), answers.len()) }
 }
 
 /// How many words to drive from the start of `first` (word 0 of the session is 1) or of `second` (it is 2); 0 if none.
-/// No refusal: a session of another length than 59 gives 0 too.
-pub fn to_drive(session: &[u64], first: &[u64], second: &[u64]) -> u64 {
-    unsafe {
-        c::fontarelga_to_drive(
-            session.as_ptr(),
-            session.len(),
-            first.as_ptr(),
-            first.len(),
-            second.as_ptr(),
-            second.len(),
-        )
-    }
+/// No refusal.
+pub fn to_drive(session: &[u64; RECORD_WORDS], first: &[u64], second: &[u64]) -> u64 {
+    unsafe { c::fontarelga_to_drive(session.as_ptr(), first.as_ptr(), first.len(), second.as_ptr(), second.len()) }
 }
 
-/// The words into the fronts of `vectors` and `responses`; nets, class and the two counts into `job`, which has exactly
-/// 4 words, else 99.
-pub fn read_job(file: &[u8], vectors: &mut [u64], responses: &mut [u64], job: &mut [u64]) -> u64 {
+/// The words into the fronts of `vectors` and `responses`; nets, class and the two counts into `job`.
+pub fn read_job(file: &[u8], vectors: &mut [u64], responses: &mut [u64], job: &mut [u64; JOB_WORDS]) -> u64 {
     unsafe {
         c::fontarelga_read_job(
             file.as_ptr(),
@@ -199,16 +179,22 @@ pub fn read_job(file: &[u8], vectors: &mut [u64], responses: &mut [u64], job: &m
             responses.as_mut_ptr(),
             responses.len(),
             job.as_mut_ptr(),
-            job.len(),
         )
     }
 }
 
-/// The bytes into the front of `file`, and their number into `size`, which has exactly 1 word, else 99.
-pub fn write_job(nets: u64, class: u64, vectors: &[u64], responses: &[u64], file: &mut [u8], size: &mut [u64]) -> u64 {
+/// The bytes into the front of `file`, and their number into `size`.
+pub fn write_job(
+    network: impl Into<Network>,
+    class: u64,
+    vectors: &[u64],
+    responses: &[u64],
+    file: &mut [u8],
+    size: &mut u64,
+) -> u64 {
     unsafe {
         c::fontarelga_write_job(
-            nets,
+            network.into().nets(),
             class,
             vectors.as_ptr(),
             vectors.len(),
@@ -216,8 +202,7 @@ pub fn write_job(nets: u64, class: u64, vectors: &[u64], responses: &[u64], file
             responses.len(),
             file.as_mut_ptr(),
             file.len(),
-            size.as_mut_ptr(),
-            size.len(),
+            size,
         )
     }
 }

@@ -4,7 +4,8 @@ use std::fmt;
 /// A call was turned away: the number of the row that held, the first in the table's order.
 ///
 /// ```
-/// let refusal = fontarelga::check(49, 1, &[1]).unwrap_err();
+/// use fontarelga::{check, Network};
+/// let refusal = check(Network::new(49), 1, &[1]).unwrap_err();
 /// assert_eq!(refusal.0, 5);
 /// assert_eq!(refusal.to_string(), "refused 5: net count: n below 2 or above 48");
 /// ```
@@ -32,7 +33,6 @@ impl Refusal {
             12 => "lent list: shorter than the result",
             13 => "separation: the checker does not pass the set",
             14 => "fit: no state of the class fits",
-            99 => "a list of fixed length has another length",
             _ => "no row of the table",
         }
     }

@@ -1,12 +1,7 @@
 use crate::interface as raw;
-use crate::{Refusal, MOST_NETS};
-
-/// How many words a session record has: step, nets, first answers, reaches, vectors spent.
-pub const RECORD_WORDS: usize = 59;
-/// The most vectors of step one.
-const MOST_FIRST: usize = 8;
-/// The most vectors of step two: vector 0 and one a net.
-const MOST_SECOND: usize = MOST_NETS + 1;
+use crate::network::Network;
+use crate::refusal::Refusal;
+use crate::sizes::{MOST_FIRST_VECTORS, MOST_SECOND_VECTORS, RECORD_WORDS};
 
 const STEP: usize = 0;
 const NETS: usize = 1;
@@ -29,8 +24,8 @@ pub enum Waits {
 /// It owns its record and the vectors of both steps. A refused call changes nothing.
 ///
 /// ```
-/// use fontarelga::{Session, Waits};
-/// let mut session = Session::begin(4)?;
+/// use fontarelga::{Network, Session, Waits};
+/// let mut session = Session::begin(Network::new(4))?;
 /// assert_eq!(session.to_drive(), [11, 5, 6, 8]);
 /// session.first_answers(&[15, 7, 7, 12])?;
 /// assert_eq!(session.to_drive(), [0, 1, 2, 4]);
@@ -43,25 +38,26 @@ pub enum Waits {
 #[derive(Clone, Debug, PartialEq, Eq)]
 pub struct Session {
     record: [u64; RECORD_WORDS],
-    first: [u64; MOST_FIRST],
-    second: [u64; MOST_SECOND],
+    first: [u64; MOST_FIRST_VECTORS],
+    second: [u64; MOST_SECOND_VECTORS],
 }
 
 impl Session {
-    /// A session on n nets that waits for first answers.
+    /// A session on this network that waits for first answers.
     ///
     /// Refused: 5.
-    pub fn begin(nets: u64) -> Result<Session, Refusal> {
-        let mut session = Session { record: [0; RECORD_WORDS], first: [0; MOST_FIRST], second: [0; MOST_SECOND] };
-        session.begin_anew(nets)?;
+    pub fn begin(network: impl Into<Network>) -> Result<Session, Refusal> {
+        let mut session =
+            Session { record: [0; RECORD_WORDS], first: [0; MOST_FIRST_VECTORS], second: [0; MOST_SECOND_VECTORS] };
+        session.begin_anew(network)?;
         Ok(session)
     }
 
     /// Begins anew, whatever the session waited for. What it was told before counts no more.
     ///
     /// Refused: 5.
-    pub fn begin_anew(&mut self, nets: u64) -> Result<(), Refusal> {
-        Refusal::from_code(raw::begin(&mut self.record, nets, &mut self.first))
+    pub fn begin_anew(&mut self, network: impl Into<Network>) -> Result<(), Refusal> {
+        Refusal::from_code(raw::begin(&mut self.record, network, &mut self.first))
     }
 
     /// Takes the answers to step one: a word a vector, in order. If a net is unclear, step two is to be driven;
@@ -96,6 +92,11 @@ impl Session {
             Waits::SecondAnswers => &self.second[..count],
             Waits::Nothing => &[],
         }
+    }
+
+    /// The network.
+    pub fn network(&self) -> Network {
+        Network::new(self.nets())
     }
 
     /// The number of nets.

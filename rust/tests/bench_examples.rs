@@ -18,7 +18,8 @@ fn checker() {
     assert_eq!(check(2, 2, &[1, 2, 0]), Ok(Verdict::Pass));
 }
 
-/// Source document 004, table II, the set for two shorts. At class 3 nets 0, 1 and 6 together read all ones; the pair shown is another.
+/// Source document 004, table II, the set for two shorts. At class 3 nets 0, 1 and 6 together read all ones; the pair
+/// shown is another.
 #[test]
 fn table_two() {
     let vectors = [34, 9, 49, 6, 76, 86, 96];
@@ -91,7 +92,7 @@ fn refusals() {
 /// The job of the report in document 01, through a file.
 #[test]
 fn job_of_the_listing() {
-    let job = Job { nets: 4, class: 4, vectors: vec![0, 1, 2, 4, 8], responses: vec![4, 7, 7, 4, 12] };
+    let job = Job { network: Network::new(4), class: 4, vectors: vec![0, 1, 2, 4, 8], responses: vec![4, 7, 7, 4, 12] };
     let file = job.write().unwrap();
     assert_eq!(&file[..5], b"BSJ1\x03");
     assert_eq!(Job::read(&file), Ok(job));
@@ -99,8 +100,29 @@ fn job_of_the_listing() {
 
 #[test]
 fn every_refusal_has_words() {
-    let numbers = (1..=14).chain([99]);
-    let words: std::collections::HashSet<_> = numbers.map(|number| Refusal(number).words()).collect();
-    assert_eq!(words.len(), 15);
-    assert!(!words.contains(Refusal(0).words()));
+    let words: std::collections::HashSet<_> = (1..=14).map(|number| Refusal(number).words()).collect();
+    assert_eq!(words.len(), 14);
+    for number in [0, 15, 99, u64::MAX] {
+        assert_eq!(Refusal(number).words(), "no row of the table");
+        assert!(!words.contains(Refusal(number).words()));
+    }
+}
+
+/// A plain number of nets is a network, for the wrappers and for the calls on lent lists.
+#[test]
+fn a_number_of_nets_and_a_network_give_the_same() {
+    let (network, vectors, state) = (Network::new(4), [0, 1, 2, 4, 8], [3, 3, 0, 8]);
+    let responses = respond(network, 4, &vectors, &state).unwrap();
+    assert_eq!(check(4, 4, &vectors), check(network, 4, &vectors));
+    assert_eq!(respond(4, 4, &vectors, &state).as_ref(), Ok(&responses));
+    assert_eq!(diagnose(4, 4, &vectors, &responses), diagnose(network, 4, &vectors, &responses));
+    assert_eq!(findings(4, &state), findings(network, &state));
+    let (mut session, begun) = (Session::begin(4).unwrap(), Session::begin(network).unwrap());
+    assert_eq!((&session, session.network(), session.nets()), (&begun, network, network.nets()));
+    session.begin_anew(network).unwrap();
+    assert_eq!(session, begun);
+    let (mut by_number, mut by_network) = ([7; RECORD_WORDS], [8; RECORD_WORDS]);
+    assert_eq!((raw::begin(&mut by_number, 4, &mut [0; 4]), raw::begin(&mut by_network, network, &mut [0; 4])), (0, 0));
+    assert_eq!(by_number, by_network);
+    assert_eq!((Network::from(4), check(1, 1, &[0])), (network, check(Network::new(1), 1, &[0])));
 }

@@ -212,7 +212,7 @@ fn a_board_goes_through_a_file() {
     for _ in 0..50 {
         let board = state(g, 48, 48);
         let responses = fontarelga::respond(48, 48, &vectors, &board).unwrap();
-        let job = fontarelga::Job { nets: 48, class: 48, vectors: vectors.clone(), responses };
+        let job = fontarelga::Job { network: 48.into(), class: 48, vectors: vectors.clone(), responses };
         let read = fontarelga::Job::read(&job.write().unwrap()).unwrap();
         assert_eq!(read, job);
         assert_eq!(fontarelga::diagnose(48, 48, &read.vectors, &read.responses), Ok(board));

@@ -2,7 +2,6 @@
 
 mod support;
 
-use fontarelga::raw;
 use model::network::{all_lists, all_states, response};
 use model::session::{finished, left_waiting, FINISHED, FIRST, SECOND, WORDS};
 use model::Record;
@@ -303,13 +302,4 @@ fn records_with_any_word_changed() {
     }
     println!("records with a word changed: {cases}, at step 1 or 2 and left by no calls: {turned_away}");
     assert!(turned_away > 1000);
-}
-
-#[test]
-fn the_part_to_drive_of_a_session_of_another_length_is_empty() {
-    let begun = model::begin(4, 4).unwrap().0.words();
-    assert_eq!(raw::to_drive(&begun, &[0; 8], &[0; 49]), 4);
-    assert_eq!(raw::to_drive(&begun[..58], &[0; 8], &[0; 49]), 0);
-    assert_eq!(raw::to_drive(&[&begun[..], &[0]].concat(), &[0; 8], &[0; 49]), 0);
-    assert_eq!(raw::to_drive(&[], &[0; 8], &[0; 49]), 0);
 }

@@ -2,7 +2,7 @@
 //! it was.
 
 use super::lent::{Given, Lent};
-use fontarelga::raw;
+use fontarelga::{raw, JOB_WORDS, VERDICT_WORDS};
 use model::{Finding, Job, Verdict};
 
 /// The number that a call with this answer returns.
@@ -29,8 +29,8 @@ pub fn verdict_words(verdict: &Verdict) -> Vec<u64> {
 pub fn check_gives(n: u64, k: u64, vectors: &[u64], answer: &Result<Verdict, u64>) {
     let what = ("check", n, k, vectors);
     let given = Given::of(vectors);
-    let mut verdict = Lent::words(3);
-    let number = raw::check(n, k, given.give(), verdict.lend());
+    let mut verdict = Lent::words(VERDICT_WORDS + 2);
+    let number = raw::check(n, k, given.give(), verdict.lend_front());
     assert_eq!(number, code(answer), "{what:?}");
     verdict.assert_holds(&written(&answer.as_ref().map(verdict_words).map_err(|e| *e)), &what);
     given.assert_unchanged();
@@ -75,8 +75,9 @@ pub fn findings_gives(n: u64, state: &[u64], room: usize, answer: &Result<Vec<Fi
 pub fn read_job_gives(file: &[u8], vector_room: usize, response_room: usize, answer: &Result<Job, u64>) {
     let what = ("read", file, vector_room, response_room);
     let given = Given::of(file);
-    let (mut vectors, mut responses, mut job) = (Lent::words(vector_room), Lent::words(response_room), Lent::words(4));
-    let number = raw::read_job(given.give(), vectors.lend(), responses.lend(), job.lend());
+    let (mut vectors, mut responses) = (Lent::words(vector_room), Lent::words(response_room));
+    let mut job = Lent::words(JOB_WORDS + 2);
+    let number = raw::read_job(given.give(), vectors.lend(), responses.lend(), job.lend_front());
     assert_eq!(number, code(answer), "{what:?}");
     match answer {
         Ok(read) => {
@@ -93,8 +94,8 @@ pub fn read_job_gives(file: &[u8], vector_room: usize, response_room: usize, ans
 pub fn write_job_gives(n: u64, k: u64, vectors: &[u64], responses: &[u64], room: usize, answer: &Result<Vec<u8>, u64>) {
     let what = ("write", n, k, vectors, responses, room);
     let given = [Given::of(vectors), Given::of(responses)];
-    let (mut file, mut size) = (Lent::bytes(room), Lent::words(1));
-    let number = raw::write_job(n, k, given[0].give(), given[1].give(), file.lend(), size.lend());
+    let (mut file, mut size) = (Lent::bytes(room), Lent::words(3));
+    let number = raw::write_job(n, k, given[0].give(), given[1].give(), file.lend(), &mut size.lend()[0]);
     assert_eq!(number, code(answer), "{what:?}");
     file.assert_holds(&written(answer), &what);
     size.assert_holds(&Vec::from_iter(answer.as_ref().ok().map(|bytes| bytes.len() as u64)), &what);

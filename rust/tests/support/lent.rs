@@ -29,6 +29,11 @@ impl<T: Clone + PartialEq + Debug> Lent<T> {
         &mut self.now
     }
 
+    /// The front, for a call on a list of fixed length. What follows it is not lent, and must stay as it was.
+    pub fn lend_front<const LENGTH: usize>(&mut self) -> &mut [T; LENGTH] {
+        self.now.first_chunk_mut().expect("a front of this length")
+    }
+
     /// The front is what was written, and the tail is as it was. After a refusal nothing was written.
     pub fn assert_holds(&self, written: &[T], of: &dyn Debug) {
         assert_eq!(&self.now[..written.len()], written, "written: {of:?}");

@@ -34,7 +34,7 @@ impl Call {
     }
 
     /// Makes the call on a record and a lent list, and gives its number.
-    pub fn make(&self, record: &mut [u64], list: &mut [u64]) -> u64 {
+    pub fn make(&self, record: &mut [u64; WORDS], list: &mut [u64]) -> u64 {
         match self {
             Call::Begin { n, .. } => raw::begin(record, *n, list),
             Call::First { answers, .. } => raw::first_answers(record, answers, list),
@@ -54,9 +54,9 @@ impl Call {
 pub fn session_call_gives(record: &[u64; WORDS], call: &Call, answer: &Result<Left, u64>) {
     let what = (record, call);
     let given = Given::of(call.given());
-    let mut lent_record = Lent::of(record.to_vec());
+    let mut lent_record = Lent::of([&record[..], &[77, 78]].concat());
     let mut list = Lent::words(call.room());
-    let number = call.make(lent_record.lend(), list.lend());
+    let number = call.make(lent_record.lend_front(), list.lend());
     assert_eq!(number, super::calls::code(answer), "{what:?}");
     match answer {
         Ok((left, written)) => {

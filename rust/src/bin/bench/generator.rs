@@ -1,7 +1,5 @@
 //! Random vectors and wiring states.
 
-use crate::N;
-
 /// A small generator (splitmix64).
 pub struct Generator(pub u64);
 
@@ -18,16 +16,17 @@ impl Generator {
         (self.word() % limit as u64) as usize
     }
 
-    /// A vector of N bits, a quarter of them 1.
-    pub fn sparse(&mut self) -> u64 {
-        self.word() & self.word() & (u64::MAX >> (64 - N))
+    /// A vector of n bits, a quarter of them 1.
+    pub fn sparse(&mut self, n: u64) -> u64 {
+        self.word() & self.word() & (u64::MAX >> (64 - n))
     }
 
-    /// A state of class k: drivers in groups of at most k; each receiver has its own driver's group, another, or none.
-    pub fn state(&mut self, k: u64) -> Vec<u64> {
+    /// A state of n nets and class k: drivers in groups of at most k; each receiver has its own driver's group, another,
+    /// or none.
+    pub fn state(&mut self, n: u64, k: u64) -> Vec<u64> {
         let mut groups: Vec<u64> = Vec::new();
-        for driver in 0..N {
-            let place = self.below(2 * N as usize);
+        for driver in 0..n {
+            let place = self.below(2 * n as usize);
             match groups.get_mut(place) {
                 Some(group) if u64::from(group.count_ones()) < k => *group |= 1 << driver,
                 _ => groups.push(1 << driver),
@@ -39,6 +38,6 @@ impl Generator {
             1 => groups[i as usize % groups.len()],
             _ => own(i),
         };
-        (0..N).map(|i| reach(i, self.below(10))).collect()
+        (0..n).map(|i| reach(i, self.below(10))).collect()
     }
 }

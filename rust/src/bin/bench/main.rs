@@ -6,9 +6,10 @@ mod generator;
 mod plain;
 mod timing;
 
-use fontarelga::raw;
+use fontarelga::{raw, Job, Network};
 use generator::Generator;
 use plain::checker::{hash, pairs};
+use plain::session::Record;
 use std::hint::black_box;
 use timing::{print_head, print_lines};
 
@@ -48,7 +49,7 @@ fn bench_check(set: &str, vectors: &[u64], k: u64) {
 
 fn bench_diagnosis(k: u64, g: &mut Generator) {
     let vectors = walking();
-    let state = g.state(k);
+    let state = g.state(N, k);
     let responses: Vec<u64> = vectors.iter().map(|vector| plain::read(&state, *vector)).collect();
     let (mut ours, mut theirs) = ([7; N as usize], [7; N as usize]);
     assert_eq!(raw::diagnose(N, k, &vectors, &responses, &mut ours), 0);
@@ -68,9 +69,9 @@ fn bench_diagnosis(k: u64, g: &mut Generator) {
 
 /// The three calls of a session, ours or the plain ones.
 struct Calls {
-    begin: fn(&mut [u64], u64, &mut [u64]) -> u64,
-    first: fn(&mut [u64], &[u64], &mut [u64]) -> u64,
-    second: fn(&mut [u64], &[u64]) -> u64,
+    begin: fn(&mut Record, u64, &mut [u64]) -> u64,
+    first: fn(&mut Record, &[u64], &mut [u64]) -> u64,
+    second: fn(&mut Record, &[u64]) -> u64,
 }
 
 const OURS: Calls = Calls { begin: raw::begin, first: raw::first_answers, second: raw::second_answers };
@@ -97,7 +98,7 @@ fn board(state: &[u64]) -> Board {
 }
 
 /// A whole session; gives its last record.
-fn run(calls: &Calls, board: &Board) -> [u64; 59] {
+fn run(calls: &Calls, board: &Board) -> Record {
     let (mut session, mut first, mut second) = ([0; 59], [0; 8], [0; 49]);
     let mut numbers = (calls.begin)(&mut session, N, &mut first);
     numbers |= (calls.first)(&mut session, &board.first, &mut second);
@@ -109,7 +110,7 @@ fn run(calls: &Calls, board: &Board) -> [u64; 59] {
 }
 
 fn bench_sessions(g: &mut Generator) {
-    let states: Vec<Vec<u64>> = (0..SESSIONS).map(|_| g.state(N)).collect();
+    let states: Vec<Vec<u64>> = (0..SESSIONS).map(|_| g.state(N, N)).collect();
     let boards: Vec<Board> = states.iter().map(|state| board(state)).collect();
     for (board, state) in boards.iter().zip(&states) {
         let record = run(&OURS, board);
@@ -125,8 +126,8 @@ fn bench_sessions(g: &mut Generator) {
 }
 
 fn bench_reader(g: &mut Generator) {
-    let mut words = || (0..64).map(|_| g.sparse()).collect::<Vec<u64>>();
-    let job = fontarelga::Job { nets: N, class: N, vectors: words(), responses: words() };
+    let mut words = || (0..64).map(|_| g.sparse(N)).collect::<Vec<u64>>();
+    let job = Job { network: Network::new(N), class: N, vectors: words(), responses: words() };
     let file = job.write().expect("an admitted job");
     let (mut ours, mut theirs) = (([7; 64], [7; 64], [7; 4]), ([7; 64], [7; 64], [7; 4]));
     assert_eq!(raw::read_job(&file, &mut ours.0, &mut ours.1, &mut ours.2), 0);
@@ -147,7 +148,7 @@ fn bench_reader(g: &mut Generator) {
 fn main() {
     let g = &mut Generator(2024);
     let walking = walking();
-    let random: Vec<u64> = (0..20).map(|_| g.sparse()).collect();
+    let random: Vec<u64> = (0..20).map(|_| g.sparse(N)).collect();
     print_head();
     for k in [1, 2, 3, N] {
         bench_check("walking", &walking, k);

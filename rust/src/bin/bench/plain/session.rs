@@ -2,6 +2,9 @@
 
 use super::{admit_responses, code, reaches_agree, read, turned};
 
+/// Step, nets, 8 first answers, 48 reaches, vectors spent.
+pub type Record = [u64; 59];
+
 const STEP: usize = 0;
 const NETS: usize = 1;
 const ANSWERS: usize = 2;
@@ -36,7 +39,7 @@ fn second_vectors(unclear: u64) -> impl Iterator<Item = u64> {
     std::iter::once(0).chain((0..48).map(|i| 1 << i).filter(move |vector| unclear & vector != 0))
 }
 
-pub fn begin(session: &mut [u64], n: u64, first: &mut [u64]) -> u64 {
+pub fn begin(session: &mut Record, n: u64, first: &mut [u64]) -> u64 {
     if !(2..=48).contains(&n) {
         return 5;
     }
@@ -78,7 +81,7 @@ fn take_first(session: &mut [u64], answers: &[u64], second: &mut [u64]) -> Resul
     Ok(())
 }
 
-pub fn first_answers(session: &mut [u64], answers: &[u64], second: &mut [u64]) -> u64 {
+pub fn first_answers(session: &mut Record, answers: &[u64], second: &mut [u64]) -> u64 {
     code(take_first(session, answers, second))
 }
 
@@ -127,6 +130,6 @@ fn take_second(session: &mut [u64], answers: &[u64]) -> Result<(), u64> {
     Ok(())
 }
 
-pub fn second_answers(session: &mut [u64], answers: &[u64]) -> u64 {
+pub fn second_answers(session: &mut Record, answers: &[u64]) -> u64 {
     code(take_second(session, answers))
 }
