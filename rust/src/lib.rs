@@ -7,8 +7,8 @@
 //! first row of the table that holds. Any numbers, any bytes and any lengths are ordinary inputs. The wrappers lend
 //! lists that are long enough, so row 12 is met in [`raw`] only.
 //!
-//! The library takes what it needs from the stack: a call runs on a thread that has [`CHECK_STACK_BYTES`] or
-//! [`OTHER_STACK_BYTES`]. Threads of the standard library have 2 MB by default.
+//! The library takes what it needs from the stack. [`check`] and [`diagnose`] run on a thread with a stack of at least
+//! [`CHECK_STACK_BYTES`], all else with [`OTHER_STACK_BYTES`]. Threads of the standard library have 2 MB by default.
 
 mod calls;
 mod interface;

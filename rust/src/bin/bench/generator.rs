@@ -21,8 +21,8 @@ impl Generator {
         self.word() & self.word() & (u64::MAX >> (64 - n))
     }
 
-    /// A state of n nets and class k: drivers in groups of at most k; each receiver has its own driver's group, another,
-    /// or none.
+    /// A state of n nets and class k: drivers in groups of at most k; each receiver has its own driver's group,
+    /// another, or none.
     pub fn state(&mut self, n: u64, k: u64) -> Vec<u64> {
         let mut groups: Vec<u64> = Vec::new();
         for driver in 0..n {
