@@ -43,7 +43,8 @@ records-put (found ∷ records) (a ∷ b ∷ []) l = absurd (omega arith)
 records-put (found ∷ records) (a ∷ b ∷ c ∷ words) l =
     ap (λ (more : List ℕ). found .kind ∷ found .reach ∷ found .partners ∷ more) (records-put records words (omega arith))
 
-table-words : (a : Answer (List Finding)) (words : List ℕ) → ((records : List Finding) → a ≡ full records → length records ≤ length (records-of words))
+table-words : (a : Answer (List Finding)) (words : List ℕ)
+    → ((records : List Finding) → a ≡ full records → length records ≤ length (records-of words))
     → lent-after (in-words finding-words a) words ≡ finding-words (lent-after a (records-of words)) ++ rest-of words
 unfolding in-words lent-after
 table-words (refused number) words fits = sym (records-there words)
@@ -57,7 +58,8 @@ found-in-words net state words table number e f =
     let a = findings-answer net state (length (records-of words)) in
     let same : findings-answer net state (length words / 3) ≡ a = ap (findings-answer net state) (sym (records-size words)) in (
       e ∙ ap code same ∙ sym (code-counted a (count-of a) refl),
-      f ∙ ap (λ (b : Answer (List Finding)). lent-after (in-words finding-words b) words) same ∙ table-words a words (records-fit net state (length (records-of words))),
+      f ∙ ap (λ (b : Answer (List Finding)). lent-after (in-words finding-words b) words) same
+          ∙ table-words a words (records-fit net state (length (records-of words))),
     )
 
 -- ---- what is returned

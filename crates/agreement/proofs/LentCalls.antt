@@ -33,7 +33,8 @@ Taken T = RefT Session × (T × (RefT (List ℕ) × Unit {0}))
 abbrev SecondTaken : Type 0
 SecondTaken = RefT Session × (RefT (List ℕ) × Unit {0})
 
-module _ {M : Type 1} (𝓤 : URA M) (H : Heap 𝓤) (A : Atoms 𝓤) (at-mem : Memory → SProp 𝓤) (run : Routine → Fun 𝓤) (session : RefT Session) (after : Session) (number : ℕ) where
+module _ {M : Type 1} (𝓤 : URA M) (H : Heap 𝓤) (A : Atoms 𝓤) (at-mem : Memory → SProp 𝓤) (run : Routine → Fun 𝓤)
+    (session : RefT Session) (after : Session) (number : ℕ) where
   -- what the clauses ensure, taken as one, tells this
   tells : (φs : List (Type 0)) (said : Type 0) → (All φs → said) → ent 𝓤 (facts 𝓤 φs) (fact 𝓤 said)
   tells φs said f = via 𝓤 (fact 𝓤 (All φs)) (as-one 𝓤 φs) (fact-mono 𝓤 (All φs) said f)
@@ -49,18 +50,23 @@ module _ {M : Type 1} (𝓤 : URA M) (H : Heap 𝓤) (A : Atoms 𝓤) (at-mem : 
       (let call = begin net (list .now) in AdvancesAsProgram (session .now) call number after × WritesAsProgram (session .now) call filled)
   begin-does κs net list filled =
       let done = begun (session .now) net (length (list .now)) in
-      let clauses : List (Type 0) = (after ≡ done .session) ∷ (number ≡ done .code) ∷ (filled ≡ lent-after (begin-answer net (length (list .now))) (list .now)) ∷ [] in
+      let clauses : List (Type 0) =
+      (after ≡ done .session) ∷ (number ≡ done .code)
+      ∷ (filled ≡ lent-after (begin-answer net (length (list .now))) (list .now)) ∷ [] in
       (id⊢ 𝓤 _, tells clauses _ (λ said. ((said .1 .0 ∙ stepped-code _ _ _, said .0), said .1 .1)))
 
   pub first-answers-does : (κs : Lfts 3) (answers list : RefT (List ℕ)) (filled : List ℕ)
       → let taken : Taken (RefT (List ℕ)) = (session, (answers, (list, tt))) in
       let contract = First.clauses 𝓤 H A at-mem run κs taken in
       Says (contract .requires tt) (contract .ensures tt number (atExit First.ended κs taken (after, (tt, (filled, tt)))))
-      (let call = first (answers .now) (list .now) in AdvancesAsProgram (session .now) call number after × WritesAsProgram (session .now) call filled)
+      (let call = first (answers .now) (list .now) in
+      AdvancesAsProgram (session .now) call number after × WritesAsProgram (session .now) call filled)
   first-answers-does κs answers list filled =
       let room = length (list .now) in
       let done = first-answered (session .now) (answers .now) room in
-      let clauses : List (Type 0) = (after ≡ done .session) ∷ (number ≡ done .code) ∷ (filled ≡ lent-after (first-answer (session .now) (answers .now) room) (list .now)) ∷ [] in
+      let clauses : List (Type 0) =
+      (after ≡ done .session) ∷ (number ≡ done .code)
+      ∷ (filled ≡ lent-after (first-answer (session .now) (answers .now) room) (list .now)) ∷ [] in
       (id⊢ 𝓤 _, tells clauses _ (λ said. ((said .1 .0 ∙ stepped-code _ _ _, said .0), said .1 .1)))
 
   -- no list is lent

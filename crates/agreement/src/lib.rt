@@ -1,5 +1,6 @@
-// Each public call, held to the program that the demands are proved of: a thin function a call, whose contract cites that
-// program and whose body is the call. So no call's contract can say less than the demands rest on. Nothing calls these.
+// Each public call, held to the program that the demands are proved of: a thin function a call, whose contract cites
+// that program and whose body is the call. So no call's contract can say less than the demands rest on. Nothing calls
+// these.
 ghost use mathlib.Core.Path.{_≡_};
 ghost use lib.ListN.{length, replicate};
 ghost use Rattle.words.specs.Answers.{full, «lent-after»};
@@ -11,7 +12,8 @@ ghost use Rattle.reader.specs.Reader as Reader;
 ghost use Rattle.writer.specs.Writer as Writer;
 ghost use Rattle.exports.specs.Exported.{code};
 ghost use Rattle.demands.specs.SessionCalls.{begin, first, second};
-ghost use Rattle.demands.specs.Programs.{«our-check», «our-response», «our-diagnosis», «our-findings», «our-reader», «our-writer», «our-sessions», «our-drive», «our-report»};
+ghost use Rattle.demands.specs.Programs.{«our-check», «our-response», «our-diagnosis», «our-findings», «our-reader»};
+ghost use Rattle.demands.specs.Programs.{«our-writer», «our-sessions», «our-drive», «our-report»};
 
 pub mod through_c;
 
@@ -41,7 +43,8 @@ pub fn respond(
     state: &[u64],
     out: &mut [u64],
 ) -> Responded
-    ensures returned { λ r. ⌜ Respond.meaning r ≡ our-response net class (now (vectors .entry)) (now (state .entry)) (now (out .entry)) .returned ⌝ }
+    ensures returned { λ r. ⌜ Respond.meaning r
+        ≡ our-response net class (now (vectors .entry)) (now (state .entry)) (now (out .entry)) .returned ⌝ }
     ensures list { λ r. ⌜ now (out .exit) ≡ our-response net class (now (vectors .entry)) (now (state .entry)) (now (out .entry)) .list ⌝ }
 {
     network::response_from_state(net, class, vectors, state, out)
@@ -55,8 +58,10 @@ pub fn diagnose(
     responses: &[u64],
     out: &mut [u64],
 ) -> Diagnosed
-    ensures returned { λ r. ⌜ Diagnosis.meaning r ≡ our-diagnosis net class (now (vectors .entry)) (now (responses .entry)) (now (out .entry)) .returned ⌝ }
-    ensures list { λ r. ⌜ now (out .exit) ≡ our-diagnosis net class (now (vectors .entry)) (now (responses .entry)) (now (out .entry)) .list ⌝ }
+    ensures returned { λ r. ⌜ Diagnosis.meaning r
+        ≡ our-diagnosis net class (now (vectors .entry)) (now (responses .entry)) (now (out .entry)) .returned ⌝ }
+    ensures list { λ r. ⌜ now (out .exit)
+        ≡ our-diagnosis net class (now (vectors .entry)) (now (responses .entry)) (now (out .entry)) .list ⌝ }
 {
     diagnosis::diagnose(net, class, vectors, responses, out)
 }
@@ -104,9 +109,12 @@ pub fn to_drive<'a>(held: Session, one: &'a [u64], two: &'a [u64]) -> &'a [u64]
 
 // *read a job file*
 pub fn read_job(file: &[u8], vectors: &mut [u64], responses: &mut [u64]) -> ReadJob
-    ensures returned { λ r. ⌜ Reader.meaning r ≡ our-reader (now (file .entry)) (now (vectors .entry)) (now (responses .entry)) .returned ⌝ }
-    ensures vectors { λ r. ⌜ now (vectors .exit) ≡ our-reader (now (file .entry)) (now (vectors .entry)) (now (responses .entry)) .vectors ⌝ }
-    ensures responses { λ r. ⌜ now (responses .exit) ≡ our-reader (now (file .entry)) (now (vectors .entry)) (now (responses .entry)) .responses ⌝ }
+    ensures returned { λ r. ⌜ Reader.meaning r
+        ≡ our-reader (now (file .entry)) (now (vectors .entry)) (now (responses .entry)) .returned ⌝ }
+    ensures vectors { λ r. ⌜ now (vectors .exit)
+        ≡ our-reader (now (file .entry)) (now (vectors .entry)) (now (responses .entry)) .vectors ⌝ }
+    ensures responses { λ r. ⌜ now (responses .exit)
+        ≡ our-reader (now (file .entry)) (now (vectors .entry)) (now (responses .entry)) .responses ⌝ }
 {
     reader::read_job(file, vectors, responses)
 }
@@ -119,8 +127,10 @@ pub fn write_job(
     responses: &[u64],
     file: &mut [u8],
 ) -> Wrote
-    ensures returned { λ r. ⌜ Writer.meaning r ≡ our-writer net class (now (vectors .entry)) (now (responses .entry)) (now (file .entry)) .returned ⌝ }
-    ensures list { λ r. ⌜ now (file .exit) ≡ our-writer net class (now (vectors .entry)) (now (responses .entry)) (now (file .entry)) .list ⌝ }
+    ensures returned { λ r. ⌜ Writer.meaning r
+        ≡ our-writer net class (now (vectors .entry)) (now (responses .entry)) (now (file .entry)) .returned ⌝ }
+    ensures list { λ r. ⌜ now (file .exit)
+        ≡ our-writer net class (now (vectors .entry)) (now (responses .entry)) (now (file .entry)) .list ⌝ }
 {
     writer::write_job(net, class, vectors, responses, file)
 }

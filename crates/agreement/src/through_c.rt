@@ -1,5 +1,5 @@
-// The same for the calls of the C interface. Those on a session cite what the claim on them is proved of, `exported` and
-// `drive-count`; the others cite the program, in words.
+// The same for the calls of the C interface. Those on a session cite what the claim on them is proved of, `exported`
+// and `drive-count`; the others cite the program, in words.
 ghost use mathlib.Core.Path.{_≡_};
 ghost use mathlib.Core.List.{_++_};
 ghost use Rattle.packing.specs.Packed.{«network-of», «verdict-words», «finding-words»};
@@ -12,23 +12,33 @@ ghost use Rattle.agreement.specs.InWords.{«records-of», «rest-of», �
 // *check*
 pub fn check(nets: u64, class: u64, vectors: &[u64], verdict: &mut [u64; 3]) -> u64
     ensures returned { λ r. ⌜ r ≡ code (our-check (network-of nets) class (now (vectors .entry))) ⌝ }
-    ensures verdict { λ r. ⌜ now (verdict .exit) ≡ fixed-after (in-words verdict-words (our-check (network-of nets) class (now (vectors .entry)))) (now (verdict .entry)) ⌝ }
+    ensures verdict { λ r. ⌜ now (verdict .exit)
+        ≡ fixed-after (in-words verdict-words (our-check (network-of nets) class (now (vectors .entry))))
+        (now (verdict .entry)) ⌝ }
 {
     exports::fontarelga_check(nets, class, vectors, verdict)
 }
 
 // *response from a state*
 pub fn respond(nets: u64, class: u64, vectors: &[u64], state: &[u64], response: &mut [u64]) -> u64
-    ensures returned { λ r. ⌜ r ≡ code (our-response (network-of nets) class (now (vectors .entry)) (now (state .entry)) (now (response .entry)) .returned) ⌝ }
-    ensures response { λ r. ⌜ now (response .exit) ≡ our-response (network-of nets) class (now (vectors .entry)) (now (state .entry)) (now (response .entry)) .list ⌝ }
+    ensures returned { λ r. ⌜ r
+        ≡ code (our-response (network-of nets) class (now (vectors .entry)) (now (state .entry))
+        (now (response .entry)) .returned) ⌝ }
+    ensures response { λ r. ⌜ now (response .exit)
+        ≡ our-response (network-of nets) class (now (vectors .entry)) (now (state .entry))
+        (now (response .entry)) .list ⌝ }
 {
     exports::fontarelga_respond(nets, class, vectors, state, response)
 }
 
 // *diagnosis*
 pub fn diagnose(nets: u64, class: u64, vectors: &[u64], responses: &[u64], state: &mut [u64]) -> u64
-    ensures returned { λ r. ⌜ r ≡ code (our-diagnosis (network-of nets) class (now (vectors .entry)) (now (responses .entry)) (now (state .entry)) .returned) ⌝ }
-    ensures state { λ r. ⌜ now (state .exit) ≡ our-diagnosis (network-of nets) class (now (vectors .entry)) (now (responses .entry)) (now (state .entry)) .list ⌝ }
+    ensures returned { λ r. ⌜ r
+        ≡ code (our-diagnosis (network-of nets) class (now (vectors .entry)) (now (responses .entry))
+        (now (state .entry)) .returned) ⌝ }
+    ensures state { λ r. ⌜ now (state .exit)
+        ≡ our-diagnosis (network-of nets) class (now (vectors .entry)) (now (responses .entry))
+        (now (state .entry)) .list ⌝ }
 {
     exports::fontarelga_diagnose(nets, class, vectors, responses, state)
 }
@@ -36,7 +46,9 @@ pub fn diagnose(nets: u64, class: u64, vectors: &[u64], responses: &[u64], state
 // *findings*
 pub fn find(nets: u64, state: &[u64], table: &mut [u64]) -> u64
     ensures returned { λ r. ⌜ r ≡ code (our-findings (network-of nets) (now (state .entry)) (records-of (now (table .entry))) .returned) ⌝ }
-    ensures table { λ r. ⌜ now (table .exit) ≡ finding-words (our-findings (network-of nets) (now (state .entry)) (records-of (now (table .entry))) .list) ++ rest-of (now (table .entry)) ⌝ }
+    ensures table { λ r. ⌜ now (table .exit)
+        ≡ finding-words (our-findings (network-of nets) (now (state .entry))
+        (records-of (now (table .entry))) .list) ++ rest-of (now (table .entry)) ⌝ }
 {
     exports::fontarelga_findings(nets, state, table)
 }
@@ -44,7 +56,8 @@ pub fn find(nets: u64, state: &[u64], table: &mut [u64]) -> u64
 // *begin*
 pub fn begin(session: &mut [u64; 59], nets: u64, list: &mut [u64]) -> u64
     ensures returned { λ r. ⌜ r ≡ exported (now (session .entry)) (begin (network-of nets) (now (list .entry))) .returned ⌝ }
-    ensures session { λ r. ⌜ now (session .exit) ≡ exported (now (session .entry)) (begin (network-of nets) (now (list .entry))) .session ⌝ }
+    ensures session { λ r. ⌜ now (session .exit)
+        ≡ exported (now (session .entry)) (begin (network-of nets) (now (list .entry))) .session ⌝ }
     ensures list { λ r. ⌜ now (list .exit) ≡ exported (now (session .entry)) (begin (network-of nets) (now (list .entry))) .list ⌝ }
 {
     exports::fontarelga_begin(session, nets, list)
@@ -53,7 +66,8 @@ pub fn begin(session: &mut [u64; 59], nets: u64, list: &mut [u64]) -> u64
 // *first answers*
 pub fn first_answers(session: &mut [u64; 59], answers: &[u64], list: &mut [u64]) -> u64
     ensures returned { λ r. ⌜ r ≡ exported (now (session .entry)) (first (now (answers .entry)) (now (list .entry))) .returned ⌝ }
-    ensures session { λ r. ⌜ now (session .exit) ≡ exported (now (session .entry)) (first (now (answers .entry)) (now (list .entry))) .session ⌝ }
+    ensures session { λ r. ⌜ now (session .exit)
+        ≡ exported (now (session .entry)) (first (now (answers .entry)) (now (list .entry))) .session ⌝ }
     ensures list { λ r. ⌜ now (list .exit) ≡ exported (now (session .entry)) (first (now (answers .entry)) (now (list .entry))) .list ⌝ }
 {
     exports::fontarelga_first_answers(session, answers, list)
@@ -77,9 +91,14 @@ pub fn to_drive<'a>(session: &[u64; 59], one: &'a [u64], two: &'a [u64]) -> u64
 // *read a job file*
 pub fn read_job(file: &[u8], vectors: &mut [u64], responses: &mut [u64], job: &mut [u64; 4]) -> u64
     ensures returned { λ r. ⌜ r ≡ code (our-reader (now (file .entry)) (now (vectors .entry)) (now (responses .entry)) .returned) ⌝ }
-    ensures vectors { λ r. ⌜ now (vectors .exit) ≡ our-reader (now (file .entry)) (now (vectors .entry)) (now (responses .entry)) .vectors ⌝ }
-    ensures responses { λ r. ⌜ now (responses .exit) ≡ our-reader (now (file .entry)) (now (vectors .entry)) (now (responses .entry)) .responses ⌝ }
-    ensures job { λ r. ⌜ now (job .exit) ≡ fixed-after (in-words returned-job-words (our-reader (now (file .entry)) (now (vectors .entry)) (now (responses .entry)) .returned)) (now (job .entry)) ⌝ }
+    ensures vectors { λ r. ⌜ now (vectors .exit)
+        ≡ our-reader (now (file .entry)) (now (vectors .entry)) (now (responses .entry)) .vectors ⌝ }
+    ensures responses { λ r. ⌜ now (responses .exit)
+        ≡ our-reader (now (file .entry)) (now (vectors .entry)) (now (responses .entry)) .responses ⌝ }
+    ensures job { λ r. ⌜ now (job .exit)
+        ≡ fixed-after (in-words returned-job-words
+        (our-reader (now (file .entry)) (now (vectors .entry)) (now (responses .entry)) .returned))
+        (now (job .entry)) ⌝ }
 {
     exports::fontarelga_read_job(file, vectors, responses, job)
 }
@@ -93,9 +112,16 @@ pub fn write_job(
     file: &mut [u8],
     size: &mut [u64; 1],
 ) -> u64
-    ensures returned { λ r. ⌜ r ≡ code (our-writer (network-of nets) class (now (vectors .entry)) (now (responses .entry)) (now (file .entry)) .returned) ⌝ }
-    ensures file { λ r. ⌜ now (file .exit) ≡ our-writer (network-of nets) class (now (vectors .entry)) (now (responses .entry)) (now (file .entry)) .list ⌝ }
-    ensures size { λ r. ⌜ now (size .exit) ≡ fixed-after (in-words returned-size-words (our-writer (network-of nets) class (now (vectors .entry)) (now (responses .entry)) (now (file .entry)) .returned)) (now (size .entry)) ⌝ }
+    ensures returned { λ r. ⌜ r
+        ≡ code (our-writer (network-of nets) class (now (vectors .entry)) (now (responses .entry))
+        (now (file .entry)) .returned) ⌝ }
+    ensures file { λ r. ⌜ now (file .exit)
+        ≡ our-writer (network-of nets) class (now (vectors .entry)) (now (responses .entry))
+        (now (file .entry)) .list ⌝ }
+    ensures size { λ r. ⌜ now (size .exit)
+        ≡ fixed-after (in-words returned-size-words
+        (our-writer (network-of nets) class (now (vectors .entry)) (now (responses .entry))
+        (now (file .entry)) .returned)) (now (size .entry)) ⌝ }
 {
     exports::fontarelga_write_job(nets, class, vectors, responses, file, size)
 }

@@ -1,5 +1,5 @@
-// Trying the lines of a text. A line names the call that the lines after it make: `check`, `respond`, `diagnose` or `findings`. A line that has not the
-// form of its call is shown as unreadable.
+// Trying the lines of a text. A line names the call that the lines after it make: `check`, `respond`, `diagnose` or
+// `findings`. A line that has not the form of its call is shown as unreadable.
 use crate::checking;
 use crate::finding;
 use crate::responding;

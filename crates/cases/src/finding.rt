@@ -1,4 +1,5 @@
-// The call *findings* with a blank table of 48 records lent. A line gives n, then the reaches; with a net after n it asks for that net's record alone.
+// The call *findings* with a blank table of 48 records lent. A line gives n, then the reaches; with a net after n it
+// asks for that net's record alone.
 ghost use Prim.Native.Nat.{_≤_};
 use findings::Finding;
 use network::Network;

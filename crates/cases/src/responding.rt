@@ -55,7 +55,8 @@ fn try_call(back: bool, nets: u64, class: u64, vectors: &[u64], words: &[u64], r
     lend(back, Network { nets: nets }, class, vectors, words, room);
 }
 
-// Tries a line: n, k and the length of the lent list, at most 64; after the colon the vectors; after the semicolon the reaches, or the responses.
+// Tries a line: n, k and the length of the lent list, at most 64; after the colon the vectors; after the semicolon the
+// reaches, or the responses.
 pub fn try_line(back: bool, line: &[u8]) {
     let mut head = [0u64; MOST];
     let mut words = [0u64; MOST];

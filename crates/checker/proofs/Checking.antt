@@ -16,9 +16,11 @@ module _ (net : Network) (k : ℕ) (vectors : List ℕ) where
   pub check-by-table : ByTable (SetRows net k vectors) (Rule net k vectors) (check-answer net k vectors)
   unfolding check-answer
   check-by-table =
-      tests-by-table (Rule net k vectors) (SetRows net k vectors) (set-tests net k vectors) (verdict net k vectors) (decides-set net k vectors)
+      tests-by-table (Rule net k vectors) (SetRows net k vectors) (set-tests net k vectors) (verdict net k vectors)
+      (decides-set net k vectors)
       (λ _. verdict-rule net k vectors)
 
-  pub check-determined : (a b : Answer Verdict) → ByTable (SetRows net k vectors) (Rule net k vectors) a → ByTable (SetRows net k vectors) (Rule net k vectors) b
+  pub check-determined : (a b : Answer Verdict) → ByTable (SetRows net k vectors) (Rule net k vectors) a
+      → ByTable (SetRows net k vectors) (Rule net k vectors) b
       → a ≡ b
   check-determined a b = table-determined (Rule net k vectors) (SetRows net k vectors) a b (λ _. rule-determined net k vectors)

@@ -15,7 +15,8 @@ use Rattle.words.proofs.Classes.{ones-at-most, ones-of-zero}
 use Rattle.network.specs.declared.Network.{Network}
 use Rattle.network.specs.Reading.{all-drivers, all-but, walking-vector, extra-vector, reads, ReadAlike, response}
 use Rattle.network.specs.States.{DriverSet, State, AtMostOneFits}
-use Rattle.network.proofs.Reading.{all-below, all-but-less, all-not-empty, walking-apart, empty-as-all, all-but-as-all, response-alike, alike-response}
+use Rattle.network.proofs.Reading.{all-below, all-but-less, all-not-empty, walking-apart, empty-as-all, all-but-as-all}
+use Rattle.network.proofs.Reading.{response-alike, alike-response}
 use Rattle.network.proofs.States.{states-equal}
 use Rattle.checker.specs.declared.Verdict.{Verdict}
 use Rattle.checker.specs.declared.Verdict.the-variants.{Pass, Pair}
@@ -44,7 +45,8 @@ bounded-shows net k vectors Pass none = λ a b p q h. apart a b p q h (three-way
     apart : (a b : ℕ) → DriverSet net k a → DriverSet net k b → ReadAlike net vectors a b → (a < b) ⊎ ((a ≡ b) ⊎ (b < a)) → a ≡ b
     apart a b p q h (inl l) = absurd (none a b (record { smaller = l; first-set = p; second-set = q; read-alike = h }))
     apart a b p q h (inr (inl e)) = e
-    apart a b p q h (inr (inr l)) = absurd (none b a (record { smaller = l; first-set = q; second-set = p; read-alike = λ t m. sym (h t m) }))
+    apart a b p q h (inr (inr l)) =
+        absurd (none b a (record { smaller = l; first-set = q; second-set = p; read-alike = λ t m. sym (h t m) }))
 bounded-shows net k vectors (Pair a b) r = record {
   first-set = r .0 .first-set;
   second-set = r .0 .second-set;
@@ -54,7 +56,8 @@ bounded-shows net k vectors (Pair a b) r = record {
 
 -- ---- k = n
 
-module _ (net : Network) (vectors : List ℕ) (two : 2 ≤ net .nets) (narrow : (t : ℕ) → t < length vectors → at vectors t < 2 ^ (net .nets)) where
+module _ (net : Network) (vectors : List ℕ) (two : 2 ≤ net .nets)
+    (narrow : (t : ℕ) → t < length vectors → at vectors t < 2 ^ (net .nets)) where
   any-set : (set : ℕ) → set < 2 ^ (net .nets) → DriverSet net (net .nets) set
   any-set set l = record { inside = l; few = ones-at-most (net .nets) set }
 
@@ -64,7 +67,8 @@ module _ (net : Network) (vectors : List ℕ) (two : 2 ≤ net .nets) (narrow : 
 
   full-shows : (v : Verdict) → FullRule net vectors v → Shows net (net .nets) vectors v
   full-shows Pass (extra, walking) = λ a b p q h.
-      walking-apart net a b (p .inside) (q .inside) (on a b h (extra-vector net) extra) (λ i l. on a b h (walking-vector net i) (walking i l))
+      walking-apart net a b (p .inside) (q .inside) (on a b h (extra-vector net) extra)
+      (λ i l. on a b h (walking-vector net i) (walking i l))
     where
       on : (a b : ℕ) → ReadAlike net vectors a b → (word : ℕ) → Among word vectors → reads net a word ≡ reads net b word
       on a b h word (t, l, e) = subst (λ (x : ℕ). reads net a x ≡ reads net b x) e (h t l)
@@ -80,12 +84,15 @@ module _ (net : Network) (vectors : List ℕ) (two : 2 ≤ net .nets) (narrow : 
         first-set = rw x (any-set (all-but net i) (omega arith));
         second-set = rw y (any-set (all-drivers net) below);
         differ = λ e. let q : all-but net i ≡ all-drivers net = sym x ∙ e ∙ y in omega arith;
-        read-alike = λ t m. rw (x, y) (all-but-as-all net i (at vectors t) two l (narrow t m) (not-missing (walking-vector net i) t m none));
+        read-alike = λ t m. rw (x, y)
+            (all-but-as-all net i (at vectors t) two l (narrow t m) (not-missing (walking-vector net i) t m none));
       }
 
-pub rule-shows : (net : Network) (k : ℕ) (vectors : List ℕ) (v : Verdict) → 2 ≤ net .nets → ((t : ℕ) → t < length vectors → at vectors t < 2 ^ (net .nets))
+pub rule-shows : (net : Network) (k : ℕ) (vectors : List ℕ) (v : Verdict) → 2 ≤ net .nets
+    → ((t : ℕ) → t < length vectors → at vectors t < 2 ^ (net .nets))
     → Rule net k vectors v → Shows net k vectors v
-rule-shows net k vectors v two narrow (inl (e, r)) = subst (λ (x : ℕ). Shows net x vectors v) (sym e) (full-shows net vectors two narrow v r)
+rule-shows net k vectors v two narrow (inl (e, r)) =
+    subst (λ (x : ℕ). Shows net x vectors v) (sym e) (full-shows net vectors two narrow v r)
 rule-shows net k vectors v two narrow (inr (e, r)) = bounded-shows net k vectors v r
 
 -- ---- states
@@ -105,7 +112,9 @@ module _ (net : Network) (k : ℕ) (two : 2 ≤ net .nets) where
 
   shown-later : (set i : ℕ) → at (shown-state net set) (suc i) ≡ 0
   unfolding shown-state
-  shown-later set i = ⊎-elim (getD-replicate (net .nets - 1) i 0 0) (λ l. List·getD-eq-default (replicate (net .nets - 1) 0) 0 (rw length-replicate l)) (less-or-not i (net .nets - 1))
+  shown-later set i = ⊎-elim (getD-replicate (net .nets - 1) i 0 0)
+      (λ l. List·getD-eq-default (replicate (net .nets - 1) 0) 0 (rw length-replicate l))
+      (less-or-not i (net .nets - 1))
 
   shown-size : (set : ℕ) → length (shown-state net set) ≡ net .nets
   unfolding shown-state
@@ -130,10 +139,14 @@ module _ (net : Network) (k : ℕ) (two : 2 ≤ net .nets) where
   pub shown-differ : (a b : ℕ) → a ≢ b → shown-state net a ≢ shown-state net b
   shown-differ a b d e = d (sym (shown-first a) ∙ ap (λ (s : List ℕ). at s 0) e ∙ shown-first b)
 
-  pub shown-alike : (vectors : List ℕ) (a b : ℕ) → ReadAlike net vectors a b → response net (shown-state net a) vectors ≡ response net (shown-state net b) vectors
-  shown-alike vectors a b h = alike-response net (shown-state net a) (shown-state net b) vectors (shown-size a ∙ sym (shown-size b)) (λ i l. each i)
+  pub shown-alike : (vectors : List ℕ) (a b : ℕ) → ReadAlike net vectors a b
+      → response net (shown-state net a) vectors ≡ response net (shown-state net b) vectors
+  shown-alike vectors a b h =
+      alike-response net (shown-state net a) (shown-state net b) vectors (shown-size a ∙ sym (shown-size b))
+      (λ i l. each i)
     where
       each : (i : ℕ) → ReadAlike net vectors (at (shown-state net a) i) (at (shown-state net b) i)
       each zero t m =
-          ap (λ (x : ℕ). reads net x (at vectors t)) (shown-first a) ∙ h t m ∙ ap (λ (x : ℕ). reads net x (at vectors t)) (sym (shown-first b))
+          ap (λ (x : ℕ). reads net x (at vectors t)) (shown-first a) ∙ h t m
+          ∙ ap (λ (x : ℕ). reads net x (at vectors t)) (sym (shown-first b))
       each (suc i) t m = ap (λ (x : ℕ). reads net x (at vectors t)) (shown-later a i ∙ sym (shown-later b i))

@@ -1,4 +1,5 @@
--- The sets of the class seen so far, stored with what each reads: what a turn of the search through them adds, and what it finds.
+-- The sets of the class seen so far, stored with what each reads: what a turn of the search through them adds, and what
+-- it finds.
 use mathlib.Core.Path.{_≡_, refl, sym, ap, _∙_, subst}
 use mathlib.Core.Bool.{Bool, true, false, _&&_}
 use mathlib.Core.Logic.{_⊎_, inl, inr}
@@ -53,12 +54,14 @@ module _ (net : Network) (k : ℕ) (vectors : List ℕ) where
 
   module _ (sets responses : List ℕ) (count set : ℕ) (stored : Stored net k vectors sets responses count set) where
     -- the smaller set that reads alike, by the place of its sequential word among those stored
-    by-class : set < 2 ^ (net .nets) → smaller-alike net k vectors set ≡ least set 0 (λ a. leb (ones a) k && eqb (reads-as a) (reads-as set))
+    by-class : set < 2 ^ (net .nets)
+        → smaller-alike net k vectors set ≡ least set 0 (λ a. leb (ones a) k && eqb (reads-as a) (reads-as set))
     unfolding smaller-alike
     by-class l = least-same _ _ set (λ z m. ap (λ (t : Bool). t && eqb (reads-as z) (reads-as set)) (few-by-ones net k z (omega arith)))
 
     read-at : (j : ℕ) → j < length (sets-of-class k set) → at (take count responses) j ≡ reads-as (at (sets-of-class k set) j)
-    read-at j l = ap (λ (ws : List ℕ). at ws j) (stored .responses-are) ∙ map-at (sequential-response net vectors) 0 (sets-of-class k set) j l
+    read-at j l = ap (λ (ws : List ℕ). at ws j) (stored .responses-are)
+        ∙ map-at (sequential-response net vectors) 0 (sets-of-class k set) j l
 
     length-read : length (take count responses) ≡ length (sets-of-class k set)
     length-read = ap length (stored .responses-are) ∙ length-map (sets-of-class k set) (sequential-response net vectors)
@@ -66,7 +69,8 @@ module _ (net : Network) (k : ℕ) (vectors : List ℕ) where
     pub stored-inside : (m : ℕ) → position (reads-as set) (take count responses) ≡ Found m → m < count
     stored-inside m e = go (position (reads-as set) (take count responses)) (position-is (reads-as set) (take count responses)) e
       where
-        go : (s : Search) → Least (λ t. eqb (at (take count responses) t) (reads-as set)) 0 (length (take count responses)) s → s ≡ Found m → m < count
+        go : (s : Search) → Least (λ t. eqb (at (take count responses) t) (reads-as set)) 0
+            (length (take count responses)) s → s ≡ Found m → m < count
         go (Found x) (first a b c g) q = let same : x ≡ m = cc in let n = stored .counted in omega (arith, length-read)
         go Missing r q = let z : _≡_ {A = ℕ} 0 1 = cc in absurd (omega arith)
 
@@ -83,12 +87,14 @@ module _ (net : Network) (k : ℕ) (vectors : List ℕ) where
             let same : x ≡ m = cc in
             let inside : x < length (sets-of-class k set) = rw length-read at b in
             by-class l
-            ∙ least-in-class k set (λ z. eqb (reads-as z) (reads-as set)) x inside (ap (λ (w : ℕ). eqb w (reads-as set)) (sym (read-at x inside)) ∙ c)
+            ∙ least-in-class k set (λ z. eqb (reads-as z) (reads-as set)) x inside
+            (ap (λ (w : ℕ). eqb w (reads-as set)) (sym (read-at x inside)) ∙ c)
             (λ j n. ap (λ (w : ℕ). eqb w (reads-as set)) (sym (read-at j (omega arith))) ∙ g j zero-le n)
             ∙ ap Found (ap (at (sets-of-class k set)) same ∙ here)
         go Missing r q = let z : _≡_ {A = ℕ} 0 1 = cc in absurd (omega arith)
 
-    stored-missing : set < 2 ^ (net .nets) → position (reads-as set) (take count responses) ≡ Missing → smaller-alike net k vectors set ≡ Missing
+    stored-missing : set < 2 ^ (net .nets) → position (reads-as set) (take count responses) ≡ Missing
+        → smaller-alike net k vectors set ≡ Missing
     stored-missing l e = go (position (reads-as set) (take count responses)) (position-is (reads-as set) (take count responses)) e
       where
         go : (s : Search) → Least (λ t. eqb (at (take count responses) t) (reads-as set)) 0 (length (take count responses)) s → s ≡ Missing
@@ -108,7 +114,8 @@ module _ (net : Network) (k : ℕ) (vectors : List ℕ) where
         let found = stored-found m l e in
         let few : few-drivers net k set ≡ true = few-by-ones net k set l ∙ le-leb (ones set) k (stored .of-class) in
         ap (λ (s : Search). pair-at s (smaller-alike net k vectors))
-        (least-found (confused-test net k vectors) (2 ^ (net .nets)) set l (λ z n. stored .none-confused z n (omega arith)) (and-both few (ap is-found found)))
+        (least-found (confused-test net k vectors) (2 ^ (net .nets)) set l
+        (λ z n. stored .none-confused z n (omega arith)) (and-both few (ap is-found found)))
         ∙ ap (λ (s : Search). pair-with s set) found
 
     pub stored-pass : 2 ^ (net .nets) ≤ set → bounded-verdict net k vectors ≡ Pass
@@ -133,17 +140,22 @@ module _ (net : Network) (k : ℕ) (vectors : List ℕ) where
               ap (λ (x : ℕ). take x (ListN.set sets count set)) (add-one count) ∙ take-suc-set sets count set ls
               ∙ ap (λ (ws : List ℕ). ws ++ set ∷ []) (stored .sets-are) ∙ sym more;
           responses-are =
-              ap (λ (x : ℕ). take x (ListN.set responses count (reads-as set))) (add-one count) ∙ take-suc-set responses count (reads-as set) lr
-              ∙ ap (λ (ws : List ℕ). ws ++ reads-as set ∷ []) (stored .responses-are) ∙ sym (map-snoc (sequential-response net vectors) (sets-of-class k set) set)
+              ap (λ (x : ℕ). take x (ListN.set responses count (reads-as set))) (add-one count)
+              ∙ take-suc-set responses count (reads-as set) lr
+              ∙ ap (λ (ws : List ℕ). ws ++ reads-as set ∷ []) (stored .responses-are)
+              ∙ sym (map-snoc (sequential-response net vectors) (sets-of-class k set) set)
               ∙ ap (map (sequential-response net vectors)) (sym more);
           of-class = n .few;
           none-confused = λ z m inside. by-place z m inside (less-or-not z set);
         }
       where
-        by-place : (z : ℕ) → z < next → z < 2 ^ (net .nets) → (z < set) ⊎ (set ≤ z) → few-drivers net k z && is-found (smaller-alike net k vectors z) ≡ false
+        by-place : (z : ℕ) → z < next → z < 2 ^ (net .nets) → (z < set) ⊎ (set ≤ z)
+            → few-drivers net k z && is-found (smaller-alike net k vectors z) ≡ false
         by-place z m inside (inl before) = stored .none-confused z before inside
         by-place z m inside (inr after) = at-or-above (eq-or-lt-of-le after)
           where
             at-or-above : (set ≡ z) ⊎ (set < z) → few-drivers net k z && is-found (smaller-alike net k vectors z) ≡ false
-            at-or-above (inl q) = subst (λ (x : ℕ). few-drivers net k x && is-found (smaller-alike net k vectors x) ≡ false) q (rw (stored-missing l e) (and-false (few-drivers net k set)))
+            at-or-above (inl q) = subst
+                (λ (x : ℕ). few-drivers net k x && is-found (smaller-alike net k vectors x) ≡ false) q
+                (rw (stored-missing l e) (and-false (few-drivers net k set)))
             at-or-above (inr up) = rw (few-by-ones net k z inside ∙ lt-leb (ones z) k (n .smallest z up m))

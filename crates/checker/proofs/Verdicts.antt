@@ -19,7 +19,8 @@ use Rattle.network.proofs.Reading.{alike-sequential, sequential-alike}
 use Rattle.network.proofs.States.{few-drivers-at, few-drivers-of}
 use Rattle.checker.specs.declared.Verdict.{Verdict}
 use Rattle.checker.specs.declared.Verdict.the-variants.{Pass, Pair}
-use Rattle.checker.specs.Rule.{Among, FullRule, Confused, BoundedRule, Rule, smaller-alike, pair-with, pair-at, bounded-verdict, pair-without, full-verdict, verdict}
+use Rattle.checker.specs.Rule.{Among, FullRule, Confused, BoundedRule, Rule, smaller-alike, pair-with, pair-at}
+use Rattle.checker.specs.Rule.{bounded-verdict, pair-without, full-verdict, verdict}
 
 -- a pair is not a pass
 pub pair-not-pass : {A : Type 0} {a b : ℕ} → Pair a b ≡ Pass → A
@@ -110,13 +111,23 @@ module _ (net : Network) (vectors : List ℕ) where
   unfolding full-verdict lacks
   full-rule = go (among (extra-vector net) vectors) refl
     where
-      by-net : among (extra-vector net) vectors ≡ true → (s : Search) → Least lacks 0 (net .nets) s → FullRule net vectors (pair-without net s)
+      by-net : among (extra-vector net) vectors ≡ true → (s : Search) → Least lacks 0 (net .nets) s
+          → FullRule net vectors (pair-without net s)
       by-net e (Found i) (first x y z none) =
           inr (
             present (extra-vector net) e,
-            (i, y, absent (walking-vector net i) (not-true _ z), λ j l. present (walking-vector net j) (not-false _ (none j zero-le l)), refl, refl),
+            (
+              i,
+              y,
+              absent (walking-vector net i) (not-true _ z),
+              λ j l. present (walking-vector net j)
+                  (not-false _ (none j zero-le l)),
+              refl,
+              refl,
+            ),
           )
-      by-net e Missing (nowhere none) = (present (extra-vector net) e, λ i l. present (walking-vector net i) (not-false _ (none i zero-le l)))
+      by-net e Missing (nowhere none) =
+          (present (extra-vector net) e, λ i l. present (walking-vector net i) (not-false _ (none i zero-le l)))
 
       go : (t : Bool) → among (extra-vector net) vectors ≡ t
           → FullRule net vectors (cond t (pair-without net (least (net .nets) 0 lacks)) (Pair 0 (all-drivers net)))
@@ -132,7 +143,8 @@ module _ (net : Network) (vectors : List ℕ) where
   full-determined (Pair a b) (Pair c d) (inl (none, x, y)) (inl (none′, x′, y′)) = ap₂ Pair (x ∙ sym x′) (y ∙ sym y′)
   full-determined (Pair a b) (Pair c d) (inl (none, x, y)) (inr (some, rest)) = absurd (none some)
   full-determined (Pair a b) (Pair c d) (inr (some, rest)) (inl (none, x, y)) = absurd (none some)
-  full-determined (Pair a b) (Pair c d) (inr (some, (i, l, none, smaller, x, y))) (inr (some′, (j, m, none′, smaller′, x′, y′))) = go (three-ways i j)
+  full-determined (Pair a b) (Pair c d) (inr (some, (i, l, none, smaller, x, y)))
+      (inr (some′, (j, m, none′, smaller′, x′, y′))) = go (three-ways i j)
     where
       go : (i < j) ⊎ ((i ≡ j) ⊎ (j < i)) → Pair a b ≡ Pair c d
       go (inl s) = absurd (none (smaller′ i s))

@@ -20,10 +20,13 @@ module _ (net : Network) (vectors : List ℕ) where
   unfolding full-verdict
   no-extra e = rw e
 
-  pub no-walking : (i : ℕ) → i < net .nets → among (extra-vector net) vectors ≡ true → WalkingBelow i → among (walking-vector net i) vectors ≡ false
+  pub no-walking : (i : ℕ) → i < net .nets → among (extra-vector net) vectors ≡ true → WalkingBelow i
+      → among (walking-vector net i) vectors ≡ false
       → full-verdict net vectors ≡ Pair (all-but net i) (all-drivers net)
   unfolding full-verdict
-  no-walking i l e h f = rw e (ap (pair-without net) (least-found (λ z. not (among (walking-vector net z) vectors)) (net .nets) i l h (ap not f)))
+  no-walking i l e h f = rw e
+      (ap (pair-without net) (least-found (λ z. not (among (walking-vector net z) vectors)) (net .nets) i l h
+      (ap not f)))
 
   pub all-there : (i : ℕ) → net .nets ≤ i → among (extra-vector net) vectors ≡ true → WalkingBelow i → full-verdict net vectors ≡ Pass
   unfolding full-verdict

@@ -22,8 +22,8 @@ use Rattle.checker.specs.declared.Verdict.the-variants.{Pass, Pair}
 abbrev pub Among : ℕ → List ℕ → Type 0
 Among word vectors = (t : ℕ) × (t < length vectors) × (at vectors t ≡ word)
 
--- k = n: without the extra vector, the empty set and all drivers; else, for the smallest net without its walking vector,
--- all drivers but that one, and all drivers; else pass
+-- k = n: without the extra vector, the empty set and all drivers; else, for the smallest net without its walking
+-- vector, all drivers but that one, and all drivers; else pass
 abbrev pub FullRule : Network → List ℕ → Verdict → Type 0
 FullRule net vectors Pass = Among (extra-vector net) vectors × ((i : ℕ) → i < net .nets → Among (walking-vector net i) vectors)
 FullRule net vectors (Pair a b) =

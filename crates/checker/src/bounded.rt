@@ -10,7 +10,8 @@ use words::Search;
 // There are at most this many sets of at most 3 of 48 drivers.
 const SETS: usize = 18473;
 
-// The sets of the class in ascending order. What each reads is worked out once, and looked up among those of the smaller sets.
+// The sets of the class in ascending order. What each reads is worked out once, and looked up among those of the
+// smaller sets.
 pub fn bounded_verdict(net: Network, class: u64, vectors: &[u64]) -> Verdict
     requires { ⌜ (length (now vectors) ≤ 64) × (net .nets ≤ 48) × (0 < class) × (class ≤ 3) ⌝ }
     ensures { λ r. ⌜ r ≡ bounded-verdict net class (now (vectors .entry)) ⌝ }

@@ -23,8 +23,10 @@ module _ (before : List ℕ) (start : ℕ) (numbers : List ℕ) where
   pub put-none : Put before start numbers before start 0
   put-none = record { inside = zero-le; size = refl; bound = omega arith; left = refl; rest = refl }
 
-  module _ (text : List ℕ) (end i : ℕ) (p : Put before start numbers text end i) (room : start + 21 * length numbers + 1 ≤ length before) where
-    pub put-one : (after : List ℕ) (next : ℕ) → i < length numbers → next ≡ end + length (spaced (at numbers i)) → after ≡ written text end (spaced (at numbers i))
+  module _ (text : List ℕ) (end i : ℕ) (p : Put before start numbers text end i)
+      (room : start + 21 * length numbers + 1 ≤ length before) where
+    pub put-one : (after : List ℕ) (next : ℕ) → i < length numbers → next ≡ end + length (spaced (at numbers i))
+        → after ≡ written text end (spaced (at numbers i))
         → Put before start numbers after next (i + 1)
     unfolding numbers-end
     put-one after next l n e =
@@ -32,16 +34,21 @@ module _ (before : List ℕ) (start : ℕ) (numbers : List ℕ) where
         let one : i + 1 ≡ suc i = omega arith in
         let now : drop i numbers ≡ at numbers i ∷ drop (suc i) numbers = drop-cons numbers i 0 l in
         let whole = length-append (spaced (at numbers i)) (numbers-end (drop (suc i) numbers)) in
-        let same : length after ≡ length text = ap length e ∙ written-length text end (spaced (at numbers i)) (omega (arith, p .bound, p .size, room)) in
-        let line : length (numbers-end (drop i numbers)) ≡ length (spaced (at numbers i)) + length (numbers-end (drop (suc i) numbers)) = ap (λ (ns : List ℕ). length (numbers-end ns)) now ∙ whole in
+        let same : length after ≡ length text = ap length e
+        ∙ written-length text end (spaced (at numbers i)) (omega (arith, p .bound, p .size, room)) in
+        let line : length (numbers-end (drop i numbers))
+        ≡ length (spaced (at numbers i)) + length (numbers-end (drop (suc i) numbers)) =
+        ap (λ (ns : List ℕ). length (numbers-end ns)) now ∙ whole in
         record {
           inside = omega (arith, l);
           size = same ∙ p .size;
           bound = omega (arith, n, most, p .bound);
           left = rw one (omega (arith, n, line, p .left));
           rest = ap₂ (λ (t : List ℕ) (k : ℕ). written t k (numbers-end (drop (i + 1) numbers))) e n
-              ∙ ap (λ (m : ℕ). written (written text end (spaced (at numbers i))) (end + length (spaced (at numbers i))) (numbers-end (drop m numbers))) one
-              ∙ written-more text end (spaced (at numbers i)) (numbers-end (drop (suc i) numbers)) (omega (arith, p .bound, p .size, room, p .inside))
+              ∙ ap (λ (m : ℕ). written (written text end (spaced (at numbers i))) (end + length (spaced (at numbers i)))
+              (numbers-end (drop m numbers))) one
+              ∙ written-more text end (spaced (at numbers i)) (numbers-end (drop (suc i) numbers))
+              (omega (arith, p .bound, p .size, room, p .inside))
               ∙ ap (λ (ns : List ℕ). written text end (numbers-end ns)) (sym now)
               ∙ p .rest;
         }

@@ -21,7 +21,11 @@ unfolding digits
 digits-step most n = go (ltb n 10) refl
   where
     go : (b : Bool) → ltb n 10 ≡ b
-        → elim b as (λ _. List ℕ) [ true ↦ digit-byte n ∷ [] | false ↦ digits most (n / 10) ++ digit-byte (n % 10) ∷ [] ] ≡ higher most (n / 10) ++ digit-byte (n % 10) ∷ []
+        → elim b as (λ _. List ℕ) [
+          | true ↦ digit-byte n ∷ []
+          | false ↦ digits most (n / 10) ++ digit-byte (n % 10)
+              ∷ []
+        ] ≡ higher most (n / 10) ++ digit-byte (n % 10) ∷ []
     go true e =
         let l = ltb-true n 10 e in
         let q : n / 10 ≡ 0 = omega arith in
@@ -42,20 +46,30 @@ drop-set (y ∷ list) (suc i) x l = drop-set list i x (le-of-suc-le-suc l)
 -- one turn of the loop that puts digits from the end on: where it stands, and the digits put
 module _ (text buffer : List ℕ) (size : length buffer ≡ 20) where
   pub next-digit : (start rest : ℕ) → start ≤ 19 → rest < 10 ^ start → rest ≢ 0 → text ≡ higher start rest ++ drop start buffer
-      → (1 ≤ start) × (rest / 10 < 10 ^ (start - 1)) × (text ≡ higher (start - 1) (rest / 10) ++ drop (start - 1) (set buffer (start - 1) (digit-byte (rest % 10))))
+      → (1 ≤ start) × (rest / 10 < 10 ^ (start - 1))
+      × (text ≡ higher (start - 1) (rest / 10)
+      ++ drop (start - 1) (set buffer (start - 1) (digit-byte (rest % 10))))
   next-digit zero rest short low some e = absurd (some (omega arith))
   next-digit (suc m) rest short low some e =
       let less : suc m - 1 ≡ m = omega arith in
       let tenth : rest / 10 < 10 ^ m = omega arith in
-      let digit : drop m (set buffer m (digit-byte (rest % 10))) ≡ digit-byte (rest % 10) ∷ drop (suc m) buffer = drop-set buffer m _ (omega (arith, size)) in
-      (omega arith, rw less tenth, rw (less, digit) (e ∙ ap (λ (high : List ℕ). high ++ drop (suc m) buffer) (higher-step m rest some) ∙ append-assoc (higher m (rest / 10)) (digit-byte (rest % 10) ∷ []) (drop (suc m) buffer)))
+      let digit : drop m (set buffer m (digit-byte (rest % 10))) ≡ digit-byte (rest % 10) ∷ drop (suc m) buffer =
+      drop-set buffer m _ (omega (arith, size)) in (
+        omega arith,
+        rw less tenth,
+        rw (less, digit)
+            (e ∙ ap (λ (high : List ℕ). high ++ drop (suc m) buffer) (higher-step m rest some)
+            ∙ append-assoc (higher m (rest / 10)) (digit-byte (rest % 10) ∷ []) (drop (suc m) buffer)),
+      )
 
 -- before the loop: the last digit stands at the end
-pub first-digit : (n : ℕ) (buffer : List ℕ) → length buffer ≡ 20 → decimal n ≡ higher 19 (n / 10) ++ drop 19 (set buffer 19 (digit-byte (n % 10)))
+pub first-digit : (n : ℕ) (buffer : List ℕ) → length buffer ≡ 20
+    → decimal n ≡ higher 19 (n / 10) ++ drop 19 (set buffer 19 (digit-byte (n % 10)))
 unfolding decimal
 first-digit n buffer size =
     let rest : drop 20 buffer ≡ [] = drop-of-length-le buffer {i = 20} (omega (arith, size)) in
-    digits-step 19 n ∙ sym (ap (λ (low : List ℕ). higher 19 (n / 10) ++ low) (drop-set buffer 19 _ (omega (arith, size)) ∙ ap (λ (after : List ℕ). digit-byte (n % 10) ∷ after) rest))
+    digits-step 19 n ∙ sym (ap (λ (low : List ℕ). higher 19 (n / 10) ++ low)
+    (drop-set buffer 19 _ (omega (arith, size)) ∙ ap (λ (after : List ℕ). digit-byte (n % 10) ∷ after) rest))
 
 -- ---- lengths
 
@@ -65,7 +79,12 @@ digits-most zero n = zero-le
 digits-most (suc most) n = go (ltb n 10) (digits-most most (n / 10))
   where
     go : (b : Bool) → length (digits most (n / 10)) ≤ most
-        → length {A = ℕ} (elim b as (λ _. List ℕ) [ true ↦ digit-byte n ∷ [] | false ↦ digits most (n / 10) ++ digit-byte (n % 10) ∷ [] ]) ≤ suc most
+        → length {A = ℕ} (elim b as
+        (λ _. List ℕ) [
+          | true ↦ digit-byte n ∷ []
+          | false ↦ digits most (n / 10) ++ digit-byte (n % 10)
+              ∷ []
+        ]) ≤ suc most
     go true l = omega arith
     go false l = let both = length-append (digits most (n / 10)) (digit-byte (n % 10) ∷ []) in omega arith
 

@@ -57,7 +57,8 @@ fn put_spaced(text: &mut [u8], at: usize, n: u64) -> usize
 // Numbers with a space before each, and a newline, into a text from an index on; returns the index past them.
 pub fn put_numbers(text: &mut [u8], at: usize, numbers: &[u64]) -> usize
     requires { ⌜ at + 21 * length (now numbers) + 1 ≤ length (now text) ⌝ }
-    ensures { λ r. ⌜ (r ≡ at + length (numbers-end (now (numbers .entry)))) × (now (text .exit) ≡ written (now (text .entry)) at (numbers-end (now (numbers .entry)))) ⌝ }
+    ensures { λ r. ⌜ (r ≡ at + length (numbers-end (now (numbers .entry))))
+        × (now (text .exit) ≡ written (now (text .entry)) at (numbers-end (now (numbers .entry)))) ⌝ }
 {
     let mut end = at;
     let mut i: usize = 0;
@@ -72,7 +73,9 @@ pub fn put_numbers(text: &mut [u8], at: usize, numbers: &[u64]) -> usize
 // A line of a word and numbers into a text from an index on; returns the index past it.
 pub fn put_line(text: &mut [u8], at: usize, word: &[u8], numbers: &[u64]) -> usize
     requires { ⌜ at + length (now word) + 21 * length (now numbers) + 1 ≤ length (now text) ⌝ }
-    ensures { λ r. ⌜ (r ≡ at + length (now (word .entry) ++ numbers-end (now (numbers .entry)))) × (now (text .exit) ≡ written (now (text .entry)) at (now (word .entry) ++ numbers-end (now (numbers .entry)))) ⌝ }
+    ensures { λ r. ⌜ (r ≡ at + length (now (word .entry) ++ numbers-end (now (numbers .entry))))
+        × (now (text .exit) ≡ written (now (text .entry)) at
+        (now (word .entry) ++ numbers-end (now (numbers .entry)))) ⌝ }
 {
     put_bytes(text, at, word);
     put_numbers(text, at + word.len(), numbers)

@@ -53,7 +53,8 @@ module _ (net : Network) (k : ℕ) (vectors : List ℕ) (none : NoneHolds (SetRo
 rule-checks : (p : CheckProgram) → ChecksByRule p → Checks p
 rule-checks p h net k vectors =
     table-implies (Rule net k vectors) (Judged net k vectors) (SetRows net k vectors) (p net k vectors)
-    (λ none v r. let s = admitted-set net k vectors none in judged net k vectors none v (rule-shows net k vectors v (s .two) (s .narrow) r)) (h net k vectors)
+    (λ none v r. let s = admitted-set net k vectors none in
+    judged net k vectors none v (rule-shows net k vectors v (s .two) (s .narrow) r)) (h net k vectors)
 
 pub checks-by-rule : ChecksByRule check-answer
 checks-by-rule net k vectors = check-by-table net k vectors
@@ -61,5 +62,7 @@ checks-by-rule net k vectors = check-by-table net k vectors
 pub checks : Checks check-answer
 checks = rule-checks check-answer checks-by-rule
 
-pub check-determined-program : (p q : CheckProgram) → ChecksByRule p → ChecksByRule q → (net : Network) (k : ℕ) (vectors : List ℕ) → p net k vectors ≡ q net k vectors
-check-determined-program p q f g net k vectors = check-determined net k vectors (p net k vectors) (q net k vectors) (f net k vectors) (g net k vectors)
+pub check-determined-program : (p q : CheckProgram) → ChecksByRule p → ChecksByRule q
+    → (net : Network) (k : ℕ) (vectors : List ℕ) → p net k vectors ≡ q net k vectors
+check-determined-program p q f g net k vectors =
+    check-determined net k vectors (p net k vectors) (q net k vectors) (f net k vectors) (g net k vectors)

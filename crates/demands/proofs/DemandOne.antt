@@ -23,10 +23,15 @@ use Rattle.session.specs.Record.{held-answers, awaits-first, awaits-second}
 use Rattle.session.proofs.Records.{held-of}
 use Rattle.reader.specs.Reader.{JobContent, content, vectors-read, responses-read, counted}
 use Rattle.writer.specs.Writer.{file-of}
-use Rattle.demands.specs.SessionCalls.{Call, begin, first, second, lent, History, none, waits-first, waits-second, finished-first, finished-second, after-first, accepted, extended, record-after, history-from, history, LeftBy, Awaits, FitsAnswers}
+use Rattle.demands.specs.SessionCalls.{Call, begin, first, second, lent, History, none, waits-first, waits-second}
+use Rattle.demands.specs.SessionCalls.{finished-first, finished-second, after-first, accepted, extended}
+use Rattle.demands.specs.SessionCalls.{record-after, history-from, history, LeftBy, Awaits, FitsAnswers}
 use Rattle.demands.specs.SessionRecords.{WaitsFor}
 use Rattle.demands.specs.Demand3.{BeginRows, Written, second-words}
-use Rattle.demands.specs.Demand1.{PublicCall, check, respond, diagnose, find, read, write, advance, drive, awaited-vectors, SessionHighBit, InSession, SessionRows, Rows, numbers, RefusedFill, FullFill, Before, RefusedWith, FullResult, FirstRow, RefusedOrFull, Demand1}
+use Rattle.demands.specs.Demand1.{PublicCall, check, respond, diagnose, find, read, write, advance, drive}
+use Rattle.demands.specs.Demand1.{awaited-vectors, SessionHighBit, InSession, SessionRows, Rows, numbers}
+use Rattle.demands.specs.Demand1.{RefusedFill, FullFill, Before, RefusedWith, FullResult, FirstRow, RefusedOrFull}
+use Rattle.demands.specs.Demand1.{Demand1}
 use Rattle.demands.specs.Programs.{our-response, our-check, our-diagnosis, our-findings, our-writer, our-answer, our-sessions, ours}
 use Rattle.demands.proofs.Responding.{responds}
 use Rattle.demands.proofs.Diagnosing.{diagnoses}
@@ -48,7 +53,8 @@ either result Refused Full ((number, holds) ∷ rows) a f g (inr (n, b)) =
     ⊎-elim (λ w. inl (w .0, inr (n, w .1), w .2)) (λ w. inr ((n, w .0), w .1)) (either result Refused Full rows a f g b)
 
 -- a call that fills a list
-fills : {A : Type 0} (rows : List (ℕ × Type 0)) (result : List A → Type 0) (lent : List A) (did : Filled A) → FillsByTable rows result lent did
+fills : {A : Type 0} (rows : List (ℕ × Type 0)) (result : List A → Type 0) (lent : List A) (did : Filled A)
+    → FillsByTable rows result lent did
     → ((number : ℕ) × FirstRow rows number × RefusedFill lent did number) ⊎ (NoneHolds rows × FullFill result lent did)
 unfolding count-of lent-after
 fills {A} rows result lent did f =
@@ -63,7 +69,8 @@ abbrev history-of : Session → History
 history-of session =
     let net = session .network in
     let answers = held-answers session in
-    cond (eqb (session .step) 1) (waits-first net (first-vectors net)) (waits-second net (first-vectors net) answers (second-vectors net answers))
+    cond (eqb (session .step) 1) (waits-first net (first-vectors net))
+    (waits-second net (first-vectors net) answers (second-vectors net answers))
 
 told-session : (h : History) (session : Session) → h ≢ none → Tells h session → session .step ≢ 3 → h ≡ history-of session
 told-session none session begun t d = absurd (begun refl)
@@ -86,14 +93,16 @@ in-one : (result : List ℕ → Type 0) (h : History) (session : Session) (a : A
     → (rows : List (ℕ × (History → Type 0))) → ByTable (rows-at h rows) result a → ByTable (rows-of session rows) result a
 in-one result h session a l d [] b = b
 in-one result h session a l d ((number, holds) ∷ rows) (inl (y, e)) = inl ((h, l, y), e)
-in-one result h session a l d ((number, holds) ∷ rows) (inr (n, b)) = inr (λ w. n (subst holds (same (w .0) (w .1)) (w .2)), in-one result h session a l d rows b)
+in-one result h session a l d ((number, holds) ∷ rows) (inr (n, b)) =
+    inr (λ w. n (subst holds (same (w .0) (w .1)) (w .2)), in-one result h session a l d rows b)
   where
     not-3 : session .step ≢ 3
     not-3 e = d (sym (step-told h session (l .begun) (left-tells h session l)) ∙ e)
 
     same : (other : History) → LeftBy our-sessions other session → other ≡ h
     same other m =
-        told-session other session (m .begun) (left-tells other session m) not-3 ∙ sym (told-session h session (l .begun) (left-tells h session l) not-3)
+        told-session other session (m .begun) (left-tells other session m) not-3
+        ∙ sym (told-session h session (l .begun) (left-tells h session l) not-3)
 
 -- ---- the session's calls
 
@@ -104,10 +113,13 @@ Taken session call written = (h : History) × Before our-sessions session call h
 -- if the record stands in this session: it is not finished, and the call is answered by its rows
 abbrev ByRowsOf : Session → Call → List (ℕ × (History → Type 0)) → History → Type 0
 ByRowsOf session call rows h =
-    LeftBy our-sessions h session → (step-of h ≢ 3) × Before our-sessions session call h × ByTable (rows-at h rows) (Written h call) (our-answer session call)
+    LeftBy our-sessions h session
+    → (step-of h ≢ 3) × Before our-sessions session call h
+    × ByTable (rows-at h rows) (Written h call) (our-answer session call)
 
 -- row 4, then those of the session
-four-or-later : (session : Session) (call : Call) (test : Bool) (rows : List (ℕ × (History → Type 0))) → (test ≡ true) ↔ WaitsFor our-sessions session call
+four-or-later : (session : Session) (call : Call) (test : Bool) (rows : List (ℕ × (History → Type 0)))
+    → (test ≡ true) ↔ WaitsFor our-sessions session call
     → (test ≡ false → our-answer session call ≡ refused 4) → ((h : History) → Awaits h call → ByRowsOf session call rows h)
     → ByTable ((4, ¬ (WaitsFor our-sessions session call)) ∷ rows-of session rows) (Taken session call) (our-answer session call)
 four-or-later session call test rows tells four later =
@@ -117,30 +129,44 @@ four-or-later session call test rows tells four later =
     waits (h, l, y) =
         let b = later h y l in
         in-one (Taken session call) h session (our-answer session call) l (b .0) rows
-        (table-implies (Written h call) (Taken session call) (rows-at h rows) (our-answer session call) (λ _ words w. (h, b .1, y, w)) (b .2))
+        (table-implies (Written h call) (Taken session call) (rows-at h rows) (our-answer session call)
+        (λ _ words w. (h, b .1, y, w)) (b .2))
 
 -- by the rows of demand 1
-advances : (session : Session) (call : Call) → ByTable (SessionRows our-sessions session call) (Taken session call) (our-answer session call)
+advances : (session : Session) (call : Call)
+    → ByTable (SessionRows our-sessions session call) (Taken session call) (our-answer session call)
 advances session (begin net list) =
-    table-implies (λ (words : List ℕ). words ≡ first-vectors net) (Taken session (begin net list)) (BeginRows net list) (our-answer session (begin net list))
+    table-implies (λ (words : List ℕ). words ≡ first-vectors net) (Taken session (begin net list)) (BeginRows net list)
+    (our-answer session (begin net list))
     (λ _ words w. (none, tt, tt, w)) (begin-by-table session net list)
 advances session (first answers list) =
     let call : Call = first answers list in
     let rows : List (ℕ × (History → Type 0)) =
-    (9, λ h. Row9 (length (awaited-vectors h)) (length answers)) ∷ (10, λ h. SessionHighBit h answers) ∷ (12, λ h. Row12 (length (second-words h answers)) (length list)) ∷ [] in
-    four-or-later session call (awaits-first session) rows (row-four .first-answers session answers list) (first-refused session answers list)
-    (λ h y. subst (ByRowsOf session call rows) (sym (y .2)) (λ l. (λ e. omega arith, l, call-by-table session call .in-session (waits-first (y .0) (y .1)) l)))
+    (9, λ h. Row9 (length (awaited-vectors h)) (length answers)) ∷ (10, λ h. SessionHighBit h answers)
+    ∷ (12, λ h. Row12 (length (second-words h answers)) (length list)) ∷ [] in
+    four-or-later session call (awaits-first session) rows (row-four .first-answers session answers list)
+    (first-refused session answers list)
+    (λ h y. subst (ByRowsOf session call rows) (sym (y .2))
+    (λ l. (λ e. omega arith, l, call-by-table session call .in-session (waits-first (y .0) (y .1)) l)))
 advances session (second answers) =
     let call : Call = second answers in
     let rows : List (ℕ × (History → Type 0)) =
-    (9, λ h. Row9 (length (awaited-vectors h)) (length answers)) ∷ (10, λ h. SessionHighBit h answers) ∷ (14, λ h. ¬ ((state : List ℕ) × FitsAnswers (accepted h call []) state)) ∷ [] in
+    (9, λ h. Row9 (length (awaited-vectors h)) (length answers)) ∷ (10, λ h. SessionHighBit h answers)
+    ∷ (14, λ h. ¬ ((state : List ℕ) × FitsAnswers (accepted h call []) state)) ∷ [] in
     four-or-later session call (awaits-second session) rows (row-four .second-answers session answers) (second-refused session answers)
-    (λ h y. subst (ByRowsOf session call rows) (sym (y .4)) (λ l. (λ e. omega arith, l, call-by-table session call .in-session (waits-second (y .0) (y .1) (y .2) (y .3)) l)))
+    (λ h y. subst (ByRowsOf session call rows) (sym (y .4))
+    (λ l. (
+      λ e. omega arith,
+      l,
+      call-by-table session call .in-session
+          (waits-second (y .0) (y .1) (y .2) (y .3)) l,
+    )))
 
 -- a list of calls and one more
 call-appended : (h : History) (start : Session) (calls : List Call) (call : Call) → let session = record-after our-sessions start calls in
     (record-after our-sessions start (calls ++ call ∷ []) ≡ our-sessions session call .session)
-    × (history-from our-sessions h start (calls ++ call ∷ []) ≡ extended (history-from our-sessions h start calls) call (our-sessions session call))
+    × (history-from our-sessions h start (calls ++ call ∷ [])
+    ≡ extended (history-from our-sessions h start calls) call (our-sessions session call))
 call-appended h start [] call = (refl, refl)
 call-appended h start (c ∷ calls) call = call-appended (extended h c (our-sessions start c)) (our-sessions start c .session) calls call
 
@@ -171,11 +197,14 @@ goes-on h session call written y e start calls leaves in-session = record {
 }
 
 -- after the calls that left the record; begin starts a list of its own
-accepted-leaves : (session : Session) (call : Call) (h : History) (written : List ℕ) → Before our-sessions session call h → Awaits h call → our-answer session call ≡ full written
+accepted-leaves : (session : Session) (call : Call) (h : History) (written : List ℕ)
+    → Before our-sessions session call h → Awaits h call → our-answer session call ≡ full written
     → LeftBy our-sessions (accepted h call written) (our-sessions session call .session)
 accepted-leaves session (begin net list) h written b y e = goes-on none session (begin net list) written y e session [] refl refl
-accepted-leaves session (first answers list) h written b y e = goes-on h session (first answers list) written y e (b .start) (b .calls) (b .leaves) (b .in-session)
-accepted-leaves session (second answers) h written b y e = goes-on h session (second answers) written y e (b .start) (b .calls) (b .leaves) (b .in-session)
+accepted-leaves session (first answers list) h written b y e =
+    goes-on h session (first answers list) written y e (b .start) (b .calls) (b .leaves) (b .in-session)
+accepted-leaves session (second answers) h written b y e =
+    goes-on h session (second answers) written y e (b .start) (b .calls) (b .leaves) (b .in-session)
 
 -- ---- demand 1
 
@@ -188,29 +217,50 @@ read-call file vectors responses =
     let responses-after : Answer JobContent → List ℕ = λ a. lent-after (responses-read a) responses in
     either (λ (job : JobContent). job ≡ content file) (RefusedWith ours call) (FullResult ours call) (Rows ours call) (f .answer)
     (λ number e. (f .returned ∙ ap counted e, f .vectors-after ∙ ap vectors-after e, f .responses-after ∙ ap responses-after e))
-    (λ job e r. let q = e ∙ ap full r in (f .returned ∙ ap counted q, f .vectors-after ∙ ap vectors-after q, f .responses-after ∙ ap responses-after q)) (f .allowed)
+    (λ job e r. let q = e ∙ ap full r in (
+      f .returned ∙ ap counted q,
+      f .vectors-after ∙ ap vectors-after q,
+      f .responses-after
+          ∙ ap responses-after q,
+    )) (f .allowed)
 
 advance-call : (session : Session) (call : Call) → RefusedOrFull ours (advance session call)
 unfolding lent-after
 advance-call session call =
     let list-after : Answer (List ℕ) → List ℕ = λ a. lent-after a (lent call) in
-    either (Taken session call) (RefusedWith ours (advance session call)) (FullResult ours (advance session call)) (Rows ours (advance session call)) (our-answer session call)
+    either (Taken session call) (RefusedWith ours (advance session call)) (FullResult ours (advance session call))
+    (Rows ours (advance session call)) (our-answer session call)
     (λ number e. (e, ap list-after e, call-by-table session call .record-kept number e))
-    (λ written e t. (t .0, written, t .1, t .3, e, ap list-after e, accepted-leaves session call (t .0) written (t .1) (t .2) e)) (advances session call)
+    (λ written e t. (
+      t .0,
+      written,
+      t .1,
+      t .3,
+      e,
+      ap list-after e,
+      accepted-leaves session call (t .0) written (t .1)
+          (t .2) e,
+    )) (advances session call)
 
 each-call : (call : PublicCall) → RefusedOrFull ours call
 each-call (check net k vectors) =
     let call : PublicCall = check net k vectors in
-    either (Rule net k vectors) (RefusedWith ours call) (FullResult ours call) (Rows ours call) (our-check net k vectors) (λ number e. e) (λ verdict e r. (verdict, r, e))
+    either (Rule net k vectors) (RefusedWith ours call) (FullResult ours call) (Rows ours call)
+    (our-check net k vectors) (λ number e. e) (λ verdict e r. (verdict, r, e))
     (checks-by-rule net k vectors)
 each-call (respond net k vectors state list) =
-    fills (Rows ours (respond net k vectors state list)) (Response net state vectors) list (our-response net k vectors state list) (responds net k vectors state list)
+    fills (Rows ours (respond net k vectors state list)) (Response net state vectors) list
+    (our-response net k vectors state list) (responds net k vectors state list)
 each-call (diagnose net k vectors responses list) =
-    fills (Rows ours (diagnose net k vectors responses list)) (Fits net k vectors responses) list (our-diagnosis net k vectors responses list) (diagnoses net k vectors responses list .by-table)
-each-call (find net state table) = fills (Rows ours (find net state table)) (Findings net state) table (our-findings net state table) (finds net state table)
+    fills (Rows ours (diagnose net k vectors responses list)) (Fits net k vectors responses) list
+    (our-diagnosis net k vectors responses list) (diagnoses net k vectors responses list .by-table)
+each-call (find net state table) =
+    fills (Rows ours (find net state table)) (Findings net state) table (our-findings net state table)
+    (finds net state table)
 each-call (read file vectors responses) = read-call file vectors responses
 each-call (write net k vectors responses file) =
-    fills (Rows ours (write net k vectors responses file)) (λ bytes. bytes ≡ file-of net k vectors responses) file (our-writer net k vectors responses file) (writes net k vectors responses file)
+    fills (Rows ours (write net k vectors responses file)) (λ bytes. bytes ≡ file-of net k vectors responses) file
+    (our-writer net k vectors responses file) (writes net k vectors responses file)
 each-call (advance session call) = advance-call session call
 each-call (drive session one two) = inr (tt, drives session one two)
 

@@ -38,15 +38,19 @@ module _ (net : Network) (k : ℕ) (vectors responses lent : List ℕ) where
         ⊎ ((¬ (Row14 net k vectors responses))
         × ((state : List ℕ) × (diagnosis-answer net k vectors responses (length lent) ≡ full state) × Fits net k vectors responses state))
     last =
-        table-skip (Fits net k vectors responses) (EarlierRows net k vectors responses (length lent)) ((14, Row14 net k vectors responses) ∷ [])
+        table-skip (Fits net k vectors responses) (EarlierRows net k vectors responses (length lent))
+        ((14, Row14 net k vectors responses) ∷ [])
         (diagnosis-answer net k vectors responses (length lent)) none (diagnosis-by-table net k vectors responses (length lent))
 
     only : (s u : List ℕ) → Fits net k vectors responses s → Fits net k vectors responses u → s ≡ u
     only = go none
       where
-        go : NoneHolds (EarlierRows net k vectors responses (length lent)) → (s u : List ℕ) → Fits net k vectors responses s → Fits net k vectors responses u → s ≡ u
+        go : NoneHolds (EarlierRows net k vectors responses (length lent)) → (s u : List ℕ)
+            → Fits net k vectors responses s → Fits net k vectors responses u → s ≡ u
         go (a, (b, (c, (d, (nine, (ten, (twelve, (thirteen, _)))))))) s u p q =
-            apart-one-fits net k vectors (passed-apart net k vectors (admitted-set net k vectors (a, (b, (c, (d, tt))))) thirteen) responses s u p q
+            apart-one-fits net k vectors
+            (passed-apart net k vectors
+            (admitted-set net k vectors (a, (b, (c, (d, tt))))) thirteen) responses s u p q
 
     found : (state : List ℕ) → Fits net k vectors responses state
         → (count-of (diagnosis-answer net k vectors responses (length lent)) ≡ full (net .nets))
@@ -65,14 +69,16 @@ module _ (net : Network) (k : ℕ) (vectors responses lent : List ℕ) where
           ap (λ (a : Answer (List ℕ)). take (net .nets) (lent-after a lent)) e ∙ begins-with s fits ∙ only s state fits h,
         )
 
-    exactly : (count-of (diagnosis-answer net k vectors responses (length lent)) ≡ refused 14) ↔ (¬ ((state : List ℕ) × Fits net k vectors responses state))
+    exactly : (count-of (diagnosis-answer net k vectors responses (length lent)) ≡ refused 14) ↔
+        (¬ ((state : List ℕ) × Fits net k vectors responses state))
     unfolding count-of
     exactly = go last
       where
         go : (Row14 net k vectors responses × (diagnosis-answer net k vectors responses (length lent) ≡ refused 14))
             ⊎ ((¬ (Row14 net k vectors responses))
             × ((s : List ℕ) × (diagnosis-answer net k vectors responses (length lent) ≡ full s) × Fits net k vectors responses s))
-            → (count-of (diagnosis-answer net k vectors responses (length lent)) ≡ refused 14) ↔ (¬ ((state : List ℕ) × Fits net k vectors responses state))
+            → (count-of (diagnosis-answer net k vectors responses (length lent)) ≡ refused 14) ↔
+            (¬ ((state : List ℕ) × Fits net k vectors responses state))
         go (inl (no!, e)) = (λ _. no!, λ _. ap count-of e)
         go (inr (some, (s, e, fits))) = (λ q. refused-not-full q (ap count-of e), λ h. absurd (some h))
 
@@ -84,16 +90,20 @@ diagnoses net k vectors responses lent = record {
     returned = refl;
     list = refl;
   };
-  right = right net k vectors responses lent (diagnosis-answer net k vectors responses (length lent)) (diagnosis-by-table net k vectors responses (length lent));
+  right = right net k vectors responses lent (diagnosis-answer net k vectors responses (length lent))
+      (diagnosis-by-table net k vectors responses (length lent));
   found = found net k vectors responses lent;
   none = exactly net k vectors responses lent;
 }
 
-pub diagnosis-determined-program : (p q : DiagnosisProgram) → Diagnoses p → Diagnoses q → (net : Network) (k : ℕ) (vectors responses lent : List ℕ)
+pub diagnosis-determined-program : (p q : DiagnosisProgram) → Diagnoses p → Diagnoses q
+    → (net : Network) (k : ℕ) (vectors responses lent : List ℕ)
     → p net k vectors responses lent ≡ q net k vectors responses lent
 diagnosis-determined-program p q f g net k vectors responses lent =
-    fills-determined (DiagnosisRows net k vectors responses (length lent)) (Fits net k vectors responses) lent (p net k vectors responses lent) (q net k vectors responses lent)
-    (diagnosis-determined net k vectors responses (length lent)) (f net k vectors responses lent .by-table) (g net k vectors responses lent .by-table)
+    fills-determined (DiagnosisRows net k vectors responses (length lent)) (Fits net k vectors responses) lent
+    (p net k vectors responses lent) (q net k vectors responses lent)
+    (diagnosis-determined net k vectors responses (length lent)) (f net k vectors responses lent .by-table)
+    (g net k vectors responses lent .by-table)
 
 open-and-short : OpenAndShort our-response our-diagnosis
 unfolding open-diagnosis open-findings

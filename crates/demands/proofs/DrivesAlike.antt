@@ -20,21 +20,26 @@ front-determined count list a b (inr (l, e)) (inl (m, f)) = absurd (omega arith)
 front-determined count list a b (inr (l, e)) (inr (m, f)) = e ∙ sym f
 
 -- by what the record waits for
-pub drive-determined : (p q : DriveProgram) → Drives our-sessions p → Drives our-sessions q → (session : Session) (one two : List ℕ) → p session one two ≡ q session one two
-drive-determined p q f g session one two = ⊎-elim step-one (λ e. ⊎-elim step-two (λ d. neither e d) (cases (awaits-second session))) (cases (awaits-first session))
+pub drive-determined : (p q : DriveProgram) → Drives our-sessions p → Drives our-sessions q
+    → (session : Session) (one two : List ℕ) → p session one two ≡ q session one two
+drive-determined p q f g session one two =
+    ⊎-elim step-one (λ e. ⊎-elim step-two (λ d. neither e d) (cases (awaits-second session)))
+    (cases (awaits-first session))
   where
     step-one : awaits-first session ≡ true → p session one two ≡ q session one two
     step-one e =
         let w = row-four .first-answers session [] [] .0 e in
         let left = subst (λ (h : History). LeftBy our-sessions h session) (w .2 .2) (w .1) in
-        front-determined _ one _ _ (f session one two .step-one (w .2 .0) (w .2 .1) left) (g session one two .step-one (w .2 .0) (w .2 .1) left)
+        front-determined _ one _ _ (f session one two .step-one (w .2 .0) (w .2 .1) left)
+        (g session one two .step-one (w .2 .0) (w .2 .1) left)
 
     step-two : awaits-second session ≡ true → p session one two ≡ q session one two
     step-two e =
         let w = row-four .second-answers session [] .0 e in
         let y = w .2 in
         let left = subst (λ (h : History). LeftBy our-sessions h session) (y .4) (w .1) in
-        front-determined _ two _ _ (f session one two .step-two (y .0) (y .1) (y .2) (y .3) left) (g session one two .step-two (y .0) (y .1) (y .2) (y .3) left)
+        front-determined _ two _ _ (f session one two .step-two (y .0) (y .1) (y .2) (y .3) left)
+        (g session one two .step-two (y .0) (y .1) (y .2) (y .3) left)
 
     neither : awaits-first session ≡ false → awaits-second session ≡ false → p session one two ≡ q session one two
     neither e d =

@@ -18,7 +18,8 @@ use Rattle.network.specs.declared.Network.{Network}
 use Rattle.network.specs.Rows.{bad-vector-count, has-high-bit, bad-response-count, no-room}
 use Rattle.network.proofs.Rows.{decides-row-5, decides-row-7, decides-high-bit, nets-admitted, vectors-admitted, no-high-bit}
 use Rattle.jobfile.specs.Bytes.{AllBytes}
-use Rattle.jobfile.specs.Layout.{mark, entry-count, body-length, same-bytes, bad-mark, bad-layout, bad-bodies, file-network, file-class, body-words, has-responses, file-responses}
+use Rattle.jobfile.specs.Layout.{mark, entry-count, body-length, same-bytes, bad-mark, bad-layout, bad-bodies}
+use Rattle.jobfile.specs.Layout.{file-network, file-class, body-words, has-responses, file-responses}
 use Rattle.jobfile.proofs.FileRows.{same-if-equal, decides-same-bytes, test→layout, layout→test, decides-row-3}
 use Rattle.reader.specs.Reader.{JobContent, content, reader-tests, read-answer}
 use Rattle.reader.proofs.Bodies.{responses-given, responses-missing}
@@ -30,7 +31,8 @@ use Rattle.demands.proofs.StandingFile.{AdmittedFile, two-entries-stand
 -- ---- the writer's file, read
 
 -- words that rows 8 and 10 admit fit into 8 bytes
-words-fit : (net : Network) (words : List ℕ) → net .nets ≤ 48 → has-high-bit net words ≡ false → (t : ℕ) → t < length words → at words t < 256 ^ 8
+words-fit : (net : Network) (words : List ℕ) → net .nets ≤ 48 → has-high-bit net words ≡ false → (t : ℕ)
+    → t < length words → at words t < 256 ^ 8
 words-fit net words most e t l =
     let narrow = no-high-bit net words (decides-high-bit net words .1 e) t l in
     let power : 2 ^ (net .nets) ≤ 2 ^ 48 = pow-mono {j = 48} most in
@@ -53,8 +55,10 @@ module _ (net : Network) (k : ℕ) (vectors responses : List ℕ) (room : ℕ) w
         responses-fit = given-fit net responses (nets .1) t10;
       }
 
-  made-is-read : (vectors-room responses-room : ℕ) → length vectors ≤ vectors-room → length responses ≤ responses-room → AllFail (writer-tests net k vectors responses room)
-      → read-answer (file-of net k vectors responses) vectors-room responses-room ≡ full (record { network = net; class = k; vectors = vectors; responses = responses })
+  made-is-read : (vectors-room responses-room : ℕ) → length vectors ≤ vectors-room → length responses ≤ responses-room
+      → AllFail (writer-tests net k vectors responses room)
+      → read-answer (file-of net k vectors responses) vectors-room responses-room
+      ≡ full (record { network = net; class = k; vectors = vectors; responses = responses })
   unfolding read-answer
   made-is-read vectors-room responses-room lv lr (t5, (t6, (t7, (t8, (t9, (t10, t12)))))) =
       let h = admitted (t5, (t6, (t7, (t8, (t9, (t10, t12)))))) in
@@ -77,12 +81,14 @@ pub written-is-read : (net : Network) (k : ℕ) (vectors responses : List ℕ) (
 unfolding write-answer
 written-is-read net k vectors responses room vectors-room responses-room file e lv lr =
     let p = none-passed (writer-tests net k vectors responses room) (file-of net k vectors responses) file e in
-    subst (λ (bytes : List ℕ). read-answer bytes vectors-room responses-room ≡ full (record { network = net; class = k; vectors = vectors; responses = responses })) (p .1)
+    subst (λ (bytes : List ℕ). read-answer bytes vectors-room responses-room
+    ≡ full (record { network = net; class = k; vectors = vectors; responses = responses })) (p .1)
     (made-is-read net k vectors responses room vectors-room responses-room lv lr (p .0))
 
 -- ---- the reader's file, written
 
-admitted-file : (file : List ℕ) → AllBytes file → bad-mark file ≡ false → bad-layout file ≡ false → bad-bodies file ≡ false → AdmittedFile file
+admitted-file : (file : List ℕ) → AllBytes file → bad-mark file ≡ false → bad-layout file ≡ false
+    → bad-bodies file ≡ false → AdmittedFile file
 admitted-file file small t1 t2 t3 =
     let bodies = decides-row-3 file .1 t3 in record {
       small = small;
@@ -113,36 +119,43 @@ module _ (file : List ℕ) where
   third-read q = responses-given file (ap (λ (n : ℕ). eqb n 3) q)
 
   -- where rows 7 and 9 do not hold, a third body has words
-  some-responses : bad-vector-count (body-words file 1) ≡ false → has-responses file && bad-response-count (length (body-words file 1)) (length (file-responses file)) ≡ false
+  some-responses : bad-vector-count (body-words file 1) ≡ false
+      → has-responses file && bad-response-count (length (body-words file 1)) (length (file-responses file)) ≡ false
       → entry-count file ≡ 3 → 0 < length (body-words file 2)
   some-responses t7 t9 q =
       let none : length (body-words file 1) < 1 → ⊥ = λ l. decides-row-7 (body-words file 1) .1 t7 (inl l) in
       let test : not (eqb (length (body-words file 2)) (length (body-words file 1))) ≡ false =
       sym (ap₂ (λ (n : ℕ) (words : List ℕ). eqb n 3 && not (eqb (length words) (length (body-words file 1)))) q (third-read q)) ∙ t9 in
-      let equal = eqb-true (length (body-words file 2)) (length (body-words file 1)) (not-false (eqb (length (body-words file 2)) (length (body-words file 1))) test) in
+      let equal = eqb-true (length (body-words file 2)) (length (body-words file 1))
+      (not-false (eqb (length (body-words file 2)) (length (body-words file 1))) test) in
       omega (arith, none)
 
   content-stands : AdmittedFile file → (entry-count file ≡ 3 → 0 < length (body-words file 2))
       → file-of (file-network file) (file-class file) (body-words file 1) (file-responses file) ≡ file
   content-stands s some =
       let put = file-of (file-network file) (file-class file) (body-words file 1) in
-      ⊎-elim (λ q. ap put (no-third q) ∙ sym (two-entries-stand file s q)) (λ q. ap put (third-read q) ∙ sym (three-entries-stand file s q (some q))) (s .laid .entries)
+      ⊎-elim (λ q. ap put (no-third q) ∙ sym (two-entries-stand file s q))
+      (λ q. ap put (third-read q) ∙ sym (three-entries-stand file s q (some q))) (s .laid .entries)
 
-  content-is-written : (vectors-room responses-room room : ℕ) → AllBytes file → AllFail (reader-tests file (content file) vectors-room responses-room) → length file ≤ room
+  content-is-written : (vectors-room responses-room room : ℕ) → AllBytes file
+      → AllFail (reader-tests file (content file) vectors-room responses-room) → length file ≤ room
       → write-answer (content file .network) (content file .class) (content file .vectors) (content file .responses) room ≡ full file
   unfolding write-answer content
   content-is-written vectors-room responses-room room small (t1, (t2, (t3, (t5, (t6, (t7, (t8, (t9, (t10, t12))))))))) l =
       let responses = file-responses file in
       let whole = content-stands (admitted-file file small t1 t2 t3) (some-responses t7 t9) in
       let made = file-of (file-network file) (file-class file) (body-words file 1) responses in
-      let u9 = behind-weaker (given responses) (has-responses file) (bad-response-count (length (body-words file 1)) (length responses)) third-there t9 in
+      let u9 = behind-weaker (given responses) (has-responses file)
+      (bad-response-count (length (body-words file 1)) (length responses)) third-there t9 in
       let u10 = behind-weaker (given responses) (has-responses file) (has-high-bit (file-network file) responses) third-there t10 in
       let u12 : no-room (length made) room ≡ false = le-ltb room (length made) (rw whole l) in
-      full-answer (writer-tests (file-network file) (file-class file) (body-words file 1) responses room) made (t5, (t6, (t7, (t8, (u9, (u10, (u12, tt)))))))
+      full-answer (writer-tests (file-network file) (file-class file) (body-words file 1) responses room) made
+      (t5, (t6, (t7, (t8, (u9, (u10, (u12, tt)))))))
       ∙ ap full whole
 
 -- what the reader accepts is what the writer writes of its content
-pub read-is-written : (file : List ℕ) (vectors-room responses-room room : ℕ) (job : JobContent) → AllBytes file → read-answer file vectors-room responses-room ≡ full job → length file ≤ room
+pub read-is-written : (file : List ℕ) (vectors-room responses-room room : ℕ) (job : JobContent) → AllBytes file
+    → read-answer file vectors-room responses-room ≡ full job → length file ≤ room
     → write-answer (job .network) (job .class) (job .vectors) (job .responses) room ≡ full file
 unfolding read-answer
 read-is-written file vectors-room responses-room room job small e l =

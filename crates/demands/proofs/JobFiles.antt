@@ -34,7 +34,8 @@ reads-files file vectors responses = record {
   responses-after = refl;
 }
 
-written-is-read : (net : Network) (k : ℕ) (vectors responses lent vectors-lent responses-lent : List ℕ) (count : ℕ) → our-writer net k vectors responses lent .returned ≡ full count
+written-is-read : (net : Network) (k : ℕ) (vectors responses lent vectors-lent responses-lent : List ℕ) (count : ℕ)
+    → our-writer net k vectors responses lent .returned ≡ full count
     → length vectors ≤ length vectors-lent → length responses ≤ length responses-lent
     → let did = our-reader (file-written (our-writer net k vectors responses lent) count) vectors-lent responses-lent in
     (did .returned ≡ full (record { network = net; class = k; vectors = length vectors; responses = length responses }))
@@ -44,17 +45,24 @@ written-is-read net k vectors responses lent vectors-lent responses-lent count e
     let w = counted-full (write-answer net k vectors responses (length lent)) count e in
     let file : List ℕ = w .0 in
     let same : file-written (our-writer net k vectors responses lent) count ≡ file =
-    ap (λ (a : Answer (List ℕ)). take count (lent-after a lent)) (w .1) ∙ ap (λ (n : ℕ). take n (lent-after (full file) lent)) (sym (w .2)) ∙ front-written file lent in
-    let answer : read-answer file (length vectors-lent) (length responses-lent) ≡ full (record { network = net; class = k; vectors = vectors; responses = responses }) =
+    ap (λ (a : Answer (List ℕ)). take count (lent-after a lent)) (w .1)
+    ∙ ap (λ (n : ℕ). take n (lent-after (full file) lent)) (sym (w .2)) ∙ front-written file lent in
+    let answer : read-answer file (length vectors-lent) (length responses-lent)
+    ≡ full (record { network = net; class = k; vectors = vectors; responses = responses }) =
     law.written-is-read net k vectors responses (length lent) (length vectors-lent) (length responses-lent) file (w .1) l m in
-    let read : read-answer (file-written (our-writer net k vectors responses lent) count) (length vectors-lent) (length responses-lent) ≡ full (record { network = net; class = k; vectors = vectors; responses = responses }) =
+    let read : read-answer (file-written (our-writer net k vectors responses lent) count) (length vectors-lent)
+    (length responses-lent) ≡ full
+    (record { network = net; class = k; vectors = vectors; responses = responses }) =
     ap (λ (f : List ℕ). read-answer f (length vectors-lent) (length responses-lent)) same ∙ answer in (
       ap counted read,
-      ap (λ (a : Answer JobContent). take (length vectors) (lent-after (vectors-read a) vectors-lent)) read ∙ front-written vectors vectors-lent,
-      ap (λ (a : Answer JobContent). take (length responses) (lent-after (responses-read a) responses-lent)) read ∙ front-written responses responses-lent,
+      ap (λ (a : Answer JobContent). take (length vectors) (lent-after (vectors-read a) vectors-lent)) read
+          ∙ front-written vectors vectors-lent,
+      ap (λ (a : Answer JobContent). take (length responses) (lent-after (responses-read a) responses-lent)) read
+          ∙ front-written responses responses-lent,
     )
 
-read-is-written : (file vectors-lent responses-lent lent : List ℕ) (job : Job) → AllBytes file → our-reader file vectors-lent responses-lent .returned ≡ full job → length file ≤ length lent
+read-is-written : (file vectors-lent responses-lent lent : List ℕ) (job : Job) → AllBytes file
+    → our-reader file vectors-lent responses-lent .returned ≡ full job → length file ≤ length lent
     → let did = our-reader file vectors-lent responses-lent in
     let wrote = our-writer (job .network) (job .class) (take (job .vectors) (did .vectors)) (take (job .responses) (did .responses)) lent in
     (wrote .returned ≡ full (length file)) × (file-written wrote (length file) ≡ file)
@@ -64,13 +72,17 @@ read-is-written file vectors-lent responses-lent lent job bytes e l =
     let c : JobContent = r .0 in
     let vectors-same : take (job .vectors) (our-reader file vectors-lent responses-lent .vectors) ≡ c .vectors =
     ap (λ (a : Answer JobContent). take (job .vectors) (lent-after (vectors-read a) vectors-lent)) (r .1)
-    ∙ ap (λ (j : Job). take (j .vectors) (lent-after (full (c .vectors)) vectors-lent)) (sym (r .2)) ∙ front-written (c .vectors) vectors-lent in
+    ∙ ap (λ (j : Job). take (j .vectors) (lent-after (full (c .vectors)) vectors-lent)) (sym (r .2))
+    ∙ front-written (c .vectors) vectors-lent in
     let responses-same : take (job .responses) (our-reader file vectors-lent responses-lent .responses) ≡ c .responses =
     ap (λ (a : Answer JobContent). take (job .responses) (lent-after (responses-read a) responses-lent)) (r .1)
-    ∙ ap (λ (j : Job). take (j .responses) (lent-after (full (c .responses)) responses-lent)) (sym (r .2)) ∙ front-written (c .responses) responses-lent in
+    ∙ ap (λ (j : Job). take (j .responses) (lent-after (full (c .responses)) responses-lent)) (sym (r .2))
+    ∙ front-written (c .responses) responses-lent in
     let law-says : write-answer (c .network) (c .class) (c .vectors) (c .responses) (length lent) ≡ full file =
     law.read-is-written file (length vectors-lent) (length responses-lent) (length lent) c bytes (r .1) l in
-    let answer : write-answer (job .network) (job .class) (take (job .vectors) (our-reader file vectors-lent responses-lent .vectors)) (take (job .responses) (our-reader file vectors-lent responses-lent .responses)) (length lent) ≡ full file =
+    let answer : write-answer (job .network) (job .class)
+    (take (job .vectors) (our-reader file vectors-lent responses-lent .vectors))
+    (take (job .responses) (our-reader file vectors-lent responses-lent .responses)) (length lent) ≡ full file =
     ap₂ (λ (v w : List ℕ). write-answer (job .network) (job .class) v w (length lent)) vectors-same responses-same
     ∙ ap (λ (j : Job). write-answer (j .network) (j .class) (c .vectors) (c .responses) (length lent)) (sym (r .2)) ∙ law-says in
     (ap count-of answer, ap (λ (a : Answer (List ℕ)). take (length file) (lent-after a lent)) answer ∙ front-written file lent)
@@ -83,16 +95,22 @@ exact = record { written-is-read = written-is-read; read-is-written = read-is-wr
 pub writer-determined : (p q : WriterProgram) → Writes p → Writes q → (net : Network) (k : ℕ) (vectors responses lent : List ℕ)
     → p net k vectors responses lent ≡ q net k vectors responses lent
 writer-determined p q f g net k vectors responses lent =
-    fills-determined (WriterRows net k vectors responses (length lent)) (λ bytes. bytes ≡ file-of net k vectors responses) lent (p net k vectors responses lent) (q net k vectors responses lent)
+    fills-determined (WriterRows net k vectors responses (length lent))
+    (λ bytes. bytes ≡ file-of net k vectors responses) lent (p net k vectors responses lent)
+    (q net k vectors responses lent)
     (write-determined net k vectors responses (length lent)) (f net k vectors responses lent) (g net k vectors responses lent)
 
-pub reader-determined : (p q : ReaderProgram) → Reads p → Reads q → (file vectors responses : List ℕ) → p file vectors responses ≡ q file vectors responses
+pub reader-determined : (p q : ReaderProgram) → Reads p → Reads q → (file vectors responses : List ℕ)
+    → p file vectors responses ≡ q file vectors responses
 reader-determined p q f g file vectors responses =
     let a = f file vectors responses in
     let b = g file vectors responses in
-    let same : a .answer ≡ b .answer = read-determined file (length vectors) (length responses) (a .answer) (b .answer) (a .allowed) (b .allowed) in
+    let same : a .answer ≡ b .answer =
+    read-determined file (length vectors) (length responses) (a .answer) (b .answer) (a .allowed)
+    (b .allowed) in
     λ j. record {
       returned = (a .returned ∙ ap counted same ∙ sym (b .returned)) j;
       vectors = (a .vectors-after ∙ ap (λ (x : Answer JobContent). lent-after (vectors-read x) vectors) same ∙ sym (b .vectors-after)) j;
-      responses = (a .responses-after ∙ ap (λ (x : Answer JobContent). lent-after (responses-read x) responses) same ∙ sym (b .responses-after)) j;
+      responses = (a .responses-after ∙ ap (λ (x : Answer JobContent). lent-after (responses-read x) responses) same
+          ∙ sym (b .responses-after)) j;
     }

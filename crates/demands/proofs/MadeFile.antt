@@ -13,7 +13,8 @@ use Rattle.words.specs.Bits.{at}
 use Rattle.words.proofs.Tests.{test-fails}
 use Rattle.network.specs.declared.Network.{Network}
 use Rattle.jobfile.specs.Bytes.{bytes-of, word-bytes, words-at}
-use Rattle.jobfile.specs.Layout.{mark, entry-count, bodies-at, entry-kind, body-offset, body-length, Layout, bad-bodies, file-network, file-class, body-words, has-responses, file-responses}
+use Rattle.jobfile.specs.Layout.{mark, entry-count, bodies-at, entry-kind, body-offset, body-length, Layout, bad-bodies}
+use Rattle.jobfile.specs.Layout.{file-network, file-class, body-words, has-responses, file-responses}
 use Rattle.jobfile.proofs.ByteLaws.{word-bytes-count}
 use Rattle.jobfile.proofs.FileRows.{decides-row-3}
 use Rattle.reader.specs.Reader.{content}
@@ -90,8 +91,10 @@ module _ (net : Network) (k : ℕ) (vectors responses : List ℕ) (h : AdmittedC
   bodies-made : drop start made ≡ net .nets ∷ k ∷ (word-bytes vectors ++ word-bytes responses)
   unfolding file-of
   bodies-made =
-      ap (λ (bytes : List ℕ). drop start bytes) (append-assoc (head-of vectors responses) (net .nets ∷ k ∷ word-bytes vectors) (word-bytes responses))
-      ∙ drop-at (head-of vectors responses) (net .nets ∷ k ∷ (word-bytes vectors ++ word-bytes responses)) start (head-size vectors responses)
+      ap (λ (bytes : List ℕ). drop start bytes)
+      (append-assoc (head-of vectors responses) (net .nets ∷ k ∷ word-bytes vectors) (word-bytes responses))
+      ∙ drop-at (head-of vectors responses) (net .nets ∷ k ∷ (word-bytes vectors ++ word-bytes responses)) start
+      (head-size vectors responses)
 
   network-made : file-network made ≡ net
   unfolding file-network
@@ -115,7 +118,8 @@ module _ (net : Network) (k : ℕ) (vectors responses : List ℕ) (h : AdmittedC
   responses-stand : drop (start + 2 + 8 * length vectors) made ≡ word-bytes responses ++ []
   responses-stand =
       sym (drop-drop (8 * length vectors) (start + 2) made) ∙ ap (λ (bytes : List ℕ). drop (8 * length vectors) bytes) vectors-stand
-      ∙ drop-at (word-bytes vectors) (word-bytes responses) (8 * length vectors) (word-bytes-count vectors) ∙ sym (append-nil (word-bytes responses))
+      ∙ drop-at (word-bytes vectors) (word-bytes responses) (8 * length vectors) (word-bytes-count vectors)
+      ∙ sym (append-nil (word-bytes responses))
 
   -- a body of words
   words-made : (i offset : ℕ) (words after : List ℕ) → body-offset made i ≡ offset → body-length made i ≡ 8 * length words
@@ -194,9 +198,11 @@ module _ (net : Network) (k : ℕ) (vectors : List ℕ) (word : ℕ) (words : Li
         size = omega arith;
         entries = inr refl;
         table = omega arith;
-        kinds = below-three (λ i. entry-kind long i ≡ suc i) (kind-0 net k vectors (word ∷ words) h) (kind-1 net k vectors (word ∷ words) h) kind-2;
+        kinds = below-three (λ i. entry-kind long i ≡ suc i) (kind-0 net k vectors (word ∷ words) h)
+            (kind-1 net k vectors (word ∷ words) h) kind-2;
         first-body = o0;
-        no-gaps = λ i l. below-two (λ j. body-offset long (suc j) ≡ body-offset long j + body-length long j) gap next i (le-of-suc-le-suc l);
+        no-gaps = λ i l. below-two (λ j. body-offset long (suc j) ≡ body-offset long j + body-length long j) gap next i
+            (le-of-suc-le-suc l);
         to-the-end = λ i q. let last : i ≡ 2 = omega arith in rw last end;
       }
 
@@ -213,7 +219,8 @@ module _ (net : Network) (k : ℕ) (vectors : List ℕ) where
   layout-made [] h = layout-short net k vectors h
   layout-made (word ∷ words) h = layout-long net k vectors word words h
 
-  whole-made : (responses : List ℕ) → AdmittedContent vectors responses → (i : ℕ) → i < entry-count (file-of net k vectors responses) → 0 < i
+  whole-made : (responses : List ℕ) → AdmittedContent vectors responses → (i : ℕ)
+      → i < entry-count (file-of net k vectors responses) → 0 < i
       → body-length (file-of net k vectors responses) i % 8 ≡ 0
   whole-made [] h = whole-short net k vectors h
   whole-made (word ∷ words) h = whole-long net k vectors word words h
@@ -235,10 +242,16 @@ module _ (net : Network) (k : ℕ) (vectors responses : List ℕ) (h : AdmittedC
       test-fails (decides-row-3 (file-of net k vectors responses))
       (λ w. ⊎-elim (λ n. n (length-0 net k vectors responses h)) (λ v. v .3 (whole-made net k vectors responses h (v .0) (v .2) (v .1))) w)
 
-  pub content-made : content (file-of net k vectors responses) ≡ record { network = net; class = k; vectors = vectors; responses = responses }
+  pub content-made : content (file-of net k vectors responses)
+      ≡ record { network = net; class = k; vectors = vectors; responses = responses }
   unfolding content
   content-made =
-      rw (network-made net k vectors responses h, class-made net k vectors responses h, vectors-made net k vectors responses h, responses-made net k vectors responses h)
+      rw (
+        network-made net k vectors responses h,
+        class-made net k vectors responses h,
+        vectors-made net k vectors responses h,
+        responses-made net k vectors responses h,
+      )
 
   pub given-made : has-responses (file-of net k vectors responses) ≡ given responses
   given-made = ap (λ (n : ℕ). eqb n 3) (count-made net k vectors responses h) ∙ third-given responses

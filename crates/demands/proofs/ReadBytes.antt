@@ -15,10 +15,12 @@ use Rattle.writer.specs.Writer.{entry-bytes}
 tabulate-same : (n : ℕ) (f g : ℕ → ℕ) → ((i : ℕ) → f i ≡ g i) → tabulate n f ≡ tabulate n g
 unfolding tabulate
 tabulate-same zero f g h = refl
-tabulate-same (suc n) f g h = ap₂ (λ (x : ℕ) (xs : List ℕ). x ∷ xs) (h 0) (tabulate-same n (λ i. f (suc i)) (λ i. g (suc i)) (λ i. h (suc i)))
+tabulate-same (suc n) f g h =
+    ap₂ (λ (x : ℕ) (xs : List ℕ). x ∷ xs) (h 0) (tabulate-same n (λ i. f (suc i)) (λ i. g (suc i)) (λ i. h (suc i)))
 
 -- the first word, then the others
-words-at-more : (file : List ℕ) (offset count : ℕ) → words-at file offset (suc count) ≡ number-at file offset 8 ∷ words-at file (offset + 8) count
+words-at-more : (file : List ℕ) (offset count : ℕ)
+    → words-at file offset (suc count) ≡ number-at file offset 8 ∷ words-at file (offset + 8) count
 unfolding tabulate
 words-at-more file offset count =
     ap₂ (λ (x : ℕ) (xs : List ℕ). x ∷ xs)
@@ -28,11 +30,13 @@ words-at-more file offset count =
 
 -- ---- what was put is read
 
-pub number-read : (file : List ℕ) (offset count number : ℕ) (after : List ℕ) → drop offset file ≡ bytes-of count number ++ after → number < 256 ^ count
+pub number-read : (file : List ℕ) (offset count number : ℕ) (after : List ℕ)
+    → drop offset file ≡ bytes-of count number ++ after → number < 256 ^ count
     → number-at file offset count ≡ number
 unfolding number-at
 number-read file offset count number after e l =
-    ap (λ (bytes : List ℕ). number-of (take count bytes)) e ∙ ap number-of (take-at (bytes-of count number) after count (bytes-count count number))
+    ap (λ (bytes : List ℕ). number-of (take count bytes)) e
+    ∙ ap number-of (take-at (bytes-of count number) after count (bytes-count count number))
     ∙ number-there count number l
 
 pub words-read : (file : List ℕ) (offset : ℕ) (words after : List ℕ) → drop offset file ≡ word-bytes words ++ after
@@ -58,7 +62,8 @@ module _ (file : List ℕ) (small : AllBytes file) where
       let part = take count (drop offset file) in
       let left : length (drop offset file) ≡ length file - offset = length-drop offset file in
       let size : length part ≡ count = length-take-le count (drop offset file) (omega arith) in
-      let bytes : bytes-of count (number-of part) ≡ part = ap (λ (n : ℕ). bytes-of n (number-of part)) (sym size) ∙ bytes-there part (λ i m. below i (omega arith)) in
+      let bytes : bytes-of count (number-of part) ≡ part = ap (λ (n : ℕ). bytes-of n (number-of part)) (sym size)
+      ∙ bytes-there part (λ i m. below i (omega arith)) in
       sym (take-append-drop count (drop offset file)) ∙ ap₂ (λ (a b : List ℕ). a ++ b) (sym bytes) (drop-drop count offset file)
     where
       below : (i : ℕ) → i < count → at (take count (drop offset file)) i < 256

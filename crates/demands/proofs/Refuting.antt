@@ -16,7 +16,9 @@ use Rattle.checker.proofs.Verdicts.{pair-not-pass}
 use Rattle.diagnosis.specs.Open.{open-diagnosis}
 use Rattle.demands.specs.Demand2.{ResponseProgram, Responds, DiagnosisProgram, Diagnoses}
 use Rattle.demands.specs.Demand3.{CheckProgram, Judged, Checks}
-use Rattle.demands.specs.Refuted.{passes-all-sets, shows-one-pair, refuses-every-set, writes-nothing, drops-tail, writes-when-refused, refuses-every-state, says-14, reads-nothing-back, accepts-conflicts, refuses-every-response, Refuted}
+use Rattle.demands.specs.Refuted.{passes-all-sets, shows-one-pair, refuses-every-set, writes-nothing, drops-tail}
+use Rattle.demands.specs.Refuted.{writes-when-refused, refuses-every-state, says-14, reads-nothing-back}
+use Rattle.demands.specs.Refuted.{accepts-conflicts, refuses-every-response, Refuted}
 use Rattle.demands.specs.Starred.{two}
 use Rattle.demands.specs.Programs.{our-response, our-diagnosis}
 use Rattle.demands.proofs.Responding.{responds, response-determined}
@@ -43,7 +45,8 @@ admitted = let-through (SetRows two 2 enough) (set-tests two 2 enough) tt tt (de
 -- ---- checkers
 
 -- what a checker's full answer says
-says : (program : CheckProgram) → Checks program → (vectors : List ℕ) (v : Verdict) → program two 2 vectors ≡ full v → Judged two 2 vectors v
+says : (program : CheckProgram) → Checks program → (vectors : List ℕ) (v : Verdict) → program two 2 vectors ≡ full v
+    → Judged two 2 vectors v
 says program h vectors v e = table-full (Judged two 2 vectors) (SetRows two 2 vectors) v (rw e at (h two 2 vectors))
 
 ours-passes : check-answer two 2 enough ≡ full Pass
@@ -56,7 +59,8 @@ ours-shows = refl
 
 passes-all : ¬ (Checks passes-all-sets)
 passes-all h =
-    pair-not-pass (says check-answer checks too-few (Pair 0 3) ours-shows .passes .1 (says passes-all-sets h too-few Pass refl .passes .0 refl))
+    pair-not-pass (says check-answer checks too-few (Pair 0 3) ours-shows .passes .1
+    (says passes-all-sets h too-few Pass refl .passes .0 refl))
 
 one-pair : (a b : ℕ) → ¬ (Checks (shows-one-pair a b))
 one-pair a b h =
@@ -68,7 +72,8 @@ refuses-sets number h = table-not-refused (Judged two 2 enough) (SetRows two 2 e
 
 -- ---- responses: the list after the call is not ours
 
-differs : (program : ResponseProgram) (state lent : List ℕ) (i : ℕ) → at (program two 2 enough state lent .list) i ≢ at (our-response two 2 enough state lent .list) i
+differs : (program : ResponseProgram) (state lent : List ℕ) (i : ℕ)
+    → at (program two 2 enough state lent .list) i ≢ at (our-response two 2 enough state lent .list) i
     → ¬ (Responds program)
 differs program state lent i d h =
     d (ap (λ (f : Filled ℕ). at (f .list) i) (response-determined program our-response h responds two 2 enough state lent))
@@ -94,7 +99,8 @@ refuses-states number = differs (refuses-every-state number) (2 ∷ 2 ∷ []) (9
 
 -- ---- diagnoses
 
-unlike : (program : DiagnosisProgram) (responses lent : List ℕ) → program two 2 enough responses lent ≢ our-diagnosis two 2 enough responses lent → ¬ (Diagnoses program)
+unlike : (program : DiagnosisProgram) (responses lent : List ℕ)
+    → program two 2 enough responses lent ≢ our-diagnosis two 2 enough responses lent → ¬ (Diagnoses program)
 unlike program responses lent d h = d (diagnosis-determined-program program our-diagnosis h diagnoses two 2 enough responses lent)
 
 -- what a call returned, as a number: a refusal, or 99 for a result
@@ -108,7 +114,8 @@ said-before-looking = unlike says-14 (0 ∷ 0 ∷ 3 ∷ []) (9 ∷ 9 ∷ []) (λ
 state-not-written : ¬ (Diagnoses reads-nothing-back)
 unfolding open-diagnosis
 state-not-written =
-    unlike reads-nothing-back (0 ∷ 0 ∷ 3 ∷ []) (9 ∷ 9 ∷ []) (λ e. let z : _≡_ {A = ℕ} 9 2 = ap (λ (f : Filled ℕ). at (f .list) 0) e in omega arith)
+    unlike reads-nothing-back (0 ∷ 0 ∷ 3 ∷ []) (9 ∷ 9 ∷ [])
+    (λ e. let z : _≡_ {A = ℕ} 9 2 = ap (λ (f : Filled ℕ). at (f .list) 0) e in omega arith)
 
 -- reaches 3 and 1 answer so
 conflicts-accepted : ¬ (Diagnoses accepts-conflicts)
@@ -118,7 +125,8 @@ conflicts-accepted = unlike accepts-conflicts (0 ∷ 3 ∷ 1 ∷ []) (9 ∷ 9 �
 refuses-responses : (number : ℕ) → ¬ (Diagnoses (refuses-every-response number))
 unfolding open-diagnosis
 refuses-responses number =
-    unlike (refuses-every-response number) (0 ∷ 0 ∷ 3 ∷ []) (9 ∷ 9 ∷ []) (λ e. let z : _≡_ {A = ℕ} 9 2 = ap (λ (f : Filled ℕ). at (f .list) 0) e in omega arith)
+    unlike (refuses-every-response number) (0 ∷ 0 ∷ 3 ∷ []) (9 ∷ 9 ∷ [])
+    (λ e. let z : _≡_ {A = ℕ} 9 2 = ap (λ (f : Filled ℕ). at (f .list) 0) e in omega arith)
 
 pub refuted : Refuted
 refuted = record {

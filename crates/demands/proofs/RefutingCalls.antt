@@ -20,11 +20,13 @@ use Rattle.demands.specs.Refuted.{ours-but, clears-vectors, starts-again
 pub vectors-cleared : ¬ (Demand1 (ours-but clears-vectors our-sessions))
 unfolding open-reader
 vectors-cleared claim =
-    ⊎-elim (λ w. let z : _≡_ {A = ℕ} 0 9 = ap (λ (ws : List ℕ). at ws 0) (w .2 .1) in omega arith) (λ w. refused-not-full {number = 1} refl (w .1 .0)) (claim .each-call (read [] (9 ∷ []) []))
+    ⊎-elim (λ w. let z : _≡_ {A = ℕ} 0 9 = ap (λ (ws : List ℕ). at ws 0) (w .2 .1) in omega arith)
+    (λ w. refused-not-full {number = 1} refl (w .1 .0)) (claim .each-call (read [] (9 ∷ []) []))
 
 -- no second answers, where three are awaited
 pub started-again : ¬ (Demand1 (ours-but our-reader starts-again))
 unfolding open-session
 started-again claim =
-    ⊎-elim (λ w. let z : _≡_ {A = ℕ} 1 2 = ap (λ (s : Session). s .step) (w .2 .2) in omega arith) (λ w. refused-not-full {number = 9} refl (w .1 .4))
+    ⊎-elim (λ w. let z : _≡_ {A = ℕ} 1 2 = ap (λ (s : Session). s .step) (w .2 .2) in omega arith)
+    (λ w. refused-not-full {number = 9} refl (w .1 .4))
     (claim .each-call (advance (awaiting-second two (3 ∷ 3 ∷ [])) (second [])))

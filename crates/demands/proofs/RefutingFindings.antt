@@ -25,9 +25,11 @@ others = other ∷ other ∷ []
 abbrev kind-after : FindingsProgram → List ℕ → ℕ → ℕ
 kind-after program state i = getD (program two state others .list) i other .kind
 
-differs : (program : FindingsProgram) (state : List ℕ) (i : ℕ) → kind-after program state i ≢ kind-after our-findings state i → ¬ (Finds program)
+differs : (program : FindingsProgram) (state : List ℕ) (i : ℕ)
+    → kind-after program state i ≢ kind-after our-findings state i → ¬ (Finds program)
 differs program state i d h =
-    d (ap (λ (f : Filled Finding). getD (f .list) i other .kind) (findings-determined-program program our-findings h finds two state others))
+    d (ap (λ (f : Filled Finding). getD (f .list) i other .kind)
+    (findings-determined-program program our-findings h finds two state others))
 
 pub table-as-lent : ¬ (Finds finds-nothing)
 unfolding open-findings

@@ -14,10 +14,12 @@ use Rattle.network.proofs.States.{test→state}
 use Rattle.steps.specs.FirstStep.{first-vectors}
 use Rattle.session.specs.declared.Session.{Session}
 use Rattle.session.specs.Open.{open-session}
-use Rattle.demands.specs.SessionCalls.{Call, begin, first, second, SessionProgram, History, finished-first, finished-second, history, record-after}
+use Rattle.demands.specs.SessionCalls.{Call, begin, first, second, SessionProgram, History, finished-first}
+use Rattle.demands.specs.SessionCalls.{finished-second, history, record-after}
 use Rattle.demands.specs.Demand3.{BeginRows, Ended, Sessions}
 use Rattle.demands.specs.Starred.{two, junk}
-use Rattle.demands.specs.Refuted.{guesses, ignores-second-answers, counts-itself, refuses-every-begin, writes-uncounted, writes-no-vectors}
+use Rattle.demands.specs.Refuted.{guesses, ignores-second-answers, counts-itself, refuses-every-begin}
+use Rattle.demands.specs.Refuted.{writes-uncounted, writes-no-vectors}
 
 -- a session in which both nets are unclear, with these second answers; and one with none unclear
 abbrev unclear-calls : List ℕ → List Call
@@ -31,7 +33,8 @@ abbrev unclear-history : List ℕ → History
 unclear-history answers = finished-second two (1 ∷ 2 ∷ []) (3 ∷ 3 ∷ []) (0 ∷ 1 ∷ 2 ∷ []) answers
 
 -- what the claim says at the end of a list of calls
-ended-so : (program : SessionProgram) → Sessions program → (calls : List Call) (h : History) → history program junk calls ≡ h → Ended h (record-after program junk calls)
+ended-so : (program : SessionProgram) → Sessions program → (calls : List Call) (h : History)
+    → history program junk calls ≡ h → Ended h (record-after program junk calls)
 ended-so program claim calls h e = subst (λ (x : History). Ended x (record-after program junk calls)) e (claim junk calls .ended)
 
 -- ---- guesses
@@ -99,5 +102,6 @@ uncounted claim =
 pub no-vectors : ¬ (Sessions writes-no-vectors)
 unfolding open-session
 no-vectors claim =
-    let e : _≡_ {A = List ℕ} (9 ∷ 9 ∷ []) (1 ∷ 2 ∷ []) = claim junk (begin two (9 ∷ 9 ∷ []) ∷ []) .each [] [] (begin two (9 ∷ 9 ∷ [])) refl .list-after in
+    let e : _≡_ {A = List ℕ} (9 ∷ 9 ∷ []) (1 ∷ 2 ∷ []) =
+    claim junk (begin two (9 ∷ 9 ∷ []) ∷ []) .each [] [] (begin two (9 ∷ 9 ∷ [])) refl .list-after in
     let z : _≡_ {A = ℕ} 9 1 = ap (λ (ws : List ℕ). at ws 0) e in omega arith

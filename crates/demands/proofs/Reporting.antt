@@ -40,13 +40,15 @@ module _ (job : JobContent) (admitted : NoneHolds (SetRows (job .network) (job .
       (OwnRows (job .network) (job .class) (job .vectors) (job .responses) 48) answer admitted
       (diagnosis-by-table (job .network) (job .class) (job .vectors) (job .responses) 48))
     where
-      says : (a : Answer (List ℕ)) → answer ≡ a → Follows job (diagnosis-text (job .network) a) → Follows job (diagnosis-text (job .network) answer)
+      says : (a : Answer (List ℕ)) → answer ≡ a → Follows job (diagnosis-text (job .network) a)
+          → Follows job (diagnosis-text (job .network) answer)
       says a e f = subst (λ (b : Answer (List ℕ)). Follows job (diagnosis-text (job .network) b)) (sym e) f
 
       most : job .network .nets ≤ 48
       most = admitted-set (job .network) (job .class) (job .vectors) admitted .most
 
-      go : ByTable (OwnRows (job .network) (job .class) (job .vectors) (job .responses) 48) (Fits (job .network) (job .class) (job .vectors) (job .responses)) answer
+      go : ByTable (OwnRows (job .network) (job .class) (job .vectors) (job .responses) 48)
+          (Fits (job .network) (job .class) (job .vectors) (job .responses)) answer
           → Follows job (diagnosis-text (job .network) answer)
       go (inl (nine, e)) = absurd (fine .0 nine)
       go (inr (_, inl (ten, e))) = absurd (fine .1 ten)
@@ -55,14 +57,18 @@ module _ (job : JobContent) (admitted : NoneHolds (SetRows (job .network) (job .
       go (inr (_, inr (_, inr (_, inr (passed, inl (fourteen, e)))))) = says (refused 14) e (no-state some passed fourteen)
       go (inr (_, inr (_, inr (_, inr (passed, inr (_, (state, e, fits))))))) = says (full state) e (a-line-a-net some passed state fits)
 
-  follows : (job .responses ≢ [] → ResponsesAdmitted job) → Follows job (responses-text (job .network) (job .class) (job .vectors) (job .responses))
+  follows : (job .responses ≢ [] → ResponsesAdmitted job)
+      → Follows job (responses-text (job .network) (job .class) (job .vectors) (job .responses))
   follows fine = go (job .responses) refl
     where
-      go : (responses : List ℕ) → job .responses ≡ responses → Follows job (responses-text (job .network) (job .class) (job .vectors) responses)
+      go : (responses : List ℕ) → job .responses ≡ responses
+          → Follows job (responses-text (job .network) (job .class) (job .vectors) responses)
       go [] e = nothing e
       go (word ∷ words) e =
           let some : job .responses ≢ [] = λ none. let z : _≡_ {A = ℕ} 0 1 = cc in omega arith in
-          subst (λ (r : List ℕ). Follows job (diagnosis-text (job .network) (diagnosis-answer (job .network) (job .class) (job .vectors) r 48))) e (diagnosed some (fine some))
+          subst (λ (r : List ℕ). Follows job
+          (diagnosis-text (job .network) (diagnosis-answer (job .network) (job .class) (job .vectors) r 48))) e
+          (diagnosed some (fine some))
 
 -- a file with responses has a third entry
 third-entry : (file : List ℕ) → file-responses file ≢ [] → has-responses file ≡ true
@@ -73,7 +79,8 @@ third-entry file some = go (has-responses file) some
     go true h = refl
     go false h = absurd (h refl)
 
-reached : (file : List ℕ) → NoneHolds (ReaderRows file 64 64) → read-answer file 64 64 ≡ full (content file) → LineOne (content file) (report file)
+reached : (file : List ℕ) → NoneHolds (ReaderRows file 64 64) → read-answer file 64 64 ≡ full (content file)
+    → LineOne (content file) (report file)
 unfolding report content-text content
 reached file (_, (_, (_, (five, (six, (seven, (eight, (nine, (ten, _))))))))) e =
     let job = content file in
@@ -91,7 +98,8 @@ pub reports : Reports our-report
 unfolding report
 reports file =
     ⊎-elim inl (λ w. inr (w .0, reached file (w .0) (w .1)))
-    (either (λ job. job ≡ content file) (λ number. report file ≡ refused-line number) (read-answer file 64 64 ≡ full (content file)) (ReaderRows file 64 64) (read-answer file 64 64)
+    (either (λ job. job ≡ content file) (λ number. report file ≡ refused-line number)
+    (read-answer file 64 64 ≡ full (content file)) (ReaderRows file 64 64) (read-answer file 64 64)
     (λ number e. ap job-text e) (λ job e same. e ∙ ap full same) (read-by-table file 64 64))
 
 -- ---- nothing is left open
@@ -127,7 +135,9 @@ module _ (job : JobContent) (admitted : NoneHolds (SetRows (job .network) (job .
   follows-determined _ _ (a-line-a-net some passed state fits) (no-state more again other) = absurd (other (state, fits))
   follows-determined _ _ (a-line-a-net some passed state fits) (a-line-a-net more again other gives) =
       ap (λ (s : List ℕ). net-lines (job .network) s 0 (job .network .nets))
-      (apart-one-fits (job .network) (job .class) (job .vectors) (passed-apart (job .network) (job .class) (job .vectors) (admitted-set (job .network) (job .class) (job .vectors) admitted) passed)
+      (apart-one-fits (job .network) (job .class) (job .vectors)
+      (passed-apart (job .network) (job .class) (job .vectors)
+      (admitted-set (job .network) (job .class) (job .vectors) admitted) passed)
       (job .responses) state other fits gives)
 
   line-one-determined : (a b : List ℕ) → LineOne job a → LineOne job b → a ≡ b
@@ -146,4 +156,6 @@ report-determined p q f g file = go (f file) (g file)
     go (inl (n, first, e)) (inr (none, line)) = absurd (some-row-holds (ReaderRows file 64 64) n first none)
     go (inr (none, line)) (inl (m, other, d)) = absurd (some-row-holds (ReaderRows file 64 64) m other none)
     go (inr (none, line)) (inr (_, other)) =
-        line-one-determined (content file) (none .1 .1 .1 .0, (none .1 .1 .1 .1 .0, (none .1 .1 .1 .1 .1 .0, (none .1 .1 .1 .1 .1 .1 .0, tt)))) (p file) (q file) line other
+        line-one-determined (content file)
+        (none .1 .1 .1 .0, (none .1 .1 .1 .1 .0, (none .1 .1 .1 .1 .1 .0, (none .1 .1 .1 .1 .1 .1 .0, tt))))
+        (p file) (q file) line other

@@ -22,5 +22,6 @@ responds net k vectors state lent = record {
 pub response-determined : (p q : ResponseProgram) → Responds p → Responds q → (net : Network) (k : ℕ) (vectors state lent : List ℕ)
     → p net k vectors state lent ≡ q net k vectors state lent
 response-determined p q f g net k vectors state lent =
-    fills-determined (ResponseRows net k vectors state (length lent)) (Response net state vectors) lent (p net k vectors state lent) (q net k vectors state lent)
+    fills-determined (ResponseRows net k vectors state (length lent)) (Response net state vectors) lent
+    (p net k vectors state lent) (q net k vectors state lent)
     (response-answer-determined net k vectors state (length lent)) (f net k vectors state lent) (g net k vectors state lent)

@@ -26,11 +26,15 @@ use Rattle.session.specs.Record.{awaiting-first, awaiting-second, held-answers,
 use Rattle.session.specs.Calls.{stepped, begin-answer, first-answer, answered-by}
 use Rattle.session.specs.Drive.{front, to-drive}
 use Rattle.session.proofs.Records.{awaits-first-of, awaits-first-is, held-of, WaitsForSecond, awaits-second-is}
-use Rattle.demands.specs.SessionCalls.{Call, begin, first, second, lent, History, none, waits-first, waits-second, finished-first, finished-second, after-first, by-answer, extended, record-after, history, LeftBy, Awaits}
+use Rattle.demands.specs.SessionCalls.{Call, begin, first, second, lent, History, none, waits-first, waits-second}
+use Rattle.demands.specs.SessionCalls.{finished-first, finished-second, after-first, by-answer, extended}
+use Rattle.demands.specs.SessionCalls.{record-after, history, LeftBy, Awaits}
 use Rattle.demands.specs.Demand3.{BeginRows, SecondRows, IsBegin, CallByTable, Ended, Sessions}
 use Rattle.demands.specs.SessionRecords.{RowFour, Front, Drives}
 use Rattle.demands.specs.Programs.{our-answer, our-new, our-sessions}
-use Rattle.demands.proofs.Telling.{WaitsFirst, WaitsSecond, Stopped, Tells, awaits, not-first, first-refused, second-refused, begin-by-table, told-by-table, call-tells, record-tells, is-begun}
+use Rattle.demands.proofs.Telling.{WaitsFirst, WaitsSecond, Stopped, Tells, awaits, not-first, first-refused}
+use Rattle.demands.proofs.Telling.{second-refused, begin-by-table, told-by-table, call-tells, record-tells}
+use Rattle.demands.proofs.Telling.{is-begun}
 
 -- ---- calls that go through
 
@@ -38,7 +42,8 @@ begin-through : (net : Network) → bad-net-count net ≡ false → begin-answer
 unfolding begin-answer by-tests
 begin-through net e = rw (e, le-ltb (length (first-vectors net)) (length (first-vectors net)) (le-refl _))
 
-first-through : (net : Network) (answers : List ℕ) → bad-net-count net ≡ false → length answers ≡ word-length net → has-high-bit net answers ≡ false
+first-through : (net : Network) (answers : List ℕ) → bad-net-count net ≡ false → length answers ≡ word-length net
+    → has-high-bit net answers ≡ false
     → first-answer (awaiting-first net) answers (length (second-vectors net answers)) ≡ full (second-vectors net answers)
 unfolding first-answer by-tests
 first-through net answers e size narrow =
@@ -51,7 +56,9 @@ first-through net answers e size narrow =
 
 -- what an accepted call does
 pub goes-through : (session : Session) (call : Call) (words : List ℕ) → our-answer session call ≡ full words
-    → (our-sessions session call .session ≡ our-new session call) × ((h : History) → extended h call (our-sessions session call) ≡ by-answer h call (full words) (lent-after (full words) (lent call)))
+    → (our-sessions session call .session ≡ our-new session call)
+    × ((h : History) → extended h call (our-sessions session call)
+    ≡ by-answer h call (full words) (lent-after (full words) (lent call)))
 unfolding stepped
 goes-through session call words e = (
   ap (λ (a : Answer (List ℕ)). stepped a (our-new session call) session .session) e,
@@ -65,7 +72,8 @@ left-tells h session l =
     subst (λ (x : History). Tells x session) (l .in-session)
     (subst (λ (s : Session). Tells (history our-sessions (l .start) (l .calls)) s) (l .leaves) (record-tells (l .start) (l .calls)))
 
-first-left : (session : Session) → awaits-first session ≡ true → LeftBy our-sessions (waits-first (session .network) (first-vectors (session .network))) session
+first-left : (session : Session) → awaits-first session ≡ true
+    → LeftBy our-sessions (waits-first (session .network) (first-vectors (session .network))) session
 first-left session e =
     let net = session .network in
     let vectors = first-vectors net in
@@ -110,11 +118,13 @@ module _ (session : Session) (e : awaits-second session ≡ true) where
   told-second = awaits-second-is session e
 
   through-one : (our-sessions session call-one .session ≡ awaiting-first held-net)
-      × ((h : History) → extended h call-one (our-sessions session call-one) ≡ by-answer h call-one (full vectors-one) (lent-after (full vectors-one) vectors-one))
+      × ((h : History) → extended h call-one (our-sessions session call-one)
+      ≡ by-answer h call-one (full vectors-one) (lent-after (full vectors-one) vectors-one))
   through-one = goes-through session call-one vectors-one (begin-through held-net (told-second .nets-good))
 
   through-two : (our-sessions (awaiting-first held-net) call-two .session ≡ our-new (awaiting-first held-net) call-two)
-      × ((h : History) → extended h call-two (our-sessions (awaiting-first held-net) call-two) ≡ by-answer h call-two (full vectors-two) (lent-after (full vectors-two) vectors-two))
+      × ((h : History) → extended h call-two (our-sessions (awaiting-first held-net) call-two)
+      ≡ by-answer h call-two (full vectors-two) (lent-after (full vectors-two) vectors-two))
   through-two =
       goes-through (awaiting-first held-net) call-two vectors-two
       (first-through held-net held (told-second .nets-good) (told-second .one-a-vector) (told-second .no-high-bit))
@@ -129,19 +139,23 @@ module _ (session : Session) (e : awaits-second session ≡ true) where
         ∙ answered-some held-net held (unclear held-net held) (told-second .some-unclear)
         ∙ sym (told-second .is);
     in-session =
-        ap₂ (λ (h : History) (s : Session). extended h call-two (our-sessions s call-two)) (through-one .1 none ∙ ap (waits-first held-net) (front-written vectors-one vectors-one)) (through-one .0)
+        ap₂ (λ (h : History) (s : Session). extended h call-two (our-sessions s call-two))
+        (through-one .1 none ∙ ap (waits-first held-net) (front-written vectors-one vectors-one))
+        (through-one .0)
         ∙ through-two .1 (waits-first held-net vectors-one)
         ∙ ap (λ (ws : List ℕ). after-first held-net vectors-one held ws (unclear held-net held)) (front-written vectors-two vectors-two)
         ∙ after-some held-net vectors-one held vectors-two (unclear held-net held) (told-second .some-unclear);
     begun = is-begun (waits-second held-net vectors-one held vectors-two) (λ z. omega arith);
   }
 
-awaits-of-first : (h : History) (session : Session) (answers list : List ℕ) → Tells h session → Awaits h (first answers list) → awaits-first session ≡ true
+awaits-of-first : (h : History) (session : Session) (answers list : List ℕ) → Tells h session
+    → Awaits h (first answers list) → awaits-first session ≡ true
 awaits-of-first h session answers list t (net, v1, q) =
     let w : WaitsFirst net v1 session = subst (λ (x : History). Tells x session) q t in
     ap awaits-first (w .is) ∙ awaits-first-of net (test-fails (decides-row-5 net) (w .nets))
 
-awaits-of-second : (h : History) (session : Session) (answers : List ℕ) → Tells h session → Awaits h (second answers) → awaits-second session ≡ true
+awaits-of-second : (h : History) (session : Session) (answers : List ℕ) → Tells h session → Awaits h (second answers)
+    → awaits-second session ≡ true
 awaits-of-second h session answers t (net, v1, r1, v2, q) =
     let w : WaitsSecond net v1 r1 v2 session = subst (λ (x : History). Tells x session) q t in
     ap awaits-second (w .is) ∙ awaits net r1 (w .nets) (w .sized) (w .narrow) (w .some)
@@ -149,7 +163,11 @@ awaits-of-second h session answers t (net, v1, r1, v2, q) =
 pub row-four : RowFour our-sessions awaits-first awaits-second
 row-four = record {
   first-answers = λ session answers list. (
-    λ e. (waits-first (session .network) (first-vectors (session .network)), first-left session e, (session .network, first-vectors (session .network), refl)),
+    λ e. (
+      waits-first (session .network) (first-vectors (session .network)),
+      first-left session e,
+      (session .network, first-vectors (session .network), refl),
+    ),
     λ w. awaits-of-first (w .0) session answers list (left-tells (w .0) session (w .1)) (w .2),
   );
   second-answers = λ session answers. (
@@ -164,24 +182,30 @@ row-four = record {
 
 -- ---- one call
 
-kept-if-refused : (session : Session) (call : Call) (number : ℕ) → our-answer session call ≡ refused number → our-sessions session call .session ≡ session
+kept-if-refused : (session : Session) (call : Call) (number : ℕ) → our-answer session call ≡ refused number
+    → our-sessions session call .session ≡ session
 unfolding stepped
 kept-if-refused session call number e = ap (λ (a : Answer (List ℕ)). stepped a (our-new session call) session .session) e
 
-refused-four : (session : Session) (call : Call) → ¬ (IsBegin call) → ((h : History) → LeftBy our-sessions h session → ¬ (Awaits h call)) → our-answer session call ≡ refused 4
+refused-four : (session : Session) (call : Call) → ¬ (IsBegin call)
+    → ((h : History) → LeftBy our-sessions h session → ¬ (Awaits h call)) → our-answer session call ≡ refused 4
 refused-four session (begin net list) other none! = absurd (other (net, list, refl))
 refused-four session (first answers list) other none! =
     first-refused session answers list
-    (⊎-elim (λ e. let w = row-four .first-answers session answers list .0 e in absurd (none! (w .0) (w .1) (w .2))) (λ e. e) (cases (awaits-first session)))
+    (⊎-elim (λ e. let w = row-four .first-answers session answers list .0 e in absurd (none! (w .0) (w .1) (w .2)))
+    (λ e. e) (cases (awaits-first session)))
 refused-four session (second answers) other none! =
     second-refused session answers
-    (⊎-elim (λ e. let w = row-four .second-answers session answers .0 e in absurd (none! (w .0) (w .1) (w .2))) (λ e. e) (cases (awaits-second session)))
+    (⊎-elim (λ e. let w = row-four .second-answers session answers .0 e in absurd (none! (w .0) (w .1) (w .2))) (λ e. e)
+    (cases (awaits-second session)))
 
 pub call-by-table : (session : Session) (call : Call) → CallByTable our-sessions session call
 call-by-table session call = record {
   record-kept = λ number e. kept-if-refused session call number e;
   list-after = refl;
-  begins = λ net list q. subst (λ (c : Call). ByTable (BeginRows net list) (λ words. words ≡ first-vectors net) (our-answer session c)) (sym q) (begin-by-table session net list);
+  begins = λ net list q. subst
+      (λ (c : Call). ByTable (BeginRows net list) (λ words. words ≡ first-vectors net) (our-answer session c))
+      (sym q) (begin-by-table session net list);
   in-session = λ h l. told-by-table h session call (l .begun) (left-tells h session l);
   no-session = λ other none!. refused-four session call other none!;
 }
@@ -200,28 +224,39 @@ response-low : (net : Network) (state vectors : List ℕ) → State net (net .ne
 response-low net state vectors of-class (t, l, high) =
     let low = rw (of-class .size) at (response-is net state vectors .no-high-bit t l) in omega arith
 
-module _ (net : Network) (v1 r1 v2 state : List ℕ) (session : Session) (t : WaitsSecond net v1 r1 v2 session) (of-class : State net (net .nets) state)
+module _ (net : Network) (v1 r1 v2 state : List ℕ) (session : Session) (t : WaitsSecond net v1 r1 v2 session)
+    (of-class : State net (net .nets) state)
     (gives : response net state v1 ≡ r1) where
   abbrev answers-two : List ℕ
   answers-two = response net state v2
 
   no-row : NoneHolds (SecondRows (waits-second net v1 r1 v2) answers-two)
-  no-row = (λ d. d (response-is net state v2 .one-a-vector), (response-low net state v2 of-class, (λ no!. no! (state, (of-class, gives, refl)), tt)))
+  no-row = (
+    λ d. d (response-is net state v2 .one-a-vector),
+    (response-low net state v2 of-class, (λ no!. no! (state, (of-class, gives, refl)), tt)),
+  )
 
   abbrev call : Call
   call = second answers-two
 
   accepts : our-answer session call ≡ full []
-  accepts = go (our-answer session call) (told-by-table (waits-second net v1 r1 v2) session call (is-begun (waits-second net v1 r1 v2) (λ z. omega arith)) t)
+  accepts = go (our-answer session call)
+      (told-by-table (waits-second net v1 r1 v2) session call
+      (is-begun (waits-second net v1 r1 v2) (λ z. omega arith)) t)
     where
-      go : (a : Answer (List ℕ)) → ByTable (SecondRows (waits-second net v1 r1 v2) answers-two) (λ (words : List ℕ). words ≡ []) a → a ≡ full []
-      go (refused number) b = absurd (table-not-refused (λ (words : List ℕ). words ≡ []) (SecondRows (waits-second net v1 r1 v2) answers-two) number no-row b)
+      go : (a : Answer (List ℕ))
+          → ByTable (SecondRows (waits-second net v1 r1 v2) answers-two) (λ (words : List ℕ). words ≡ []) a
+          → a ≡ full []
+      go (refused number) b = absurd
+          (table-not-refused (λ (words : List ℕ). words ≡ [])
+          (SecondRows (waits-second net v1 r1 v2) answers-two) number no-row b)
       go (full words) b = ap full (table-full (λ (words : List ℕ). words ≡ []) (SecondRows (waits-second net v1 r1 v2) answers-two) words b)
 
   reported-same : take (net .nets) (our-sessions session call .session .reaches) ≡ state
   reported-same =
       let kept : Stopped (finished-second net v1 r1 v2 answers-two) net r1 (our-sessions session call .session) =
-      subst (λ (h : History). Tells h (our-sessions session call .session)) (goes-through session call [] accepts .1 (waits-second net v1 r1 v2))
+      subst (λ (h : History). Tells h (our-sessions session call .session))
+      (goes-through session call [] accepts .1 (waits-second net v1 r1 v2))
       (call-tells (waits-second net v1 r1 v2) session call t) in
       sym (kept .reported .state .only state (of-class, gives, refl))
 
@@ -230,12 +265,14 @@ sessions start calls = record {
   each = λ before rest call q. call-by-table (record-after our-sessions start before) call;
   ended = ended (history our-sessions start calls) (record-after our-sessions start calls) (record-tells start calls);
   stays = λ net v1 r1 v2 state q of-class gives.
-      let t : WaitsSecond net v1 r1 v2 (record-after our-sessions start calls) = subst (λ (h : History). Tells h (record-after our-sessions start calls)) q (record-tells start calls) in (
+      let t : WaitsSecond net v1 r1 v2 (record-after our-sessions start calls) =
+      subst (λ (h : History). Tells h (record-after our-sessions start calls)) q (record-tells start calls) in (
         accepts net v1 r1 v2 state (record-after our-sessions start calls) t of-class gives,
         reported-same net v1 r1 v2 state (record-after our-sessions start calls) t of-class gives,
       );
   stays-first = λ net v1 r1 v2 state q of-class gives.
-      let t : Stopped (finished-first net v1 r1 v2) net r1 (record-after our-sessions start calls) = subst (λ (h : History). Tells h (record-after our-sessions start calls)) q (record-tells start calls) in
+      let t : Stopped (finished-first net v1 r1 v2) net r1 (record-after our-sessions start calls) =
+      subst (λ (h : History). Tells h (record-after our-sessions start calls)) q (record-tells start calls) in
       sym (t .reported .state .only state (of-class, gives));
 }
 
@@ -256,11 +293,24 @@ unfolding to-drive
 drives session one two = record {
   step-one = λ net v1 l.
       let w : WaitsFirst net v1 session = left-tells (waits-first net v1) session l in
-      rw (awaits-of-first (waits-first net v1) session [] [] w (net, v1, refl), w .wrote, ap (λ (s : Session). s .network) (w .is)) (front-is (length (first-vectors net)) one);
+      rw (
+        awaits-of-first (waits-first net v1) session [] [] w (net, v1, refl),
+        w .wrote,
+        ap
+            (λ (s : Session). s .network) (w .is),
+      ) (front-is (length (first-vectors net)) one);
   step-two = λ net v1 r1 v2 l.
       let w : WaitsSecond net v1 r1 v2 session = left-tells (waits-second net v1 r1 v2) session l in
       let held-same : held-answers session ≡ r1 = ap held-answers (w .is) ∙ held-of net r1 (w .sized) in
-      rw (not-first session (λ e. step-two-not-one (sym (ap (λ (s : Session). s .step) (w .is)) ∙ e)), awaits-of-second (waits-second net v1 r1 v2) session [] w (net, v1, r1, v2, refl), w .wrote-second, held-same, ap (λ (s : Session). s .network) (w .is))
+      rw (
+        not-first session (λ e. step-two-not-one (sym (ap (λ (s : Session). s .step) (w .is)) ∙ e)),
+        awaits-of-second
+            (waits-second net v1 r1 v2) session [] w (net, v1, r1, v2, refl),
+        w .wrote-second,
+        held-same,
+        ap
+            (λ (s : Session). s .network) (w .is),
+      )
       (front-is (length (second-vectors net r1)) two);
   otherwise = λ no-first no-second. rw (
     ⊎-elim (λ e. absurd (no-first (row-four .first-answers session [] [] .0 e))) (λ e. e) (cases (awaits-first session)),

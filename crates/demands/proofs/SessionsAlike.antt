@@ -8,7 +8,8 @@ use Rattle.words.proofs.Answers.{table-determined}
 use Rattle.network.specs.declared.Network.{Network}
 use Rattle.steps.specs.FirstStep.{first-vectors}
 use Rattle.session.specs.declared.Session.{Session}
-use Rattle.demands.specs.SessionCalls.{Call, begin, first, second, lent, SessionProgram, History, none, waits-first, waits-second, finished-first, finished-second, LeftBy}
+use Rattle.demands.specs.SessionCalls.{Call, begin, first, second, lent, SessionProgram, History, none}
+use Rattle.demands.specs.SessionCalls.{waits-first, waits-second, finished-first, finished-second, LeftBy}
 use Rattle.demands.specs.Demand3.{BeginRows, CallRows, Written, CallByTable, Reported, Ended, Sessions}
 use Rattle.demands.specs.Determined.{DidAlike, IsFinished, SessionsDetermined}
 
@@ -19,13 +20,19 @@ module _ (p q : SessionProgram) (f : Sessions p) (g : Sessions q) where
 
   -- equal answers leave equal lists
   alike : (s u : Session) (call : Call) → p s call .answer ≡ q u call .answer → DidAlike p q s u call
-  alike s u call e = (e, one-call p f s call .list-after ∙ ap (λ (a : Answer (List ℕ)). lent-after a (lent call)) e ∙ sym (one-call q g u call .list-after))
+  alike s u call e = (
+    e,
+    one-call p f s call .list-after ∙ ap (λ (a : Answer (List ℕ)). lent-after a (lent call)) e
+        ∙ sym (one-call q g u call .list-after),
+  )
 
   begins : (s u : Session) (net : Network) (list : List ℕ) → DidAlike p q s u (begin net list)
   begins s u net list =
       alike s u (begin net list)
-      (table-determined (λ (words : List ℕ). words ≡ first-vectors net) (BeginRows net list) (p s (begin net list) .answer) (q u (begin net list) .answer)
-      (λ _ x y a b. a ∙ sym b) (one-call p f s (begin net list) .begins net list refl) (one-call q g u (begin net list) .begins net list refl))
+      (table-determined (λ (words : List ℕ). words ≡ first-vectors net) (BeginRows net list)
+      (p s (begin net list) .answer) (q u (begin net list) .answer)
+      (λ _ x y a b. a ∙ sym b) (one-call p f s (begin net list) .begins net list refl)
+      (one-call q g u (begin net list) .begins net list refl))
 
   -- one list of words is written
   one-written : (h : History) (call : Call) (x y : List ℕ) → Written h call x → Written h call y → x ≡ y
@@ -40,26 +47,32 @@ module _ (p q : SessionProgram) (f : Sessions p) (g : Sessions q) where
       (one-call p f s call .in-session h l) (one-call q g u call .in-session h m))
 
   ended : (program : SessionProgram) → Sessions program → (h : History) (s : Session) → LeftBy program h s → Ended h s
-  ended program claim h s l = subst₂ (λ (x : History) (y : Session). Ended x y) (l .in-session) (l .leaves) (claim (l .start) (l .calls) .ended)
+  ended program claim h s l =
+      subst₂ (λ (x : History) (y : Session). Ended x y) (l .in-session) (l .leaves)
+      (claim (l .start) (l .calls) .ended)
 
   same-report : (h : History) (net : Network) (r1 : List ℕ) (s u : Session) → Reported h net r1 s → Reported h net r1 u
       → (s .network ≡ u .network) × (s .reaches ≡ u .reaches) × (s .spent ≡ u .spent)
   same-report h net r1 s u a b = (
     a .network-held ∙ sym (b .network-held),
     sym (take-append-drop (net .nets) (s .reaches))
-        ∙ ap₂ (λ (x y : List ℕ). x ++ y) (b .state .only (take (net .nets) (s .reaches)) (a .state .fits)) (a .nothing-more ∙ sym (b .nothing-more))
+        ∙ ap₂ (λ (x y : List ℕ). x ++ y) (b .state .only (take (net .nets) (s .reaches)) (a .state .fits))
+        (a .nothing-more ∙ sym (b .nothing-more))
         ∙ take-append-drop (net .nets) (u .reaches),
     a .count ∙ sym (b .count),
   )
 
-  reported : (h : History) (s u : Session) → LeftBy p h s → LeftBy q h u → IsFinished h → (s .network ≡ u .network) × (s .reaches ≡ u .reaches) × (s .spent ≡ u .spent)
+  reported : (h : History) (s u : Session) → LeftBy p h s → LeftBy q h u → IsFinished h
+      → (s .network ≡ u .network) × (s .reaches ≡ u .reaches) × (s .spent ≡ u .spent)
   reported none s u l m k = absurd k
   reported (waits-first net v1) s u l m k = absurd k
   reported (waits-second net v1 r1 v2) s u l m k = absurd k
   reported (finished-first net v1 r1 v2) s u l m k =
-      same-report (finished-first net v1 r1 v2) net r1 s u (ended p f (finished-first net v1 r1 v2) s l) (ended q g (finished-first net v1 r1 v2) u m)
+      same-report (finished-first net v1 r1 v2) net r1 s u (ended p f (finished-first net v1 r1 v2) s l)
+      (ended q g (finished-first net v1 r1 v2) u m)
   reported (finished-second net v1 r1 v2 r2) s u l m k =
-      same-report (finished-second net v1 r1 v2 r2) net r1 s u (ended p f (finished-second net v1 r1 v2 r2) s l) (ended q g (finished-second net v1 r1 v2 r2) u m)
+      same-report (finished-second net v1 r1 v2 r2) net r1 s u (ended p f (finished-second net v1 r1 v2 r2) s l)
+      (ended q g (finished-second net v1 r1 v2 r2) u m)
 
   pub sessions-determined : SessionsDetermined p q
   sessions-determined = record { begins = begins; in-session = in-session; reported = reported }

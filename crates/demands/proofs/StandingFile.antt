@@ -9,7 +9,8 @@ use lib.Seq.{drop-cons}
 use Rattle.words.specs.Bits.{at}
 use Rattle.words.proofs.Columns.{length-tabulate}
 use Rattle.jobfile.specs.Bytes.{word-bytes, number-at, AllBytes}
-use Rattle.jobfile.specs.Layout.{mark, entry-count, bodies-at, entry-kind, body-offset, body-length, Layout, file-network, file-class, body-words}
+use Rattle.jobfile.specs.Layout.{mark, entry-count, bodies-at, entry-kind, body-offset, body-length, Layout}
+use Rattle.jobfile.specs.Layout.{file-network, file-class, body-words}
 use Rattle.writer.specs.Writer.{entry-bytes, response-entry, entries-for, file-of}
 use Rattle.writer.proofs.WriterLaws.{entries-three, response-entry-is}
 use Rattle.demands.proofs.ReadBytes.{words-stand, entry-stands}
@@ -76,7 +77,8 @@ module _ (file : List ℕ) (s : AdmittedFile file) where
       ∙ ap (λ (n : ℕ). word-bytes (body-words file i) ++ drop n file) end
 
   -- an entry
-  entry-of : (i kind offset size : ℕ) → 14 + 9 * i ≤ length file → entry-kind file i ≡ kind → body-offset file i ≡ offset → body-length file i ≡ size
+  entry-of : (i kind offset size : ℕ) → 14 + 9 * i ≤ length file → entry-kind file i ≡ kind
+      → body-offset file i ≡ offset → body-length file i ≡ size
       → drop (5 + 9 * i) file ≡ entry-bytes kind offset size ++ drop (14 + 9 * i) file
   entry-of i kind offset size l a b c = rw (← a, ← b, ← c) (entry-stands file (s .small) i l)
 
@@ -96,7 +98,8 @@ module _ (file : List ℕ) (s : AdmittedFile file) where
 
   -- the whole file, if these are its responses
   file-stands : (responses : List ℕ) → entry-count file ≡ entries-for responses
-      → drop 23 file ≡ response-entry (bodies-at (entry-count file) + 2 + 8 * length (body-words file 1)) responses ++ drop (bodies-at (entry-count file)) file
+      → drop 23 file ≡ response-entry (bodies-at (entry-count file) + 2 + 8 * length (body-words file 1)) responses
+      ++ drop (bodies-at (entry-count file)) file
       → drop (body-offset file 1 + body-length file 1) file ≡ word-bytes responses
       → file ≡ file-of (file-network file) (file-class file) (body-words file 1) responses
   unfolding file-of
@@ -108,7 +111,8 @@ module _ (file : List ℕ) (s : AdmittedFile file) where
       let first : drop 5 file ≡ entry-bytes 1 start 2 ++ drop 14 file =
       entry-of 0 1 start 2 (omega arith) (s .laid .kinds 0 (omega arith)) (s .laid .first-body) (s .nets-body) in
       let second : drop 14 file ≡ entry-bytes 2 (start + 2) (8 * length vectors) ++ drop 23 file =
-      entry-of 1 2 (start + 2) (8 * length vectors) (omega arith) (s .laid .kinds 1 (omega arith)) second-offset (words-length 1 (omega arith) (omega arith)) in
+      entry-of 1 2 (start + 2) (8 * length vectors) (omega arith) (s .laid .kinds 1 (omega arith)) second-offset
+      (words-length 1 (omega arith) (omega arith)) in
       let words : drop (start + 2) file ≡ word-bytes vectors ++ word-bytes responses =
       ap (λ (n : ℕ). drop n file) (sym second-offset) ∙ words-body 1 (omega arith) (omega arith) second-inside
       ∙ ap (λ (bytes : List ℕ). word-bytes vectors ++ bytes) last in
@@ -116,10 +120,15 @@ module _ (file : List ℕ) (s : AdmittedFile file) where
       let one = entry-bytes 1 start 2 in
       let two = entry-bytes 2 (start + 2) (8 * length vectors) in
       let three = response-entry (start + 2 + 8 * length vectors) responses in
-      let table-on : drop 5 file ≡ one ++ (two ++ (three ++ (file-network file .nets ∷ file-class file ∷ (word-bytes vectors ++ word-bytes responses)))) =
-      first ∙ ap (λ (bytes : List ℕ). one ++ bytes) (second ∙ ap (λ (bytes : List ℕ). two ++ bytes) (third ∙ ap (λ (bytes : List ℕ). three ++ bytes) bodies)) in
+      let table-on : drop 5 file ≡ one
+      ++ (two ++ (three ++ (file-network file .nets ∷ file-class file
+      ∷ (word-bytes vectors ++ word-bytes responses)))) =
+      first ∙ ap (λ (bytes : List ℕ). one ++ bytes)
+      (second ∙ ap (λ (bytes : List ℕ). two ++ bytes)
+      (third ∙ ap (λ (bytes : List ℕ). three ++ bytes) bodies)) in
       sym (take-append-drop 4 file)
-      ∙ ap₂ (λ (a b : List ℕ). a ++ b) (s .marked) (drop-cons file 4 0 (omega arith) ∙ ap (λ (bytes : List ℕ). entry-count file ∷ bytes) table-on)
+      ∙ ap₂ (λ (a b : List ℕ). a ++ b) (s .marked)
+      (drop-cons file 4 0 (omega arith) ∙ ap (λ (bytes : List ℕ). entry-count file ∷ bytes) table-on)
       ∙ regroup (entry-count file) (file-network file .nets) (file-class file) one two three (word-bytes vectors) (word-bytes responses)
       ∙ ap (λ (n : ℕ). file-with n (file-network file .nets) (file-class file) vectors responses) counted
 
@@ -128,7 +137,8 @@ module _ (file : List ℕ) (s : AdmittedFile file) where
   unfolding word-bytes
   two-entries-stand q =
       let end = s .laid .to-the-end 1 (sym q) in
-      file-stands [] q (ap (λ (n : ℕ). drop (bodies-at n) file) (sym q)) (drop-of-length-le file {i = body-offset file 1 + body-length file 1} (omega arith))
+      file-stands [] q (ap (λ (n : ℕ). drop (bodies-at n) file) (sym q))
+      (drop-of-length-le file {i = body-offset file 1 + body-length file 1} (omega arith))
 
   pub three-entries-stand : entry-count file ≡ 3 → 0 < length (body-words file 2)
       → file ≡ file-of (file-network file) (file-class file) (body-words file 1) (body-words file 2)
@@ -142,10 +152,12 @@ module _ (file : List ℕ) (s : AdmittedFile file) where
       let second = second-offset in
       let size = words-length 1 (omega arith) (omega arith) in
       let third : drop 23 file ≡ response-entry offset responses ++ drop (bodies-at (entry-count file)) file =
-      entry-of 2 3 offset (8 * length responses) (omega arith) (s .laid .kinds 2 (omega arith)) (omega arith) (words-length 2 (omega arith) (omega arith))
+      entry-of 2 3 offset (8 * length responses) (omega arith) (s .laid .kinds 2 (omega arith)) (omega arith)
+      (words-length 2 (omega arith) (omega arith))
       ∙ ap₂ (λ (entry : List ℕ) (n : ℕ). entry ++ drop (bodies-at n) file) (sym (response-entry-is offset responses some)) (sym q) in
       let last : drop (body-offset file 1 + body-length file 1) file ≡ word-bytes responses =
       ap (λ (n : ℕ). drop n file) (sym gap) ∙ words-body 2 (omega arith) (omega arith) (omega arith)
-      ∙ ap (λ (bytes : List ℕ). word-bytes responses ++ bytes) (drop-of-length-le file {i = body-offset file 2 + body-length file 2} (omega arith))
+      ∙ ap (λ (bytes : List ℕ). word-bytes responses ++ bytes)
+      (drop-of-length-le file {i = body-offset file 2 + body-length file 2} (omega arith))
       ∙ append-nil (word-bytes responses) in
       file-stands responses (q ∙ sym (entries-three responses some)) third last

@@ -25,7 +25,8 @@ use Rattle.demands.proofs.Reporting.{report-determined}
 abbrev ended-history : History
 ended-history = finished-second four (11 ∷ 5 ∷ 6 ∷ 8 ∷ []) (15 ∷ 7 ∷ 7 ∷ 12 ∷ []) (0 ∷ 1 ∷ 2 ∷ 4 ∷ []) (4 ∷ 7 ∷ 7 ∷ 4 ∷ [])
 
-four-ended : history our-sessions junk four-calls ≡ ended-history → record-after our-sessions junk four-calls ≡ finished four (3 ∷ 3 ∷ 0 ∷ 8 ∷ []) 8
+four-ended : history our-sessions junk four-calls ≡ ended-history
+    → record-after our-sessions junk four-calls ≡ finished four (3 ∷ 3 ∷ 0 ∷ 8 ∷ []) 8
     → OnlyFit ended-history (3 ∷ 3 ∷ 0 ∷ 8 ∷ [])
 four-ended h r =
     subst₂ (λ (x : History) (s : Session). Ended x s) h r (sessions junk four-calls .ended) .state

@@ -20,12 +20,16 @@ use Rattle.diagnosis.specs.ReadBack.{read-back, no-state-fits}
 use Rattle.steps.specs.FirstStep.{word-length, first-vectors}
 use Rattle.steps.specs.SecondStep.{unclear, second-vectors, session-vectors, fault-free-state}
 use Rattle.steps.proofs.StepOneWords.{length-bounds, words-apart, first-size}
-use Rattle.steps.proofs.BothSteps.{fits-parts, fits-both, second-size, second-none, both-read-back, both-fits, fault-free-at, all-clear-fits, all-clear-only}
+use Rattle.steps.proofs.BothSteps.{fits-parts, fits-both, second-size, second-none, both-read-back, both-fits}
+use Rattle.steps.proofs.BothSteps.{fault-free-at, all-clear-fits, all-clear-only}
 use Rattle.session.specs.declared.Session.{Session}
 use Rattle.session.specs.Record.{awaiting-first, awaiting-second, finished, awaits-first, awaits-second}
 use Rattle.session.specs.Calls.{stepped, begin-answer, first-answer, answered-by, second-answer}
 use Rattle.session.proofs.Records.{awaits-first-of, awaits-first-step, held-of, awaits-second-of, awaits-second-step}
-use Rattle.demands.specs.SessionCalls.{Call, begin, first, second, lent, History, none, waits-first, waits-second, finished-first, finished-second, after-first, accepted, by-answer, extended, record-after, history-from, history, FitsAnswers, OnlyFit, vectors-spent}
+use Rattle.demands.specs.SessionCalls.{Call, begin, first, second, lent, History, none, waits-first, waits-second}
+use Rattle.demands.specs.SessionCalls.{finished-first, finished-second, after-first, accepted, by-answer}
+use Rattle.demands.specs.SessionCalls.{extended, record-after, history-from, history, FitsAnswers, OnlyFit}
+use Rattle.demands.specs.SessionCalls.{vectors-spent}
 use Rattle.demands.specs.Demand3.{NotAwaited, BeginRows, FirstRows, SecondRows, CallRows, Written, Reported}
 use Rattle.demands.specs.Programs.{our-answer, our-new, our-sessions}
 
@@ -59,17 +63,25 @@ Tells (finished-second net v1 r1 v2 r2) session = Stopped (finished-second net v
 -- ---- tests and rows
 
 -- tests that let a call through: its result
-through : {A : Type 0} (rows : List (ℕ × Type 0)) (tests : List (ℕ × Bool)) (x y : A) → Decided rows tests → by-tests tests x ≡ full y → y ≡ x
+through : {A : Type 0} (rows : List (ℕ × Type 0)) (tests : List (ℕ × Bool)) (x y : A) → Decided rows tests
+    → by-tests tests x ≡ full y → y ≡ x
 through {A} rows tests x y d e =
-    table-full (λ (z : A). z ≡ x) rows y (subst (λ (a : Answer A). ByTable rows (λ (z : A). z ≡ x) a) e (tests-by-table (λ (z : A). z ≡ x) rows tests x d (λ _. refl)))
+    table-full (λ (z : A). z ≡ x) rows y
+    (subst (λ (a : Answer A). ByTable rows (λ (z : A). z ≡ x) a) e
+    (tests-by-table (λ (z : A). z ≡ x) rows tests x d (λ _. refl)))
 
-begin-decided : (net : Network) (list : List ℕ) → Decided (BeginRows net list) ((5, bad-net-count net) ∷ (12, no-room (length (first-vectors net)) (length list)) ∷ [])
+begin-decided : (net : Network) (list : List ℕ)
+    → Decided (BeginRows net list)
+    ((5, bad-net-count net) ∷ (12, no-room (length (first-vectors net)) (length list)) ∷ [])
 begin-decided net list = (refl, decides-row-5 net, λ _. (refl, decides-row-12 (length (first-vectors net)) (length list), λ _. tt))
 
 -- by the rows of begin
-pub begin-by-table : (session : Session) (net : Network) (list : List ℕ) → ByTable (BeginRows net list) (λ words. words ≡ first-vectors net) (our-answer session (begin net list))
+pub begin-by-table : (session : Session) (net : Network) (list : List ℕ)
+    → ByTable (BeginRows net list) (λ words. words ≡ first-vectors net) (our-answer session (begin net list))
 unfolding begin-answer
-begin-by-table session net list = tests-by-table (λ words. words ≡ first-vectors net) (BeginRows net list) _ (first-vectors net) (begin-decided net list) (λ _. refl)
+begin-by-table session net list =
+    tests-by-table (λ words. words ≡ first-vectors net) (BeginRows net list) _ (first-vectors net)
+    (begin-decided net list) (λ _. refl)
 
 -- the tests of first answers after row 4
 abbrev first-tests : Network → (answers list : List ℕ) → List (ℕ × Bool)
@@ -79,7 +91,8 @@ first-tests net answers list =
     ∷ (12, no-room (length (second-vectors net answers)) (length list))
     ∷ []
 
-first-decided : (net : Network) (answers list : List ℕ) → Decided (FirstRows (waits-first net (first-vectors net)) answers list) (first-tests net answers list)
+first-decided : (net : Network) (answers list : List ℕ)
+    → Decided (FirstRows (waits-first net (first-vectors net)) answers list) (first-tests net answers list)
 first-decided net answers list = (
   refl,
   decides-row-9 (length (first-vectors net)) (length answers),
@@ -87,11 +100,13 @@ first-decided net answers list = (
 )
 
 -- row 4 alone
-pub first-refused : (session : Session) (answers list : List ℕ) → awaits-first session ≡ false → our-answer session (first answers list) ≡ refused 4
+pub first-refused : (session : Session) (answers list : List ℕ) → awaits-first session ≡ false
+    → our-answer session (first answers list) ≡ refused 4
 unfolding first-answer by-tests
 first-refused session answers list e = rw e
 
-pub second-refused : (session : Session) (answers : List ℕ) → awaits-second session ≡ false → our-answer session (second answers) ≡ refused 4
+pub second-refused : (session : Session) (answers : List ℕ) → awaits-second session ≡ false
+    → our-answer session (second answers) ≡ refused 4
 unfolding second-answer by-tests
 second-refused session answers e = rw e
 
@@ -114,7 +129,8 @@ module _ (net : Network) (r1 : List ℕ) (nets : ¬ (Row5 net)) (sized : length 
   pub awaits : awaits-second (awaiting-second net r1) ≡ true
   awaits =
       let b = nets-admitted net nets in
-      awaits-second-of net r1 (test-fails (decides-row-5 net) nets) sized (length-bounds net (b .0) (b .1) .1) (test-fails (decides-high-bit net r1) narrow) some
+      awaits-second-of net r1 (test-fails (decides-row-5 net) nets) sized (length-bounds net (b .0) (b .1) .1)
+      (test-fails (decides-high-bit net r1) narrow) some
 
   second-passed : (answers : List ℕ) → our-answer (awaiting-second net r1) (second answers) ≡ by-tests (second-tests net r1 answers) []
   unfolding second-answer by-tests
@@ -133,21 +149,27 @@ module _ (net : Network) (r1 : List ℕ) (nets : ¬ (Row5 net)) (sized : length 
     fits-read state (of-class, one, two) =
         let b = nets-admitted net nets in
         both-read-back net (words-apart net (b .0) (b .1)) r1 answers state sized
-        (fits-both net (first-vectors net) (second-vectors net r1) (net .nets) r1 answers state (record { of-class = of-class; gives = one }) (record { of-class = of-class; gives = two }))
+        (fits-both net (first-vectors net) (second-vectors net r1) (net .nets) r1 answers state
+        (record { of-class = of-class; gives = one }) (record { of-class = of-class; gives = two }))
 
     read-fits : no-state-fits net (net .nets) (session-vectors net r1) (r1 ++ answers) ≡ false → FitsAnswers (both answers) read
     read-fits e =
         let b = nets-admitted net nets in
         let f = both-fits net r1 answers sized full-size (no-high-bit net r1 narrow) (no-high-bit net answers no-high) e in
-        let s = fits-parts net (first-vectors net) (second-vectors net r1) (net .nets) r1 answers read (sized ∙ sym (first-size net)) f in (f .of-class, s .0 .gives, s .1 .gives)
+        let s = fits-parts net (first-vectors net) (second-vectors net r1) (net .nets) r1 answers read
+        (sized ∙ sym (first-size net)) f in (f .of-class, s .0 .gives, s .1 .gives)
 
-    decides-row-14 : Decides (no-state-fits net (net .nets) (session-vectors net r1) (r1 ++ answers)) (¬ ((state : List ℕ) × FitsAnswers (both answers) state))
+    decides-row-14 : Decides (no-state-fits net (net .nets) (session-vectors net r1) (r1 ++ answers))
+        (¬ ((state : List ℕ) × FitsAnswers (both answers) state))
     decides-row-14 = (λ e w. contrary e (fits-read (w .0) (w .1) .0), λ e no!. no! (read, read-fits e))
 
-  as-many : (answers : List ℕ) → ¬ (Row9 (length (second-vectors net r1)) (length answers)) → length answers ≡ length (second-vectors net r1)
+  as-many : (answers : List ℕ) → ¬ (Row9 (length (second-vectors net r1)) (length answers))
+      → length answers ≡ length (second-vectors net r1)
   as-many answers h = eqb-true _ _ (not-false _ (test-fails (decides-row-9 (length (second-vectors net r1)) (length answers)) h))
 
-  second-decided : (answers : List ℕ) → Decided (SecondRows (waits-second net (first-vectors net) r1 (second-vectors net r1)) answers) (second-tests net r1 answers)
+  second-decided : (answers : List ℕ)
+      → Decided (SecondRows (waits-second net (first-vectors net) r1 (second-vectors net r1)) answers)
+      (second-tests net r1 answers)
   second-decided answers = (
     refl,
     decides-row-9 (length (second-vectors net r1)) (length answers),
@@ -157,17 +179,21 @@ module _ (net : Network) (r1 : List ℕ) (nets : ¬ (Row5 net)) (sized : length 
 -- ---- the answer by the rows of the session
 
 in-first : (net : Network) (answers list : List ℕ) → ¬ (Row5 net)
-    → ByTable (FirstRows (waits-first net (first-vectors net)) answers list) (λ words. words ≡ second-vectors net answers) (our-answer (awaiting-first net) (first answers list))
+    → ByTable (FirstRows (waits-first net (first-vectors net)) answers list)
+    (λ words. words ≡ second-vectors net answers) (our-answer (awaiting-first net) (first answers list))
 in-first net answers list nets =
     rw (first-passed net answers list nets)
-    (tests-by-table (λ words. words ≡ second-vectors net answers) (FirstRows (waits-first net (first-vectors net)) answers list) (first-tests net answers list)
+    (tests-by-table (λ words. words ≡ second-vectors net answers)
+    (FirstRows (waits-first net (first-vectors net)) answers list) (first-tests net answers list)
     (second-vectors net answers) (first-decided net answers list) (λ _. refl))
 
 in-second : (net : Network) (v1 r1 v2 answers : List ℕ) → WaitsSecond net v1 r1 v2 (awaiting-second net r1)
     → ByTable (SecondRows (waits-second net v1 r1 v2) answers) (λ words. words ≡ []) (our-answer (awaiting-second net r1) (second answers))
 in-second net v1 r1 v2 answers w =
     rw (w .wrote, w .wrote-second, second-passed net r1 (w .nets) (w .sized) (w .narrow) (w .some) answers)
-    (tests-by-table (λ (words : List ℕ). words ≡ []) (SecondRows (waits-second net (first-vectors net) r1 (second-vectors net r1)) answers) (second-tests net r1 answers) []
+    (tests-by-table (λ (words : List ℕ). words ≡ [])
+    (SecondRows (waits-second net (first-vectors net) r1 (second-vectors net r1)) answers)
+    (second-tests net r1 answers) []
     (second-decided net r1 (w .nets) (w .sized) (w .narrow) (w .some) answers) (λ _. refl))
 
 -- ---- what a record at each stage does not wait for
@@ -196,41 +222,54 @@ step-told (waits-second net v1 r1 v2) session begun t = ap (λ (s : Session). s 
 step-told (finished-first net v1 r1 v2) session begun t = t .step-three
 step-told (finished-second net v1 r1 v2 r2) session begun t = t .step-three
 
-away-first : (h : History) (session : Session) (answers list : List ℕ) → h ≢ none → Tells h session → step-of h ≢ 1 → our-answer session (first answers list) ≡ refused 4
-away-first h session answers list begun t d = first-refused session answers list (not-first session (λ e. d (sym (step-told h session begun t) ∙ e)))
+away-first : (h : History) (session : Session) (answers list : List ℕ) → h ≢ none → Tells h session → step-of h ≢ 1
+    → our-answer session (first answers list) ≡ refused 4
+away-first h session answers list begun t d =
+    first-refused session answers list (not-first session (λ e. d (sym (step-told h session begun t) ∙ e)))
 
-away-second : (h : History) (session : Session) (answers : List ℕ) → h ≢ none → Tells h session → step-of h ≢ 2 → our-answer session (second answers) ≡ refused 4
-away-second h session answers begun t d = second-refused session answers (not-second session (λ e. d (sym (step-told h session begun t) ∙ e)))
+away-second : (h : History) (session : Session) (answers : List ℕ) → h ≢ none → Tells h session → step-of h ≢ 2
+    → our-answer session (second answers) ≡ refused 4
+away-second h session answers begun t d =
+    second-refused session answers (not-second session (λ e. d (sym (step-told h session begun t) ∙ e)))
 
 -- refused by row 4
 by-row-4 : (result : List ℕ → Type 0) (a : Answer (List ℕ)) → a ≡ refused 4 → ByTable NotAwaited result a
 by-row-4 result a e = inl (tt, e)
 
-pub told-by-table : (h : History) (session : Session) (call : Call) → h ≢ none → Tells h session → ByTable (CallRows h call) (Written h call) (our-answer session call)
+pub told-by-table : (h : History) (session : Session) (call : Call) → h ≢ none → Tells h session
+    → ByTable (CallRows h call) (Written h call) (our-answer session call)
 told-by-table h session (begin net list) begun t = begin-by-table session net list
 told-by-table none session (first answers list) begun t = absurd (begun refl)
 told-by-table (waits-first net v1) session (first answers list) begun t = rw (t .wrote, t .is) (in-first net answers list (t .nets))
 told-by-table (waits-second net v1 r1 v2) session (first answers list) begun t =
-    by-row-4 (λ (words : List ℕ). words ≡ []) (our-answer session (first answers list)) (away-first (waits-second net v1 r1 v2) session answers list begun t (λ e. omega arith))
+    by-row-4 (λ (words : List ℕ). words ≡ []) (our-answer session (first answers list))
+    (away-first (waits-second net v1 r1 v2) session answers list begun t (λ e. omega arith))
 told-by-table (finished-first net v1 r1 v2) session (first answers list) begun t =
-    by-row-4 (λ (words : List ℕ). words ≡ []) (our-answer session (first answers list)) (away-first (finished-first net v1 r1 v2) session answers list begun t (λ e. omega arith))
+    by-row-4 (λ (words : List ℕ). words ≡ []) (our-answer session (first answers list))
+    (away-first (finished-first net v1 r1 v2) session answers list begun t (λ e. omega arith))
 told-by-table (finished-second net v1 r1 v2 r2) session (first answers list) begun t =
-    by-row-4 (λ (words : List ℕ). words ≡ []) (our-answer session (first answers list)) (away-first (finished-second net v1 r1 v2 r2) session answers list begun t (λ e. omega arith))
+    by-row-4 (λ (words : List ℕ). words ≡ []) (our-answer session (first answers list))
+    (away-first (finished-second net v1 r1 v2 r2) session answers list begun t (λ e. omega arith))
 told-by-table none session (second answers) begun t = absurd (begun refl)
 told-by-table (waits-first net v1) session (second answers) begun t =
-    by-row-4 (λ (words : List ℕ). words ≡ []) (our-answer session (second answers)) (away-second (waits-first net v1) session answers begun t (λ e. omega arith))
+    by-row-4 (λ (words : List ℕ). words ≡ []) (our-answer session (second answers))
+    (away-second (waits-first net v1) session answers begun t (λ e. omega arith))
 told-by-table (waits-second net v1 r1 v2) session (second answers) begun t =
-    subst (λ (s : Session). ByTable (SecondRows (waits-second net v1 r1 v2) answers) (λ words. words ≡ []) (our-answer s (second answers))) (sym (t .is))
+    subst (λ (s : Session). ByTable (SecondRows (waits-second net v1 r1 v2) answers) (λ words. words ≡ [])
+    (our-answer s (second answers))) (sym (t .is))
     (in-second net v1 r1 v2 answers (subst (λ (s : Session). WaitsSecond net v1 r1 v2 s) (t .is) t))
 told-by-table (finished-first net v1 r1 v2) session (second answers) begun t =
-    by-row-4 (λ (words : List ℕ). words ≡ []) (our-answer session (second answers)) (away-second (finished-first net v1 r1 v2) session answers begun t (λ e. omega arith))
+    by-row-4 (λ (words : List ℕ). words ≡ []) (our-answer session (second answers))
+    (away-second (finished-first net v1 r1 v2) session answers begun t (λ e. omega arith))
 told-by-table (finished-second net v1 r1 v2 r2) session (second answers) begun t =
-    by-row-4 (λ (words : List ℕ). words ≡ []) (our-answer session (second answers)) (away-second (finished-second net v1 r1 v2 r2) session answers begun t (λ e. omega arith))
+    by-row-4 (λ (words : List ℕ). words ≡ []) (our-answer session (second answers))
+    (away-second (finished-second net v1 r1 v2 r2) session answers begun t (λ e. omega arith))
 
 -- ---- an accepted call
 
 -- what a finished record reports
-finished-reports : (h : History) (net : Network) (r1 state : List ℕ) (spent : ℕ) → length state ≡ net .nets → OnlyFit h state → spent ≡ length (vectors-spent h)
+finished-reports : (h : History) (net : Network) (r1 state : List ℕ) (spent : ℕ) → length state ≡ net .nets
+    → OnlyFit h state → spent ≡ length (vectors-spent h)
     → (length (unclear net r1) ≡ 0 → (spent ≡ word-length net) × (state ≡ fault-free-state net))
     → (length (unclear net r1) ≢ 0 → spent ≡ word-length net + length (unclear net r1) + 1)
     → Stopped h net r1 (finished net state spent)
@@ -242,12 +281,14 @@ finished-reports h net r1 state spent size only count clear unclear! = record {
     nothing-more = rw (← size) (drop-append-seam state (replicate (48 - length state) 0));
     count = count;
     none-unclear = λ none!. clear none! .0;
-    own-drivers = λ none! i l. List·getD-append state (replicate (48 - length state) 0) 0 i (rw size l) ∙ ap (λ (reaches : List ℕ). at reaches i) (clear none! .1) ∙ fault-free-at net i l;
+    own-drivers = λ none! i l. List·getD-append state (replicate (48 - length state) 0) 0 i (rw size l)
+        ∙ ap (λ (reaches : List ℕ). at reaches i) (clear none! .1) ∙ fault-free-at net i l;
     some-unclear = unclear!;
   };
 }
 
-first-in : (net : Network) (v1 answers list words : List ℕ) → ¬ (Row5 net) → v1 ≡ first-vectors net → our-answer (awaiting-first net) (first answers list) ≡ full words
+first-in : (net : Network) (v1 answers list words : List ℕ) → ¬ (Row5 net) → v1 ≡ first-vectors net
+    → our-answer (awaiting-first net) (first answers list) ≡ full words
     → Tells (after-first net v1 answers words (unclear net answers)) (answered-by net answers (unclear net answers))
 first-in net v1 answers list words nets wrote e = go (unclear net answers) refl
   where
@@ -255,10 +296,12 @@ first-in net v1 answers list words nets wrote e = go (unclear net answers) refl
     past = sym (first-passed net answers list nets) ∙ e
 
     free : NoneHolds (FirstRows (waits-first net (first-vectors net)) answers list)
-    free = let-through (FirstRows (waits-first net (first-vectors net)) answers list) (first-tests net answers list) (second-vectors net answers) words (first-decided net answers list) past
+    free = let-through (FirstRows (waits-first net (first-vectors net)) answers list) (first-tests net answers list)
+        (second-vectors net answers) words (first-decided net answers list) past
 
     second-wrote : words ≡ second-vectors net answers
-    second-wrote = through (FirstRows (waits-first net (first-vectors net)) answers list) (first-tests net answers list) (second-vectors net answers) words (first-decided net answers list) past
+    second-wrote = through (FirstRows (waits-first net (first-vectors net)) answers list) (first-tests net answers list)
+        (second-vectors net answers) words (first-decided net answers list) past
 
     sized : length answers ≡ word-length net
     sized = eqb-true _ _ (not-false _ (test-fails (decides-row-9 (length (first-vectors net)) (length answers)) (free .0))) ∙ first-size net
@@ -273,12 +316,16 @@ first-in net v1 answers list words nets wrote e = go (unclear net answers) refl
     go [] q =
         let clear : length (unclear net answers) ≡ 0 = ap length q in
         let nothing : second-vectors net answers ≡ [] = second-none net answers clear in
-        let spent : length (session-vectors net answers) ≡ word-length net = length-append (first-vectors net) (second-vectors net answers) ∙ rw (nothing, first-size net) (omega arith) in
+        let spent : length (session-vectors net answers) ≡ word-length net =
+        length-append (first-vectors net) (second-vectors net answers)
+        ∙ rw (nothing, first-size net) (omega arith) in
         let fits = all-clear-fits net (words-apart net nets-low nets-high) answers clear sized (no-high-bit net answers (free .1 .0)) in
-        finished-reports (finished-first net v1 answers words) net answers (fault-free-state net) (length (session-vectors net answers)) (fits .of-class .size)
+        finished-reports (finished-first net v1 answers words) net answers (fault-free-state net)
+        (length (session-vectors net answers)) (fits .of-class .size)
         (record {
           fits = (fits .of-class, ap (response net (fault-free-state net)) wrote ∙ fits .gives);
-          only = λ other f. all-clear-only net (words-apart net nets-low nets-high) answers clear other (record { of-class = f .0; gives = ap (response net other) (sym wrote) ∙ f .1 });
+          only = λ other f. all-clear-only net (words-apart net nets-low nets-high) answers clear other
+              (record { of-class = f .0; gives = ap (response net other) (sym wrote) ∙ f .1 });
         })
         (rw (wrote, second-wrote)) (λ _. (spent, refl)) (λ d. absurd (d clear))
     go (i ∷ us) q = record {
@@ -301,7 +348,8 @@ second-in net v1 r1 v2 answers words w e = rw (held-of net r1 (w .sized)) told
 
     free : NoneHolds (SecondRows (waits-second net (first-vectors net) r1 (second-vectors net r1)) answers)
     free =
-        let-through (SecondRows (waits-second net (first-vectors net) r1 (second-vectors net r1)) answers) (second-tests net r1 answers) [] words
+        let-through (SecondRows (waits-second net (first-vectors net) r1 (second-vectors net r1)) answers)
+        (second-tests net r1 answers) [] words
         (second-decided net r1 (w .nets) (w .sized) (w .narrow) (w .some) answers) past
 
     same : length answers ≡ length (second-vectors net r1)
@@ -320,15 +368,19 @@ second-in net v1 r1 v2 answers words w e = rw (held-of net r1 (w .sized)) told
     }
 
     spent : length (session-vectors net r1) ≡ word-length net + length (unclear net r1) + 1
-    spent = length-append (first-vectors net) (second-vectors net r1) ∙ (let a = first-size net in let b = second-size net r1 (w .some) in omega arith)
+    spent = length-append (first-vectors net) (second-vectors net r1)
+        ∙ (let a = first-size net in let b = second-size net r1 (w .some) in omega arith)
 
     told : Stopped (finished-second net v1 r1 v2 answers) net r1 (finished net state (length (session-vectors net r1)))
     told =
         finished-reports (finished-second net v1 r1 v2 answers) net r1 state (length (session-vectors net r1)) (one .fits .0 .size)
-        (subst (λ (h : History). OnlyFit h state) (ap₂ (λ (x y : List ℕ). finished-second net x r1 y answers) (sym (w .wrote)) (sym (w .wrote-second))) one)
+        (subst (λ (h : History). OnlyFit h state)
+        (ap₂ (λ (x y : List ℕ). finished-second net x r1 y answers) (sym (w .wrote))
+        (sym (w .wrote-second))) one)
         (rw (w .wrote, w .wrote-second)) (λ c. absurd (w .some c)) (λ _. spent)
 
-begin-in : (session : Session) (net : Network) (list words : List ℕ) → our-answer session (begin net list) ≡ full words → WaitsFirst net words (awaiting-first net)
+begin-in : (session : Session) (net : Network) (list words : List ℕ) → our-answer session (begin net list) ≡ full words
+    → WaitsFirst net words (awaiting-first net)
 unfolding begin-answer
 begin-in session net list words e = record {
   nets = let-through (BeginRows net list) _ (first-vectors net) words (begin-decided net list) e .0;
@@ -342,37 +394,48 @@ accepted-tells h session (begin net list) words e t = begin-in session net list 
 accepted-tells none session (first answers list) words e t = tt
 accepted-tells (waits-first net v1) session (first answers list) words e t =
     subst
-    (λ (s : Session). our-answer s (first answers list) ≡ full words → Tells (accepted (waits-first net v1) (first answers list) words) (our-new s (first answers list)))
+    (λ (s : Session). our-answer s (first answers list) ≡ full words
+    → Tells (accepted (waits-first net v1) (first answers list) words) (our-new s (first answers list)))
     (sym (t .is)) (first-in net v1 answers list words (t .nets) (t .wrote)) e
 accepted-tells (waits-second net v1 r1 v2) session (first answers list) words e t =
-    refused-not-full (away-first (waits-second net v1 r1 v2) session answers list (is-begun (waits-second net v1 r1 v2) (λ z. omega arith)) t (λ q. omega arith)) e
+    refused-not-full (away-first (waits-second net v1 r1 v2) session answers list
+    (is-begun (waits-second net v1 r1 v2) (λ z. omega arith)) t (λ q. omega arith)) e
 accepted-tells (finished-first net v1 r1 v2) session (first answers list) words e t =
-    refused-not-full (away-first (finished-first net v1 r1 v2) session answers list (is-begun (finished-first net v1 r1 v2) (λ z. omega arith)) t (λ q. omega arith)) e
+    refused-not-full (away-first (finished-first net v1 r1 v2) session answers list
+    (is-begun (finished-first net v1 r1 v2) (λ z. omega arith)) t (λ q. omega arith)) e
 accepted-tells (finished-second net v1 r1 v2 r2) session (first answers list) words e t =
-    refused-not-full (away-first (finished-second net v1 r1 v2 r2) session answers list (is-begun (finished-second net v1 r1 v2 r2) (λ z. omega arith)) t (λ q. omega arith)) e
+    refused-not-full (away-first (finished-second net v1 r1 v2 r2) session answers list
+    (is-begun (finished-second net v1 r1 v2 r2) (λ z. omega arith)) t (λ q. omega arith)) e
 accepted-tells none session (second answers) words e t = tt
 accepted-tells (waits-first net v1) session (second answers) words e t =
-    refused-not-full (away-second (waits-first net v1) session answers (is-begun (waits-first net v1) (λ z. omega arith)) t (λ q. omega arith)) e
+    refused-not-full (away-second (waits-first net v1) session answers
+    (is-begun (waits-first net v1) (λ z. omega arith)) t (λ q. omega arith)) e
 accepted-tells (waits-second net v1 r1 v2) session (second answers) words e t =
     subst
-    (λ (s : Session). our-answer s (second answers) ≡ full words → Stopped (finished-second net v1 r1 v2 answers) net r1 (our-new s (second answers)))
+    (λ (s : Session). our-answer s (second answers) ≡ full words
+    → Stopped (finished-second net v1 r1 v2 answers) net r1 (our-new s (second answers)))
     (sym (t .is)) (second-in net v1 r1 v2 answers words (subst (λ (s : Session). WaitsSecond net v1 r1 v2 s) (t .is) t)) e
 accepted-tells (finished-first net v1 r1 v2) session (second answers) words e t =
-    refused-not-full (away-second (finished-first net v1 r1 v2) session answers (is-begun (finished-first net v1 r1 v2) (λ z. omega arith)) t (λ q. omega arith)) e
+    refused-not-full (away-second (finished-first net v1 r1 v2) session answers
+    (is-begun (finished-first net v1 r1 v2) (λ z. omega arith)) t (λ q. omega arith)) e
 accepted-tells (finished-second net v1 r1 v2 r2) session (second answers) words e t =
-    refused-not-full (away-second (finished-second net v1 r1 v2 r2) session answers (is-begun (finished-second net v1 r1 v2 r2) (λ z. omega arith)) t (λ q. omega arith)) e
+    refused-not-full (away-second (finished-second net v1 r1 v2 r2) session answers
+    (is-begun (finished-second net v1 r1 v2 r2) (λ z. omega arith)) t (λ q. omega arith)) e
 
 -- ---- every call keeps it
 
-pub call-tells : (h : History) (session : Session) (call : Call) → Tells h session → Tells (extended h call (our-sessions session call)) (our-sessions session call .session)
+pub call-tells : (h : History) (session : Session) (call : Call) → Tells h session
+    → Tells (extended h call (our-sessions session call)) (our-sessions session call .session)
 unfolding stepped
 call-tells h session call t = go (our-answer session call) refl
   where
-    go : (a : Answer (List ℕ)) → our-answer session call ≡ a → Tells (by-answer h call a (lent-after a (lent call))) (stepped a (our-new session call) session .session)
+    go : (a : Answer (List ℕ)) → our-answer session call ≡ a
+        → Tells (by-answer h call a (lent-after a (lent call))) (stepped a (our-new session call) session .session)
     go (refused number) e = t
     go (full words) e = rw (front-written words (lent call)) (accepted-tells h session call words e t)
 
-calls-tell : (h : History) (session : Session) (calls : List Call) → Tells h session → Tells (history-from our-sessions h session calls) (record-after our-sessions session calls)
+calls-tell : (h : History) (session : Session) (calls : List Call) → Tells h session
+    → Tells (history-from our-sessions h session calls) (record-after our-sessions session calls)
 calls-tell h session [] t = t
 calls-tell h session (call ∷ calls) t =
     calls-tell (extended h call (our-sessions session call)) (our-sessions session call .session) calls (call-tells h session call t)

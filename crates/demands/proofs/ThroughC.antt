@@ -55,7 +55,8 @@ new-sized session (first answers list) words e =
     let rows = none-passed _ _ words e .0 in
     let nets = nets-most net (awaits-first-is session (not-false _ (rows .0)) .1) in
     let size : length answers ≡ length (first-vectors net) = eqb-true _ _ (not-false _ (rows .1 .0)) in
-    answered-sized net answers (unclear net answers) (omega (arith, size, first-size net, length-bounds net (nets .0) (nets .1) .1)) (nets .1)
+    answered-sized net answers (unclear net answers)
+    (omega (arith, size, first-size net, length-bounds net (nets .0) (nets .1) .1)) (nets .1)
 new-sized session (second answers) words e =
     let net = session .network in
     let nets = nets-most net (awaits-second-nets session (not-false _ (none-passed _ _ words e .0 .0))) in
@@ -91,7 +92,8 @@ module _ (words : List ℕ) (size : length words ≡ session-size) where
     abbrev after : Session
     after = our-sessions (session-of words) call .session
 
-    kept : Sized after × (fixed-after (in-words (λ _. session-words after) (our-answer (session-of words) call)) words ≡ session-words after)
+    kept : Sized after × (fixed-after (in-words (λ _. session-words after) (our-answer (session-of words) call)) words
+        ≡ session-words after)
     kept = written-back (our-answer (session-of words) call) (our-new (session-of words) call) (new-sized (session-of words) call)
 
     words-are : exported words call .session ≡ session-words after
@@ -119,7 +121,8 @@ zero-full ((number, test) ∷ tests) x (n, more) e = go test e (zero-full tests 
     go true q later = absurd (n q)
     go false q later = later q
 
-zero-accepted : (session : Session) (call : Call) → code (our-answer session call) ≡ 0 → (written : List ℕ) × (our-answer session call ≡ full written)
+zero-accepted : (session : Session) (call : Call) → code (our-answer session call) ≡ 0
+    → (written : List ℕ) × (our-answer session call ≡ full written)
 unfolding begin-answer first-answer second-answer
 zero-accepted session (begin net list) e = (_, zero-full _ _ (λ q. omega (arith, q), (λ q. omega (arith, q), tt)) e)
 zero-accepted session (first answers list) e =
@@ -148,9 +151,11 @@ module _ (s : Session) (one two : List ℕ) where
   drive-part = go (awaits-first s) (awaits-second s) refl refl
     where
       go : (a b : Bool) → awaits-first s ≡ a → awaits-second s ≡ b
-          → take (length (cond a first-part (cond b second-part []))) (cond (eqb (s .step) 1) one two) ≡ cond a first-part (cond b second-part [])
+          → take (length (cond a first-part (cond b second-part []))) (cond (eqb (s .step) 1) one two)
+          ≡ cond a first-part (cond b second-part [])
       go true b e f = rw (ap (λ (n : ℕ). eqb n 1) (awaits-first-step s e)) (front-part (length (first-vectors (s .network))) one)
-      go false true e f = rw (ap (λ (n : ℕ). eqb n 1) (awaits-second-step s f)) (front-part (length (second-vectors (s .network) (held-answers s))) two)
+      go false true e f = rw (ap (λ (n : ℕ). eqb n 1) (awaits-second-step s f))
+          (front-part (length (second-vectors (s .network) (held-answers s))) two)
       go false false e f = refl
 
 step-is : (words : List ℕ) → session-of words .step ≡ at words 0
@@ -171,5 +176,15 @@ sessions-through-c words size [] = record {
 }
 sessions-through-c words size (call ∷ calls) =
     let next = exported words call .session in
-    let r = subst (λ (start : Session). SameInWords next start calls) (session-kept words size call) (sessions-through-c next (size-kept words size call) calls) in
-    record { size = r .size; session = r .session; returned = r .returned; accepted = r .accepted; list = r .list; drive-size = r .drive-size; drive = r .drive }
+    let r = subst (λ (start : Session). SameInWords next start calls) (session-kept words size call)
+    (sessions-through-c next (size-kept words size call) calls) in
+    record {
+      size = r .size;
+      session = r .session;
+      returned = r .returned;
+      accepted = r .accepted;
+      list =
+          r .list;
+      drive-size = r .drive-size;
+      drive = r .drive;
+    }

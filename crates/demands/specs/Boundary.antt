@@ -63,7 +63,8 @@ pub record Boundary : Type 0 where
   pub set-not-passed : diagnose 4 (1 ∷ 2 ∷ 4 ∷ 8 ∷ []) (7 ∷ 7 ∷ 4 ∷ 12 ∷ []) ≡ refused 13
   -- *findings*: row 5, n; row 11, the state; row 12, the room
   pub find-1 : find-into 1 (1 ∷ []) 1 ≡ refused 5
-  pub find-2 : find-into 2 (2 ∷ 2 ∷ []) 2 ≡ full (record { kind = 3; reach = 2; partners = 2 } ∷ record { kind = 2; reach = 2; partners = 1 } ∷ [])
+  pub find-2 : find-into 2 (2 ∷ 2 ∷ []) 2
+      ≡ full (record { kind = 3; reach = 2; partners = 2 } ∷ record { kind = 2; reach = 2; partners = 1 } ∷ [])
   pub find-48 : count-of (find-into 48 (replicate 48 0) 48) ≡ full 48
   pub find-49 : find-into 49 (replicate 49 0) 49 ≡ refused 5
   pub find-meeting : find-into 2 (3 ∷ 1 ∷ []) 2 ≡ refused 11
@@ -91,9 +92,19 @@ pub record Boundary : Type 0 where
   pub unexplained : first-answer (awaiting-first two) (0 ∷ 0 ∷ []) 3 ≡ full (0 ∷ 1 ∷ 2 ∷ [])
   pub unexplained-after : second-answer (awaiting-second two (0 ∷ 0 ∷ [])) (0 ∷ 1 ∷ 2 ∷ []) ≡ refused 14
   -- row 4: junk in an unused entry of the record
-  pub junk-spent : first-answer (record { step = 1; network = two; first = replicate 8 0; reaches = replicate 48 0; spent = 1 }) (1 ∷ 2 ∷ []) 3 ≡ refused 4
-  pub junk-first : first-answer (record { step = 1; network = two; first = 1 ∷ replicate 7 0; reaches = replicate 48 0; spent = 0 }) (1 ∷ 2 ∷ []) 3 ≡ refused 4
-  pub junk-reach : second-answer (record { step = 2; network = two; first = 3 ∷ 3 ∷ replicate 6 0; reaches = 1 ∷ replicate 47 0; spent = 0 }) (3 ∷ 3 ∷ 3 ∷ []) ≡ refused 4
-  pub junk-none : second-answer (record { step = 2; network = two; first = 3 ∷ 3 ∷ replicate 6 0; reaches = replicate 48 0; spent = 0 }) (3 ∷ 3 ∷ 3 ∷ []) ≡ full []
+  pub junk-spent : first-answer
+      (record { step = 1; network = two; first = replicate 8 0; reaches = replicate 48 0; spent = 1 })
+      (1 ∷ 2 ∷ []) 3 ≡ refused 4
+  pub junk-first : first-answer
+      (record { step = 1; network = two; first = 1 ∷ replicate 7 0; reaches = replicate 48 0; spent = 0 })
+      (1 ∷ 2 ∷ []) 3 ≡ refused 4
+  pub junk-reach : second-answer
+      (record { step = 2; network = two; first = 3 ∷ 3 ∷ replicate 6 0; reaches = 1 ∷ replicate 47 0; spent = 0 })
+      (3 ∷ 3 ∷ 3 ∷ []) ≡ refused 4
+  pub junk-none : second-answer
+      (record { step = 2; network = two; first = 3 ∷ 3 ∷ replicate 6 0; reaches = replicate 48 0; spent = 0 })
+      (3 ∷ 3 ∷ 3 ∷ []) ≡ full []
   -- a record that holds answers which leave no net unclear is left by no calls
-  pub nothing-unclear : second-answer (record { step = 2; network = two; first = 1 ∷ 2 ∷ replicate 6 0; reaches = replicate 48 0; spent = 0 }) [] ≡ refused 4
+  pub nothing-unclear : second-answer
+      (record { step = 2; network = two; first = 1 ∷ 2 ∷ replicate 6 0; reaches = replicate 48 0; spent = 0 }) []
+      ≡ refused 4

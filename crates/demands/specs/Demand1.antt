@@ -1,5 +1,5 @@
--- Demand 1: the answer to any call, on any numbers and any bytes, is either its full result or one refusal number from document
--- 01. After a refusal each lent list, table and session record still holds what it held before the call.
+-- Demand 1: the answer to any call, on any numbers and any bytes, is either its full result or one refusal number from
+-- document 01. After a refusal each lent list, table and session record still holds what it held before the call.
 use Prim.Native.Nat.{ℕ}
 use mathlib.Core.Path.{_≡_}
 use mathlib.Core.Logic.{_⊎_}
@@ -22,7 +22,9 @@ use Rattle.writer.specs.Writer.{WriterRows, file-of}
 use Rattle.demands.specs.Demand2.{ResponseProgram, DiagnosisProgram}
 use Rattle.demands.specs.FindingsCall.{FindingsProgram}
 use Rattle.demands.specs.JobFiles.{WriterProgram, ReadDone, ReaderProgram}
-use Rattle.demands.specs.SessionCalls.{Call, begin, first, second, lent, SessionProgram, History, none, waits-first, waits-second, finished-first, finished-second, accepted, LeftBy, FitsAnswers}
+use Rattle.demands.specs.SessionCalls.{Call, begin, first, second, lent, SessionProgram, History, none}
+use Rattle.demands.specs.SessionCalls.{waits-first, waits-second, finished-first, finished-second, accepted}
+use Rattle.demands.specs.SessionCalls.{LeftBy, FitsAnswers}
 use Rattle.demands.specs.Demand3.{CheckProgram, BeginRows, Written, second-words}
 use Rattle.demands.specs.SessionRecords.{WaitsFor, DriveProgram, DrivesNext}
 
@@ -85,7 +87,8 @@ AnswerRows program session call answers =
 abbrev pub SessionRows : SessionProgram → Session → Call → List (ℕ × Type 0)
 SessionRows program session (begin net list) = BeginRows net list
 SessionRows program session (first answers list) =
-    AnswerRows program session (first answers list) answers ++ (12, InSession program session (λ h. Row12 (length (second-words h answers)) (length list))) ∷ []
+    AnswerRows program session (first answers list) answers
+    ++ (12, InSession program session (λ h. Row12 (length (second-words h answers)) (length list))) ∷ []
 SessionRows program session (second answers) =
     AnswerRows program session (second answers) answers
     ++ (14, InSession program session (λ h. ¬ ((state : List ℕ) × FitsAnswers (accepted h (second answers) []) state)))
@@ -127,12 +130,20 @@ abbrev pub RefusedFill : {A : Type 0} → List A → Filled A → ℕ → Type 0
 RefusedFill lent did number = (did .returned ≡ refused number) × (did .list ≡ lent)
 
 abbrev pub FullFill : {A : Type 0} → (List A → Type 0) → List A → Filled A → Type 0
-FullFill {A} result lent did = (written : List A) × result written × (did .returned ≡ full (length written)) × FrontWritten written lent (did .list)
+FullFill {A} result lent did =
+    (written : List A) × result written × (did .returned ≡ full (length written))
+    × FrontWritten written lent (did .list)
 
 abbrev pub FullRead : (file vectors responses : List ℕ) → ReadDone → Type 0
 FullRead file vectors responses did =
     let job = content file in
-    (did .returned ≡ full (record { network = job .network; class = job .class; vectors = length (job .vectors); responses = length (job .responses) }))
+    (did .returned ≡ full (record {
+      network = job .network;
+      class = job .class;
+      vectors = length (job .vectors);
+      responses =
+          length (job .responses);
+    }))
     × FrontWritten (job .vectors) vectors (did .vectors)
     × FrontWritten (job .responses) responses (did .responses)
 
@@ -172,10 +183,12 @@ RefusedWith p (drive session one two) number = ⊥
 abbrev pub FullResult : Programs → PublicCall → Type 0
 FullResult p (check net k vectors) = (verdict : Verdict) × Rule net k vectors verdict × (p .checks net k vectors ≡ full verdict)
 FullResult p (respond net k vectors state list) = FullFill (Response net state vectors) list (p .responds net k vectors state list)
-FullResult p (diagnose net k vectors responses list) = FullFill (Fits net k vectors responses) list (p .diagnoses net k vectors responses list)
+FullResult p (diagnose net k vectors responses list) =
+    FullFill (Fits net k vectors responses) list (p .diagnoses net k vectors responses list)
 FullResult p (find net state table) = FullFill (Findings net state) table (p .finds net state table)
 FullResult p (read file vectors responses) = FullRead file vectors responses (p .reads file vectors responses)
-FullResult p (write net k vectors responses file) = FullFill (λ bytes. bytes ≡ file-of net k vectors responses) file (p .writes net k vectors responses file)
+FullResult p (write net k vectors responses file) =
+    FullFill (λ bytes. bytes ≡ file-of net k vectors responses) file (p .writes net k vectors responses file)
 FullResult p (advance session call) = FullAdvance (p .advances) session call
 FullResult p (drive session one two) = DrivesNext (p .advances) session one two (p .drives session one two)
 
@@ -187,7 +200,8 @@ FirstRow [] number = ⊥
 FirstRow ((row, holds) ∷ rows) number = (holds × (number ≡ row)) ⊎ ((¬ holds) × FirstRow rows number)
 
 abbrev pub RefusedOrFull : Programs → PublicCall → Type 0
-RefusedOrFull p call = ((number : ℕ) × FirstRow (Rows p call) number × RefusedWith p call number) ⊎ (NoneHolds (Rows p call) × FullResult p call)
+RefusedOrFull p call = ((number : ℕ) × FirstRow (Rows p call) number × RefusedWith p call number) ⊎
+    (NoneHolds (Rows p call) × FullResult p call)
 
 pub record Demand1 (p : Programs) : Type 0 where
   pub each-call : (call : PublicCall) → RefusedOrFull p call

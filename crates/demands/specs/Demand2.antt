@@ -1,7 +1,7 @@
--- Demand 2: a response worked out from a wiring state, and a wiring state read back from a response, both follow the wired-OR
--- model with floating receivers at soft 1, opens and shorts on one net included. With a passed test set, the state read back is
--- of the stated class and gives exactly that response, and, if no earlier refusal applies, "no state fits" is said exactly when
--- no state of the class gives it.
+-- Demand 2: a response worked out from a wiring state, and a wiring state read back from a response, both follow the
+-- wired-OR model with floating receivers at soft 1, opens and shorts on one net included. With a passed test set, the
+-- state read back is of the stated class and gives exactly that response, and, if no earlier refusal applies, "no state
+-- fits" is said exactly when no state of the class gives it.
 use Prim.Native.Nat.{ℕ}
 use mathlib.Core.Path.{_≡_}
 use mathlib.Core.Logic.{_↔_}
@@ -24,8 +24,8 @@ use Rattle.findings.specs.Findings.{finding}
 abbrev pub ResponseProgram : Type 0
 ResponseProgram = Network → ℕ → (vectors state lent : List ℕ) → Filled ℕ
 
--- On every input it refuses by the first row that holds and leaves the list as it was, or writes the response, word by word
--- and bit by bit, into the front of the list and keeps its tail.
+-- On every input it refuses by the first row that holds and leaves the list as it was, or writes the response, word by
+-- word and bit by bit, into the front of the list and keeps its tail.
 abbrev pub Responds : ResponseProgram → Type 0
 Responds program = (net : Network) (k : ℕ) (vectors state lent : List ℕ)
     → FillsByTable (ResponseRows net k vectors state (length lent)) (Response net state vectors) lent (program net k vectors state lent)
@@ -39,7 +39,8 @@ DiagnosisProgram = Network → ℕ → (vectors responses lent : List ℕ) → F
 -- the rows before 14
 abbrev pub EarlierRows : Network → ℕ → (vectors responses : List ℕ) → ℕ → List (ℕ × Type 0)
 EarlierRows net k vectors responses room =
-    SetRows net k vectors ++ (9, Row9 (length vectors) (length responses)) ∷ (10, HighBit net responses) ∷ (12, Row12 (net .nets) room) ∷ (13, Row13 net k vectors) ∷ []
+    SetRows net k vectors ++ (9, Row9 (length vectors) (length responses)) ∷ (10, HighBit net responses)
+    ∷ (12, Row12 (net .nets) room) ∷ (13, Row13 net k vectors) ∷ []
 
 -- what one call did
 pub record ReadsBack (net : Network) (k : ℕ) (vectors responses lent : List ℕ) (did : Filled ℕ) : Type 0 where
@@ -55,17 +56,21 @@ pub record ReadsBack (net : Network) (k : ℕ) (vectors responses lent : List �
       → (did .returned ≡ refused 14) ↔ (¬ ((state : List ℕ) × Fits net k vectors responses state))
 
 abbrev pub Diagnoses : DiagnosisProgram → Type 0
-Diagnoses program = (net : Network) (k : ℕ) (vectors responses lent : List ℕ) → ReadsBack net k vectors responses lent (program net k vectors responses lent)
+Diagnoses program = (net : Network) (k : ℕ) (vectors responses lent : List ℕ)
+    → ReadsBack net k vectors responses lent (program net k vectors responses lent)
 
 -- ---- opens and shorts on one net
 
--- A wiring state with an open and a short on one net: driver 0 is not in its own receiver's reach, and driver 1 reaches both.
+-- A wiring state with an open and a short on one net: driver 0 is not in its own receiver's reach, and driver 1 reaches
+-- both.
 pub record OpenAndShort (responds : ResponseProgram) (diagnoses : DiagnosisProgram) : Type 0 where
   pub is-state : State (record { nets = 2 }) 2 (2 ∷ 2 ∷ [])
   pub open-net : has (at (2 ∷ 2 ∷ []) 0) 0 ≡ false
   pub shorted : (has (at (2 ∷ 2 ∷ []) 0) 1 ≡ true) × (has (at (2 ∷ 2 ∷ []) 1) 1 ≡ true)
-  pub response : responds (record { nets = 2 }) 2 (0 ∷ 1 ∷ 2 ∷ []) (2 ∷ 2 ∷ []) (9 ∷ 9 ∷ 9 ∷ []) ≡ record { returned = full 3; list = 0 ∷ 0 ∷ 3 ∷ [] }
-  pub and-back : diagnoses (record { nets = 2 }) 2 (0 ∷ 1 ∷ 2 ∷ []) (0 ∷ 0 ∷ 3 ∷ []) (9 ∷ 9 ∷ []) ≡ record { returned = full 2; list = 2 ∷ 2 ∷ [] }
+  pub response : responds (record { nets = 2 }) 2 (0 ∷ 1 ∷ 2 ∷ []) (2 ∷ 2 ∷ []) (9 ∷ 9 ∷ 9 ∷ [])
+      ≡ record { returned = full 3; list = 0 ∷ 0 ∷ 3 ∷ [] }
+  pub and-back : diagnoses (record { nets = 2 }) 2 (0 ∷ 1 ∷ 2 ∷ []) (0 ∷ 0 ∷ 3 ∷ []) (9 ∷ 9 ∷ [])
+      ≡ record { returned = full 2; list = 2 ∷ 2 ∷ [] }
   pub both-found : finding (record { nets = 2 }) (2 ∷ 2 ∷ []) 0 .kind ≡ 3
 
 -- ---- demand 2, whole

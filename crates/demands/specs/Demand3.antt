@@ -16,11 +16,14 @@ use Rattle.checker.specs.Rule.{shown-state}
 use Rattle.steps.specs.FirstStep.{word-length, sequential-words, first-vectors, WordLength, SmallestWords, VectorsOfWords}
 use Rattle.steps.specs.SecondStep.{unclear, UnclearNets, second-vectors}
 use Rattle.session.specs.declared.Session.{Session}
-use Rattle.demands.specs.SessionCalls.{Call, begin, first, second, lent, SessionProgram, History, none, waits-first, waits-second, finished-first, finished-second, record-after, history, LeftBy, Awaits, FitsAnswers, OnlyFit, vectors-spent}
+use Rattle.demands.specs.SessionCalls.{Call, begin, first, second, lent, SessionProgram, History, none}
+use Rattle.demands.specs.SessionCalls.{waits-first, waits-second, finished-first, finished-second, record-after}
+use Rattle.demands.specs.SessionCalls.{history, LeftBy, Awaits, FitsAnswers, OnlyFit, vectors-spent}
 
--- ---- first half: for each class and test set that document 01 admits, the checker passes the set for that class exactly
--- when, whatever the response, at most one wiring state of the class fits it. Otherwise it shows two different states of the
--- class with equal responses.
+-- ---- first half
+-- For each class and test set that document 01 admits, the checker passes the set for that class exactly when, whatever
+-- the response, at most one wiring state of the class fits it. Otherwise it shows two different states of the class
+-- with equal responses.
 
 -- a program for the call *check*
 abbrev pub CheckProgram : Type 0
@@ -41,11 +44,12 @@ pub record Judged (net : Network) (k : ℕ) (vectors : List ℕ) (verdict : Verd
 abbrev pub Checks : CheckProgram → Type 0
 Checks program = (net : Network) (k : ℕ) (vectors : List ℕ) → ByTable (SetRows net k vectors) (Judged net k vectors) (program net k vectors)
 
--- ---- second half: every list of begins, first answers and second answers on one session record, refused ones included.
--- Each call is refused exactly where document 01's table says so. After the list, if its last accepted call finished a session
--- begun in it, exactly one state of class n fits all the answers received, and that state is the one reported. The vectors
--- spent are p if no net is unclear, and p + F + 1 if F nets are. Second answers of a state of class n that gave the first ones
--- are never refused with 14, so a state that stays the same through both steps is the one reported.
+-- ---- second half
+-- Every list of begins, first answers and second answers on one session record, refused ones included. Each call is
+-- refused exactly where document 01's table says so. After the list, if its last accepted call finished a session begun
+-- in it, exactly one state of class n fits all the answers received, and that state is the one reported. The vectors
+-- spent are p if no net is unclear, and p + F + 1 if F nets are. Second answers of a state of class n that gave the
+-- first ones are never refused with 14, so a state that stays the same through both steps is the one reported.
 
 -- row 4, where the session does not wait for the call
 abbrev pub NotAwaited : List (ℕ × Type 0)
@@ -57,7 +61,8 @@ BeginRows net list = (5, Row5 net) ∷ (12, Row12 (length (first-vectors net)) (
 abbrev pub FirstRows : History → (answers list : List ℕ) → List (ℕ × Type 0)
 FirstRows none answers list = NotAwaited
 FirstRows (waits-first net v1) answers list =
-    (9, Row9 (length v1) (length answers)) ∷ (10, HighBit net answers) ∷ (12, Row12 (length (second-vectors net answers)) (length list)) ∷ []
+    (9, Row9 (length v1) (length answers)) ∷ (10, HighBit net answers)
+    ∷ (12, Row12 (length (second-vectors net answers)) (length list)) ∷ []
 FirstRows (waits-second net v1 r1 v2) answers list = NotAwaited
 FirstRows (finished-first net v1 r1 v2) answers list = NotAwaited
 FirstRows (finished-second net v1 r1 v2 r2) answers list = NotAwaited
@@ -100,11 +105,13 @@ pub record CallByTable (program : SessionProgram) (session : Session) (call : Ca
   pub record-kept : (number : ℕ) → program session call .answer ≡ refused number → program session call .session ≡ session
   pub list-after : program session call .list ≡ lent-after (program session call .answer) (lent call)
   -- begin takes any record
-  pub begins : (net : Network) (list : List ℕ) → call ≡ begin net list → ByTable (BeginRows net list) (λ words. words ≡ first-vectors net) (program session call .answer)
+  pub begins : (net : Network) (list : List ℕ) → call ≡ begin net list
+      → ByTable (BeginRows net list) (λ words. words ≡ first-vectors net) (program session call .answer)
   -- a record that accepted calls leave: by the session it stands in
   pub in-session : (h : History) → LeftBy program h session → ByTable (CallRows h call) (Written h call) (program session call .answer)
   -- row 4's other half: no accepted calls leave such a record, waiting for this call
-  pub no-session : ¬ (IsBegin call) → ((h : History) → LeftBy program h session → ¬ (Awaits h call)) → program session call .answer ≡ refused 4
+  pub no-session : ¬ (IsBegin call) → ((h : History) → LeftBy program h session → ¬ (Awaits h call))
+      → program session call .answer ≡ refused 4
 
 -- what a finished record holds: the network, its one state and nothing in the unused entries, and the count
 pub record Reported (h : History) (net : Network) (r1 : List ℕ) (session : Session) : Type 0 where
@@ -125,15 +132,18 @@ Ended (finished-second net v1 r1 v2 r2) session = Reported (finished-second net 
 
 -- one list of calls, from one record
 pub record SessionClaim (program : SessionProgram) (start : Session) (calls : List Call) : Type 0 where
-  pub each : (before rest : List Call) (call : Call) → calls ≡ before ++ (call ∷ rest) → CallByTable program (record-after program start before) call
+  pub each : (before rest : List Call) (call : Call) → calls ≡ before ++ (call ∷ rest)
+      → CallByTable program (record-after program start before) call
   pub ended : Ended (history program start calls) (record-after program start calls)
   -- a state that gave the first answers and gives these second ones: accepted, and reported
-  pub stays : (net : Network) (v1 r1 v2 state : List ℕ) → history program start calls ≡ waits-second net v1 r1 v2 → State net (net .nets) state
+  pub stays : (net : Network) (v1 r1 v2 state : List ℕ) → history program start calls ≡ waits-second net v1 r1 v2
+      → State net (net .nets) state
       → response net state v1 ≡ r1
       → (program (record-after program start calls) (second (response net state v2)) .answer ≡ full [])
       × (take (net .nets) (program (record-after program start calls) (second (response net state v2)) .session .reaches) ≡ state)
   -- and one that leaves no net unclear is reported after step one
-  pub stays-first : (net : Network) (v1 r1 v2 state : List ℕ) → history program start calls ≡ finished-first net v1 r1 v2 → State net (net .nets) state
+  pub stays-first : (net : Network) (v1 r1 v2 state : List ℕ)
+      → history program start calls ≡ finished-first net v1 r1 v2 → State net (net .nets) state
       → response net state v1 ≡ r1 → take (net .nets) (record-after program start calls .reaches) ≡ state
 
 abbrev pub Sessions : SessionProgram → Type 0

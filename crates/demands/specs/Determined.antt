@@ -1,4 +1,5 @@
--- Document 01, "Promised by each call", 1: nothing is left open. Two programs that keep a call's promise are one program.
+-- Document 01, "Promised by each call", 1: nothing is left open. Two programs that keep a call's promise are one
+-- program.
 use Prim.Native.Nat.{ℕ}
 use mathlib.Core.Path.{_≡_}
 use mathlib.Core.List.{List}
@@ -11,7 +12,8 @@ use Rattle.session.specs.declared.Session.{Session}
 use Rattle.demands.specs.Demand2.{ResponseProgram, Responds, DiagnosisProgram, Diagnoses}
 use Rattle.demands.specs.FindingsCall.{FindingsProgram, Finds}
 use Rattle.demands.specs.JobFiles.{WriterProgram, Writes, ReaderProgram, Reads}
-use Rattle.demands.specs.SessionCalls.{Call, begin, SessionProgram, History, none, waits-first, waits-second, finished-first, finished-second, LeftBy}
+use Rattle.demands.specs.SessionCalls.{Call, begin, SessionProgram, History, none, waits-first, waits-second}
+use Rattle.demands.specs.SessionCalls.{finished-first, finished-second, LeftBy}
 use Rattle.demands.specs.Demand3.{CheckProgram, Sessions}
 use Rattle.demands.specs.SessionRecords.{DriveProgram, Drives}
 use Rattle.demands.specs.Reports.{ReportProgram, Reports}
@@ -19,7 +21,8 @@ use Rattle.demands.specs.Programs.{our-sessions}
 
 -- refused by the first row that holds, or the verdict of document 01's rule
 abbrev pub ChecksByRule : CheckProgram → Type 0
-ChecksByRule program = (net : Network) (k : ℕ) (vectors : List ℕ) → ByTable (SetRows net k vectors) (Rule net k vectors) (program net k vectors)
+ChecksByRule program = (net : Network) (k : ℕ) (vectors : List ℕ)
+    → ByTable (SetRows net k vectors) (Rule net k vectors) (program net k vectors)
 
 -- two calls that answer and write the same
 abbrev pub DidAlike : SessionProgram → SessionProgram → Session → Session → Call → Type 0
@@ -43,13 +46,17 @@ pub record SessionsDetermined (p q : SessionProgram) : Type 0 where
 pub record Determined : Type 0 where
   pub response : (p q : ResponseProgram) → Responds p → Responds q → (net : Network) (k : ℕ) (vectors state lent : List ℕ)
       → p net k vectors state lent ≡ q net k vectors state lent
-  pub check : (p q : CheckProgram) → ChecksByRule p → ChecksByRule q → (net : Network) (k : ℕ) (vectors : List ℕ) → p net k vectors ≡ q net k vectors
+  pub check : (p q : CheckProgram) → ChecksByRule p → ChecksByRule q → (net : Network) (k : ℕ) (vectors : List ℕ)
+      → p net k vectors ≡ q net k vectors
   pub diagnosis : (p q : DiagnosisProgram) → Diagnoses p → Diagnoses q → (net : Network) (k : ℕ) (vectors responses lent : List ℕ)
       → p net k vectors responses lent ≡ q net k vectors responses lent
-  pub findings : (p q : FindingsProgram) → Finds p → Finds q → (net : Network) (state : List ℕ) (lent : List Finding) → p net state lent ≡ q net state lent
+  pub findings : (p q : FindingsProgram) → Finds p → Finds q → (net : Network) (state : List ℕ) (lent : List Finding)
+      → p net state lent ≡ q net state lent
   pub session : (p q : SessionProgram) → Sessions p → Sessions q → SessionsDetermined p q
   pub writer : (p q : WriterProgram) → Writes p → Writes q → (net : Network) (k : ℕ) (vectors responses lent : List ℕ)
       → p net k vectors responses lent ≡ q net k vectors responses lent
-  pub drive : (p q : DriveProgram) → Drives our-sessions p → Drives our-sessions q → (session : Session) (one two : List ℕ) → p session one two ≡ q session one two
+  pub drive : (p q : DriveProgram) → Drives our-sessions p → Drives our-sessions q
+      → (session : Session) (one two : List ℕ) → p session one two ≡ q session one two
   pub report : (p q : ReportProgram) → Reports p → Reports q → (file : List ℕ) → p file ≡ q file
-  pub reader : (p q : ReaderProgram) → Reads p → Reads q → (file vectors responses : List ℕ) → p file vectors responses ≡ q file vectors responses
+  pub reader : (p q : ReaderProgram) → Reads p → Reads q → (file vectors responses : List ℕ)
+      → p file vectors responses ≡ q file vectors responses

@@ -105,9 +105,12 @@ pub record ReaderBounds : Type 0 where
   pub third-end-long : read (take 49 one-response) ≡ refused 2
   -- sums past 2 ^ 32; if they wrapped, the layout would be right: 34 + (2 ^ 32 - 8) would be the offset 26,
   -- 25 + (2 ^ 32 - 1) the size 24, and (2 ^ 32 - 8) + 50 the size 42
-  pub offset-wraps : read (start 3 ++ entry 1 32 2 ++ 2 ∷ 34 ∷ 0 ∷ 0 ∷ 0 ∷ 248 ∷ 255 ∷ 255 ∷ 255 ∷ entry 3 26 16 ++ 4 ∷ 4 ∷ replicate 8 0) ≡ refused 2
+  pub offset-wraps : read (start 3 ++ entry 1 32 2 ++ 2 ∷ 34 ∷ 0 ∷ 0 ∷ 0 ∷ 248 ∷ 255 ∷ 255 ∷ 255 ∷ entry 3 26 16 ++ 4
+      ∷ 4 ∷ replicate 8 0) ≡ refused 2
   pub end-wraps : read (start 2 ++ entry 1 23 2 ++ 2 ∷ 25 ∷ 0 ∷ 0 ∷ 0 ∷ 255 ∷ 255 ∷ 255 ∷ 255 ∷ 4 ∷ []) ≡ refused 2
-  pub third-end-wraps : read (start 3 ++ entry 1 32 2 ++ 2 ∷ 34 ∷ 0 ∷ 0 ∷ 0 ∷ 214 ∷ 255 ∷ 255 ∷ 255 ∷ 3 ∷ 248 ∷ 255 ∷ 255 ∷ 255 ∷ 50 ∷ 0 ∷ 0 ∷ 0 ∷ 4 ∷ 4 ∷ replicate 8 0) ≡ refused 2
+  pub third-end-wraps : read
+      (start 3 ++ entry 1 32 2 ++ 2 ∷ 34 ∷ 0 ∷ 0 ∷ 0 ∷ 214 ∷ 255 ∷ 255 ∷ 255 ∷ 3 ∷ 248 ∷ 255 ∷ 255 ∷ 255 ∷ 50 ∷ 0
+      ∷ 0 ∷ 0 ∷ 4 ∷ 4 ∷ replicate 8 0) ≡ refused 2
   -- row 3: the nets body, the vectors and the responses
   pub nets-body-1 : read (two-bodies 1 8) ≡ refused 3
   pub nets-body-2 : read (two-bodies 2 8) ≡ holds 4 4 (0 ∷ []) []

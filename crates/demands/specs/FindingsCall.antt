@@ -11,8 +11,8 @@ use Rattle.findings.specs.FindingsTable.{FindingsRows, Findings}
 abbrev pub FindingsProgram : Type 0
 FindingsProgram = Network → (state : List ℕ) → (lent : List Finding) → Filled Finding
 
--- On every input it refuses by the first row that holds and leaves the table as it was, or writes a record a net into the front of
--- the table and keeps its tail.
+-- On every input it refuses by the first row that holds and leaves the table as it was, or writes a record a net into
+-- the front of the table and keeps its tail.
 abbrev pub Finds : FindingsProgram → Type 0
 Finds program = (net : Network) (state : List ℕ) (lent : List Finding)
     → FillsByTable (FindingsRows net state (length lent)) (Findings net state) lent (program net state lent)

@@ -1,5 +1,5 @@
--- Job files: what the reader and the writer do on every input, and that, with lists long enough, the reader accepts exactly the
--- writer's files and returns their content.
+-- Job files: what the reader and the writer do on every input, and that, with lists long enough, the reader accepts
+-- exactly the writer's files and returns their content.
 use Prim.Native.Nat.{ℕ, _≤_}
 use mathlib.Core.Path.{_≡_}
 use mathlib.Core.List.{List}
@@ -19,7 +19,8 @@ WriterProgram = Network → ℕ → (vectors responses lent : List ℕ) → Fill
 
 abbrev pub Writes : WriterProgram → Type 0
 Writes program = (net : Network) (k : ℕ) (vectors responses lent : List ℕ)
-    → FillsByTable (WriterRows net k vectors responses (length lent)) (λ bytes. bytes ≡ file-of net k vectors responses) lent (program net k vectors responses lent)
+    → FillsByTable (WriterRows net k vectors responses (length lent))
+    (λ bytes. bytes ≡ file-of net k vectors responses) lent (program net k vectors responses lent)
 
 -- ---- the reader
 
@@ -32,7 +33,8 @@ pub record ReadDone : Type 0 where
 abbrev pub ReaderProgram : Type 0
 ReaderProgram = (file vectors responses : List ℕ) → ReadDone
 
--- refused by the first row that holds and both lists as they were, or the file's content in their fronts and their tails kept
+-- refused by the first row that holds and both lists as they were, or the file's content in their fronts and their
+-- tails kept
 pub record ReadByTable (file vectors responses : List ℕ) (did : ReadDone) : Type 0 where
   pub answer : Answer JobContent
   pub allowed : ByTable (ReaderRows file (length vectors) (length responses)) (λ job. job ≡ content file) answer
@@ -51,14 +53,16 @@ file-written did count = take count (did .list)
 
 pub record Exact (reader : ReaderProgram) (writer : WriterProgram) : Type 0 where
   -- a file that was written is read, with what was written
-  pub written-is-read : (net : Network) (k : ℕ) (vectors responses lent vectors-lent responses-lent : List ℕ) (count : ℕ) → writer net k vectors responses lent .returned ≡ full count
+  pub written-is-read : (net : Network) (k : ℕ) (vectors responses lent vectors-lent responses-lent : List ℕ)
+      (count : ℕ) → writer net k vectors responses lent .returned ≡ full count
       → length vectors ≤ length vectors-lent → length responses ≤ length responses-lent
       → let did = reader (file-written (writer net k vectors responses lent) count) vectors-lent responses-lent in
       (did .returned ≡ full (record { network = net; class = k; vectors = length vectors; responses = length responses }))
       × (take (length vectors) (did .vectors) ≡ vectors)
       × (take (length responses) (did .responses) ≡ responses)
   -- and a file that is read is the one that is written with what was read
-  pub read-is-written : (file vectors-lent responses-lent lent : List ℕ) (job : Job) → AllBytes file → reader file vectors-lent responses-lent .returned ≡ full job → length file ≤ length lent
+  pub read-is-written : (file vectors-lent responses-lent lent : List ℕ) (job : Job) → AllBytes file
+      → reader file vectors-lent responses-lent .returned ≡ full job → length file ≤ length lent
       → let did = reader file vectors-lent responses-lent in
       let wrote = writer (job .network) (job .class) (take (job .vectors) (did .vectors)) (take (job .responses) (did .responses)) lent in
       (wrote .returned ≡ full (length file)) × (file-written wrote (length file) ≡ file)

@@ -1,4 +1,5 @@
--- The programs that the demands are proved of: what each call's contract says that it returns, and leaves in the memory lent to it.
+-- The programs that the demands are proved of: what each call's contract says that it returns, and leaves in the memory
+-- lent to it.
 use Prim.Native.Nat.{ℕ}
 use mathlib.Core.List.{List}
 use lib.ListN.{length}
@@ -51,7 +52,12 @@ our-writer net k vectors responses lent =
 abbrev pub our-reader : ReaderProgram
 our-reader file vectors responses =
     let answer = read-answer file (length vectors) (length responses) in
-    record { returned = counted answer; vectors = lent-after (vectors-read answer) vectors; responses = lent-after (responses-read answer) responses }
+    record {
+      returned = counted answer;
+      vectors = lent-after (vectors-read answer) vectors;
+      responses =
+          lent-after (responses-read answer) responses;
+    }
 
 -- ---- the session's calls
 
@@ -65,7 +71,9 @@ abbrev pub our-new : Session → Call → Session
 our-new session (begin net list) = awaiting-first net
 our-new session (first answers list) = answered-by (session .network) answers (unclear (session .network) answers)
 our-new session (second answers) =
-    finished (session .network) (read-back (session .network) (session .network .nets) (vectors-driven session) (all-answers session answers))
+    finished (session .network)
+    (read-back (session .network) (session .network .nets) (vectors-driven session)
+    (all-answers session answers))
     (length (vectors-driven session))
 
 abbrev pub our-sessions : SessionProgram

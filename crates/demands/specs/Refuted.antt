@@ -67,7 +67,8 @@ says-14 net k vectors responses lent = record { returned = refused 14; list = le
 
 -- a right answer, and the list left as lent
 abbrev pub reads-nothing-back : DiagnosisProgram
-reads-nothing-back net k vectors responses lent = record { returned = count-of (diagnosis-answer net k vectors responses (length lent)); list = lent }
+reads-nothing-back net k vectors responses lent =
+    record { returned = count-of (diagnosis-answer net k vectors responses (length lent)); list = lent }
 
 -- reaches that meet and differ are accepted
 abbrev pub accepts-conflicts : DiagnosisProgram
@@ -180,7 +181,12 @@ ours-but reader sessions = record {
 abbrev pub clears-vectors : ReaderProgram
 clears-vectors file vectors responses =
     let answer = read-answer file (length vectors) (length responses) in
-    record { returned = counted answer; vectors = clears-list 0 (vectors-read answer) vectors; responses = lent-after (responses-read answer) responses }
+    record {
+      returned = counted answer;
+      vectors = clears-list 0 (vectors-read answer) vectors;
+      responses =
+          lent-after (responses-read answer) responses;
+    }
 
 -- a refused call puts the record back to step one
 abbrev pub starts-again : SessionProgram

@@ -1,5 +1,5 @@
--- The report: what it says of a file, whatever its bytes. It is one of four shapes: `refused N` alone; line one alone; line one and a
--- line a net; line one and `refused 13` or `refused 14`.
+-- The report: what it says of a file, whatever its bytes. It is one of four shapes: `refused N` alone; line one alone;
+-- line one and a line a net; line one and `refused 13` or `refused 14`.
 use Prim.Native.Nat.{ℕ}
 use mathlib.Core.Path.{_≡_}
 use mathlib.Core.Logic.{_⊎_, _≢_}
@@ -22,10 +22,12 @@ ReportProgram = List ℕ → List ℕ
 pub data Follows (job : JobContent) : List ℕ → Type 0 where
   nothing : job .responses ≡ [] → Follows job []
   not-passed : job .responses ≢ [] → Row13 (job .network) (job .class) (job .vectors) → Follows job (refused-line 13)
-  no-state : job .responses ≢ [] → ¬ (Row13 (job .network) (job .class) (job .vectors)) → Row14 (job .network) (job .class) (job .vectors) (job .responses)
+  no-state : job .responses ≢ [] → ¬ (Row13 (job .network) (job .class) (job .vectors))
+      → Row14 (job .network) (job .class) (job .vectors) (job .responses)
       → Follows job (refused-line 14)
   a-line-a-net : job .responses ≢ [] → ¬ (Row13 (job .network) (job .class) (job .vectors)) → (state : List ℕ)
-      → Fits (job .network) (job .class) (job .vectors) (job .responses) state → Follows job (net-lines (job .network) state 0 (job .network .nets))
+      → Fits (job .network) (job .class) (job .vectors) (job .responses) state
+      → Follows job (net-lines (job .network) state 0 (job .network .nets))
 
 -- line one, with the verdict of the checker's rule, and what follows it
 pub record LineOne (job : JobContent) (text : List ℕ) : Type 0 where
@@ -35,11 +37,12 @@ pub record LineOne (job : JobContent) (text : List ℕ) : Type 0 where
   pub follows : Follows job rest
   pub whole : text ≡ verdict-line (job .network) (job .class) (length (job .vectors)) verdict ++ rest
 
--- the reader's refusal alone, by the first of its rows that holds; or, if none holds, line one of the file's content. 64 words are enough for
--- either list, so row 12 never holds here.
+-- the reader's refusal alone, by the first of its rows that holds; or, if none holds, line one of the file's content.
+-- 64 words are enough for either list, so row 12 never holds here.
 abbrev pub Says : (file text : List ℕ) → Type 0
 Says file text =
-    ((number : ℕ) × FirstRow (ReaderRows file 64 64) number × (text ≡ refused-line number)) ⊎ (NoneHolds (ReaderRows file 64 64) × LineOne (content file) text)
+    ((number : ℕ) × FirstRow (ReaderRows file 64 64) number × (text ≡ refused-line number)) ⊎
+    (NoneHolds (ReaderRows file 64 64) × LineOne (content file) text)
 
 abbrev pub Reports : ReportProgram → Type 0
 Reports program = (file : List ℕ) → Says file (program file)

@@ -36,7 +36,8 @@ SessionProgram = Session → Call → Did
 
 -- ---- a session, by the calls
 
--- With the vectors that begin wrote (v1), the first answers (r1), the vectors that first answers wrote (v2), the second answers (r2).
+-- With the vectors that begin wrote (v1), the first answers (r1), the vectors that first answers wrote (v2), the second
+-- answers (r2).
 pub data History : Type 0 where
   none : History
   waits-first : (net : Network) (v1 : List ℕ) → History
@@ -79,7 +80,8 @@ record-after program start (call ∷ calls) = record-after program (program star
 
 abbrev pub history-from : SessionProgram → History → Session → List Call → History
 history-from program h start [] = h
-history-from program h start (call ∷ calls) = history-from program (extended h call (program start call)) (program start call .session) calls
+history-from program h start (call ∷ calls) =
+    history-from program (extended h call (program start call)) (program start call .session) calls
 
 -- the session that the list of calls began last, or none
 abbrev pub history : SessionProgram → Session → List Call → History
@@ -106,7 +108,8 @@ FitsAnswers none state = ⊥
 FitsAnswers (waits-first net v1) state = State net (net .nets) state
 FitsAnswers (waits-second net v1 r1 v2) state = State net (net .nets) state × (response net state v1 ≡ r1)
 FitsAnswers (finished-first net v1 r1 v2) state = State net (net .nets) state × (response net state v1 ≡ r1)
-FitsAnswers (finished-second net v1 r1 v2 r2) state = State net (net .nets) state × (response net state v1 ≡ r1) × (response net state v2 ≡ r2)
+FitsAnswers (finished-second net v1 r1 v2 r2) state =
+    State net (net .nets) state × (response net state v1 ≡ r1) × (response net state v2 ≡ r2)
 
 pub record OnlyFit (h : History) (state : List ℕ) : Type 0 where
   pub fits : FitsAnswers h state

@@ -1,4 +1,5 @@
--- Beside demand 3: the test of a record is exactly row 4's, and the part to drive goes by the session that leaves the record.
+-- Beside demand 3: the test of a record is exactly row 4's, and the part to drive goes by the session that leaves the
+-- record.
 use Prim.Native.Nat.{ℕ, _≤_, _<_}
 use mathlib.Core.Path.{_≡_}
 use mathlib.Core.Logic.{_⊎_, _↔_}
@@ -15,7 +16,8 @@ WaitsFor program session call = (h : History) × LeftBy program h session × Awa
 
 -- tests of a record that hold exactly where row 4 does not
 pub record RowFour (program : SessionProgram) (first-test second-test : Session → Bool) : Type 0 where
-  pub first-answers : (session : Session) (answers list : List ℕ) → (first-test session ≡ true) ↔ WaitsFor program session (first answers list)
+  pub first-answers : (session : Session) (answers list : List ℕ)
+      → (first-test session ≡ true) ↔ WaitsFor program session (first answers list)
   pub second-answers : (session : Session) (answers : List ℕ) → (second-test session ≡ true) ↔ WaitsFor program session (second answers)
 
 -- this many words from the start of a list; none if it is shorter

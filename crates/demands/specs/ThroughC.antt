@@ -1,4 +1,5 @@
--- The session's calls through the C interface, one after the other: what they do to 59 words is what they do to the record that the words are.
+-- The session's calls through the C interface, one after the other: what they do to 59 words is what they do to the
+-- record that the words are.
 use Prim.Native.Nat.{ℕ}
 use mathlib.Core.Path.{_≡_}
 use mathlib.Core.Bool.{cond}
@@ -14,7 +15,8 @@ use Rattle.exports.specs.Exported.{code, fixed-after, session-begun, session-fi
 use Rattle.demands.specs.SessionCalls.{Call, begin, first, second, lent, record-after}
 use Rattle.demands.specs.Programs.{our-sessions, our-drive}
 
--- what one exported call did: the number that it returned, the list lent for vectors after it, the session's words after it
+-- what one exported call did: the number that it returned, the list lent for vectors after it, the session's words
+-- after it
 pub record DidInWords : Type 0 where
   pub returned : ℕ
   pub list : List ℕ
@@ -43,18 +45,24 @@ abbrev pub words-after : List ℕ → List Call → List ℕ
 words-after words [] = words
 words-after words (call ∷ calls) = words-after (exported words call .session) calls
 
--- After a list of calls they are 59 words still, and the record that they are is the one that the calls leave. A further call returns and writes what it does
--- on that record, and returns 0 only if it is accepted there. The part to drive begins the first list if the first word is 1, else the second.
+-- After a list of calls they are 59 words still, and the record that they are is the one that the calls leave. A
+-- further call returns and writes what it does on that record, and returns 0 only if it is accepted there. The part to
+-- drive begins the first list if the first word is 1, else the second.
 pub record SameInWords (words : List ℕ) (start : Session) (calls : List Call) : Type 0 where
   pub size : length (words-after words calls) ≡ session-size
   pub session : session-of (words-after words calls) ≡ record-after our-sessions start calls
-  pub returned : (call : Call) → exported (words-after words calls) call .returned ≡ code (our-sessions (record-after our-sessions start calls) call .answer)
+  pub returned : (call : Call)
+      → exported (words-after words calls) call .returned
+      ≡ code (our-sessions (record-after our-sessions start calls) call .answer)
   pub accepted : (call : Call) → exported (words-after words calls) call .returned ≡ 0
       → (written : List ℕ) × (our-sessions (record-after our-sessions start calls) call .answer ≡ full written)
   pub list : (call : Call) → exported (words-after words calls) call .list ≡ our-sessions (record-after our-sessions start calls) call .list
-  pub drive-size : (one two : List ℕ) → drive-count (words-after words calls) one two ≡ length (our-drive (record-after our-sessions start calls) one two)
+  pub drive-size : (one two : List ℕ)
+      → drive-count (words-after words calls) one two
+      ≡ length (our-drive (record-after our-sessions start calls) one two)
   pub drive : (one two : List ℕ)
-      → take (drive-count (words-after words calls) one two) (cond (eqb (at (words-after words calls) 0) 1) one two) ≡ our-drive (record-after our-sessions start calls) one two
+      → take (drive-count (words-after words calls) one two) (cond (eqb (at (words-after words calls) 0) 1) one two)
+      ≡ our-drive (record-after our-sessions start calls) one two
 
 -- from any 59 words, over every list of calls
 abbrev pub SessionsThroughC : Type 0

@@ -34,7 +34,12 @@ module _ (net : Network) (k : ℕ) (vectors : List ℕ) where
       go (Pair a b) r q = absurd (true≢false q)
 
   decides-row-13 : Decides (not-passed (verdict net k vectors)) (Row13 net k vectors)
-  decides-row-13 = (λ e r. go (verdict net k vectors) (rule-determined net k vectors (verdict net k vectors) Pass (verdict-rule net k vectors) r) e, λ e n. n (passes-rule e))
+  decides-row-13 = (
+    λ e r. go (verdict net k vectors)
+        (rule-determined net k vectors (verdict net k vectors) Pass (verdict-rule net k vectors) r) e,
+    λ e n. n
+        (passes-rule e),
+  )
     where
       go : (v : Verdict) → v ≡ Pass → not-passed v ≡ true → ⊥
       go Pass q e = false≢true e
@@ -72,13 +77,16 @@ module _ (net : Network) (k : ℕ) (vectors responses : List ℕ) (room : ℕ) w
 
   decides-rows : Decided (DiagnosisRows net k vectors responses room) (set-tests net k vectors ++ own-tests net k vectors responses room)
   decides-rows =
-      decided-append (SetRows net k vectors) (OwnRows net k vectors responses room) (set-tests net k vectors) (own-tests net k vectors responses room)
+      decided-append (SetRows net k vectors) (OwnRows net k vectors responses room) (set-tests net k vectors)
+      (own-tests net k vectors responses room)
       (decides-set net k vectors) decides-own
 
-  pub diagnosis-by-table : ByTable (DiagnosisRows net k vectors responses room) (Fits net k vectors responses) (diagnosis-answer net k vectors responses room)
+  pub diagnosis-by-table : ByTable (DiagnosisRows net k vectors responses room) (Fits net k vectors responses)
+      (diagnosis-answer net k vectors responses room)
   unfolding diagnosis-answer
   diagnosis-by-table =
-      tests-by-table (Fits net k vectors responses) (DiagnosisRows net k vectors responses room) (set-tests net k vectors ++ own-tests net k vectors responses room)
+      tests-by-table (Fits net k vectors responses) (DiagnosisRows net k vectors responses room)
+      (set-tests net k vectors ++ own-tests net k vectors responses room)
       (read-back net k vectors responses) decides-rows result
     where
       result : NoneHolds (DiagnosisRows net k vectors responses room) → Fits net k vectors responses (read-back net k vectors responses)
@@ -95,6 +103,9 @@ module _ (net : Network) (k : ℕ) (vectors responses : List ℕ) (room : ℕ) w
       table-determined (Fits net k vectors responses) (DiagnosisRows net k vectors responses room) a b
       (λ none s u p q. one none s u p q)
     where
-      one : NoneHolds (DiagnosisRows net k vectors responses room) → (s u : List ℕ) → Fits net k vectors responses s → Fits net k vectors responses u → s ≡ u
+      one : NoneHolds (DiagnosisRows net k vectors responses room) → (s u : List ℕ) → Fits net k vectors responses s
+          → Fits net k vectors responses u → s ≡ u
       one (a, (b, (c, (d, (nine, (ten, (twelve, (thirteen, (fourteen, _))))))))) s u p q =
-          apart-one-fits net k vectors (passed-apart net k vectors (admitted-set net k vectors (a, (b, (c, (d, tt))))) thirteen) responses s u p q
+          apart-one-fits net k vectors
+          (passed-apart net k vectors
+          (admitted-set net k vectors (a, (b, (c, (d, tt))))) thirteen) responses s u p q

@@ -24,7 +24,8 @@ use Rattle.diagnosis.specs.ReadBack.{OnlyAnswer}
 use Rattle.diagnosis.specs.Walking.{Gathered, Walked}
 
 -- the trailing zeros of a walking vector are its net
-pub walking-names : (net : Network) (vector i : ℕ) → net .nets ≤ 48 → i < net .nets → vector ≡ walking-vector net i → trailingZeros 64 vector ≡ i
+pub walking-names : (net : Network) (vector i : ℕ) → net .nets ≤ 48 → i < net .nets → vector ≡ walking-vector net i
+    → trailingZeros 64 vector ≡ i
 unfolding walking-vector
 walking-names net vector i most l e = ap (trailingZeros 64) e ∙ trailing-of-power 64 i (omega arith)
 
@@ -35,11 +36,16 @@ Names net vector set = (set < 2 ^ (net .nets)) × ((i : ℕ) → i < net .nets �
 pub names-none : (net : Network) (vector : ℕ) → ((i : ℕ) → i < net .nets → vector ≢ walking-vector net i) → Names net vector 0
 names-none net vector h = (pow-pos (net .nets), λ i l. (λ e. contrary e (has-zero i), λ e. absurd (h i l e)))
 
-pub names-one : (net : Network) (vector j : ℕ) → net .nets ≤ 48 → j < net .nets → trailingZeros 64 vector ≡ j → vector ≡ walking-vector net j → 2 ^ j < 2 ^ (net .nets)
+pub names-one : (net : Network) (vector j : ℕ) → net .nets ≤ 48 → j < net .nets → trailingZeros 64 vector ≡ j
+    → vector ≡ walking-vector net j → 2 ^ j < 2 ^ (net .nets)
     → Names net vector (2 ^ j)
 names-one net vector j most l name e inside = (
   inside,
-  λ i m. (λ h. e ∙ ap (walking-vector net) (has-only j i h), λ q. ap (λ (x : ℕ). has (2 ^ x) i) (sym name ∙ walking-names net vector i most m q) ∙ has-own i),
+  λ i m. (
+    λ h. e ∙ ap (walking-vector net) (has-only j i h),
+    λ q. ap (λ (x : ℕ). has (2 ^ x) i)
+        (sym name ∙ walking-names net vector i most m q) ∙ has-own i,
+  ),
 )
 
 module _ (net : Network) (vectors : List ℕ) (answered : ℕ) where
@@ -55,7 +61,8 @@ module _ (net : Network) (vectors : List ℕ) (answered : ℕ) where
   last-or-before : (u t : ℕ) → u < t + 1 → (u < t) ⊎ (u ≡ t)
   last-or-before u t l = ⊎-elim inl (λ m. inr (omega arith)) (less-or-not u t)
 
-  pub gathered-skip : (t reach : ℕ) → Gathered net vectors answered t reach → has answered t ≡ false → Gathered net vectors answered (t + 1) reach
+  pub gathered-skip : (t reach : ℕ) → Gathered net vectors answered t reach → has answered t ≡ false
+      → Gathered net vectors answered (t + 1) reach
   gathered-skip t reach g off = record {
     inside = g .inside;
     driven = λ u l e. ⊎-elim (λ m. g .driven u m e) (λ q. contrary e (ap (has answered) q ∙ off)) (last-or-before u t l);
@@ -98,15 +105,19 @@ module _ (net : Network) (vectors : List ℕ) (answered : ℕ) where
         driven : set ≢ 0
         driven e =
             g .driven (extra .0) (extra .1)
-            (sym (answer-at set reads-so (extra .0) (extra .1)) ∙ ap (λ (x : ℕ). reads net x (at vectors (extra .0))) e ∙ reads-floating net (at vectors (extra .0))) (extra .2)
+            (sym (answer-at set reads-so (extra .0) (extra .1)) ∙ ap (λ (x : ℕ). reads net x (at vectors (extra .0))) e
+            ∙ reads-floating net (at vectors (extra .0))) (extra .2)
 
         at-walking : (j u : ℕ) → j < net .nets → u < length vectors → at vectors u ≡ walking-vector net j → has answered u ≡ has set j
         at-walking j u l m w = sym (answer-at set reads-so u m) ∙ ap (reads net set) w ∙ reads-walking net set j l driven
 
-        to : (j : ℕ) → j < net .nets → has set j ≡ true → (t : ℕ) × (t < length vectors) × (at vectors t ≡ walking-vector net j) → has reach j ≡ true
+        to : (j : ℕ) → j < net .nets → has set j ≡ true
+            → (t : ℕ) × (t < length vectors) × (at vectors t ≡ walking-vector net j) → has reach j ≡ true
         to j l e (t, m, w) = g .complete j t l m w (at-walking j t l m w ∙ e)
 
-        back : (j : ℕ) → j < net .nets → (u : ℕ) × (u < length vectors) × (at vectors u ≡ walking-vector net j) × (has answered u ≡ true) → has set j ≡ true
+        back : (j : ℕ) → j < net .nets
+            → (u : ℕ) × (u < length vectors) × (at vectors u ≡ walking-vector net j) × (has answered u ≡ true)
+            → has set j ≡ true
         back j l (u, m, w, e) = sym (at-walking j u l m w) ∙ e
 
     pub walked-is : Walked net vectors answered reach → set ≡ reach

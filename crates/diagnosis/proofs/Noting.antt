@@ -37,23 +37,33 @@ module _ (net : Network) (k : ℕ) (vectors answers : List ℕ) where
   unfolding ones
   noted-first reaches = record { of-class = zero-le; only = λ i z l m. absurd (not-suc-le-zero m) }
 
-  pub noted-next : (reaches later : List ℕ) (set next : ℕ) → SetsApart net k vectors → NotedBelow net k vectors answers reaches set → set < 2 ^ (net .nets)
-      → Next k set next → ((i : ℕ) → i < 48 → at later i ≡ cond (eqb (at answers i) (sequential-response net vectors set)) set (at reaches i))
+  pub noted-next : (reaches later : List ℕ) (set next : ℕ) → SetsApart net k vectors
+      → NotedBelow net k vectors answers reaches set → set < 2 ^ (net .nets)
+      → Next k set next → ((i : ℕ) → i < 48
+      → at later i ≡ cond (eqb (at answers i) (sequential-response net vectors set)) set (at reaches i))
       → NotedBelow net k vectors answers later next
-  noted-next reaches later set next apart g inside n stored = record { of-class = n .few; only = λ i z l m d e. go i z l m d e (eqb (at answers i) (sequential-response net vectors set)) refl }
+  noted-next reaches later set next apart g inside n stored =
+      record {
+        of-class = n .few;
+        only =
+            λ i z l m d e. go i z l m d e (eqb (at answers i) (sequential-response net vectors set)) refl;
+      }
     where
       own : DriverSet net k set
       own = record { inside = inside; few = rw (ones-counted (net .nets) set inside) (g .of-class) }
 
       not-between : (z : ℕ) → set < z → z < next → DriverSet net k z → ⊥
-      not-between z up m d = let many = n .smallest z up m in let same = ones-counted (net .nets) z (d .inside) in let few = d .few in omega arith
+      not-between z up m d = let many = n .smallest z up m in let same = ones-counted (net .nets) z (d .inside) in
+          let few = d .few in omega arith
 
       go : (i z : ℕ) → i < 48 → z < next → DriverSet net k z → sequential-response net vectors z ≡ at answers i → (t : Bool)
           → eqb (at answers i) (sequential-response net vectors set) ≡ t → z ≡ at later i
       go i z l m d e true q =
           let hit : at later i ≡ set = stored i l ∙ ap (λ (b : Bool). cond b set (at reaches i)) q in
           apart z set d own (sequential-alike net vectors z set (e ∙ eqb-true _ _ q)) ∙ sym hit
-      go i z l m d e false q = ⊎-elim (λ b. g .only i z l b d e ∙ sym miss) (⊎-elim (λ f. absurd (eqb-false _ _ q (sym e ∙ ap (sequential-response net vectors) f))) (λ up. absurd (not-between z up m d))) (three-ways z set)
+      go i z l m d e false q = ⊎-elim (λ b. g .only i z l b d e ∙ sym miss)
+          (⊎-elim (λ f. absurd (eqb-false _ _ q (sym e ∙ ap (sequential-response net vectors) f)))
+          (λ up. absurd (not-between z up m d))) (three-ways z set)
         where
           miss : at later i ≡ at reaches i
           miss = stored i l ∙ ap (λ (b : Bool). cond b set (at reaches i)) q

@@ -35,7 +35,8 @@ module _ (net : Network) (vectors responses : List ℕ) (size : length responses
   answers-so : (set i : ℕ) → ((t : ℕ) → t < length vectors → reads net set (at vectors t) ≡ has (at responses t) i)
       → sequential-response net vectors set ≡ column responses i
   answers-so set i h =
-      words-equal (length vectors) (sequential-response net vectors set) (column responses i) (sequential-below net vectors set) (rw size at (column-below responses i))
+      words-equal (length vectors) (sequential-response net vectors set) (column responses i)
+      (sequential-below net vectors set) (rw size at (column-below responses i))
       (λ t l. has-sequential net vectors set t l ∙ h t l ∙ sym (has-column responses i t (rw size l)))
 
   answered-so : (set i : ℕ) → sequential-response net vectors set ≡ column responses i → (t : ℕ) → t < length vectors
@@ -51,13 +52,16 @@ module _ (net : Network) (vectors responses : List ℕ) (size : length responses
       bit t l =
           let b = response-is net state vectors .bits t i l m in
           let d = decides-reads net (at state i) (at vectors t) in
-          let same : has (at (response net state vectors) t) i ≡ has (at responses t) i = ap (λ (ws : List ℕ). has (at ws t) i) (h .gives) in
+          let same : has (at (response net state vectors) t) i ≡ has (at responses t) i =
+          ap (λ (ws : List ℕ). has (at ws t) i) (h .gives) in
           ⊎-elim (λ e. e ∙ sym (sym same ∙ b .1 (d .0 e)))
-          (λ e. e ∙ sym (⊎-elim (λ f. absurd (d .1 e (b .0 (same ∙ f)))) (λ f. f) (cases (has (at responses t) i)))) (cases (reads net (at state i) (at vectors t)))
+          (λ e. e ∙ sym (⊎-elim (λ f. absurd (d .1 e (b .0 (same ∙ f)))) (λ f. f) (cases (has (at responses t) i))))
+          (cases (reads net (at state i) (at vectors t)))
 
   -- and a state whose reaches answer so gives the response
   pub answers-fit : (k : ℕ) (state : List ℕ) → State net k state → ((t : ℕ) → t < length responses → at responses t < 2 ^ (net .nets))
-      → ((i : ℕ) → i < length state → sequential-response net vectors (at state i) ≡ column responses i) → Fits net k vectors responses state
+      → ((i : ℕ) → i < length state → sequential-response net vectors (at state i) ≡ column responses i)
+      → Fits net k vectors responses state
   answers-fit k state s narrow h = record {
     of-class = s;
     gives = response-determined net state vectors (response net state vectors) responses (response-is net state vectors)
@@ -118,8 +122,10 @@ module _ (net : Network) (k : ℕ) (vectors responses : List ℕ) where
       })
       narrow (λ i l. ap (sequential-response net vectors) (read-at i (below i l)) ∙ each i (below i l) .1)
     where
-      parts : (any (net .nets) (λ i. not (is-found (reach-read net k vectors (column responses i)))) ≡ false) × (has-conflict net (read-back net k vectors responses) ≡ false)
-      parts = neither (any (net .nets) (λ i. not (is-found (reach-read net k vectors (column responses i))))) (has-conflict net (read-back net k vectors responses)) e
+      parts : (any (net .nets) (λ i. not (is-found (reach-read net k vectors (column responses i)))) ≡ false)
+          × (has-conflict net (read-back net k vectors responses) ≡ false)
+      parts = neither (any (net .nets) (λ i. not (is-found (reach-read net k vectors (column responses i)))))
+          (has-conflict net (read-back net k vectors responses)) e
 
       below : (i : ℕ) → i < length (read-back net k vectors responses) → i < net .nets
       below i l = rw read-size at l
@@ -127,7 +133,9 @@ module _ (net : Network) (k : ℕ) (vectors responses : List ℕ) where
       each : (i : ℕ) → i < net .nets
           → DriverSet net k (or-zero (reach-read net k vectors (column responses i)))
           × (sequential-response net vectors (or-zero (reach-read net k vectors (column responses i))) ≡ column responses i)
-      each i l = explained i (not-false _ (any-false (λ j. not (is-found (reach-read net k vectors (column responses j)))) (net .nets) i l (parts .0)))
+      each i l = explained i (not-false _
+          (any-false (λ j. not (is-found (reach-read net k vectors (column responses j)))) (net .nets) i l
+          (parts .0)))
 
   -- a state that fits is what is read back, if each of its reaches is the smallest set that reads so
   pub smallest-read-back : length responses ≡ length vectors → (state : List ℕ) → Fits net k vectors responses state
@@ -152,7 +160,8 @@ module _ (net : Network) (k : ℕ) (vectors responses : List ℕ) where
               let d : DriverSet net k set = record { inside = y; few = few-drivers-at net k set (and-left (few-drivers net k set) _ z) } in
               let alike : ReadAlike net vectors set (at state i) =
               sequential-alike net vectors set (at state i)
-              (eqb-true _ _ (and-right (few-drivers net k set) _ z) ∙ sym (fits-answers net vectors responses size k state h i (inside i l))) in
+              (eqb-true _ _ (and-right (few-drivers net k set) _ z)
+              ∙ sym (fits-answers net vectors responses size k state h i (inside i l))) in
               let up : at state i ≤ set = smallest i set l d alike in
               let down : at state i < set → ⊥ = λ m. contrary passes (w (at state i) zero-le m) in
               let q : set ≡ at state i = omega (arith, up, down) in ap Found q
@@ -164,7 +173,8 @@ module _ (net : Network) (k : ℕ) (vectors responses : List ℕ) where
           (λ i l. read-at i (rw read-size at l) ∙ ap or-zero (reached i (rw read-size at l)))
 
       none : any (net .nets) (λ i. not (is-found (reach-read net k vectors (column responses i)))) ≡ false
-      none = any-none (λ i. not (is-found (reach-read net k vectors (column responses i)))) (net .nets) (λ i l. ap (λ s. not (is-found s)) (reached i l))
+      none = any-none (λ i. not (is-found (reach-read net k vectors (column responses i)))) (net .nets)
+          (λ i l. ap (λ s. not (is-found s)) (reached i l))
 
       free : has-conflict net (read-back net k vectors responses) ≡ false
       free = ap (has-conflict net) same ∙ conflict-free net state (h .of-class .meet-only-if-equal)
@@ -177,7 +187,8 @@ module _ (net : Network) (k : ℕ) (vectors responses : List ℕ) where
       (λ i set l d alike. rw (apart set (at state i) d (h .of-class .reach i (rw (h .of-class .size) l)) alike) (le-refl _))
 
   -- the test decides whether some state fits
-  pub decides-no-state-fits : length responses ≡ length vectors → ((t : ℕ) → t < length responses → at responses t < 2 ^ (net .nets)) → SetsApart net k vectors
+  pub decides-no-state-fits : length responses ≡ length vectors
+      → ((t : ℕ) → t < length responses → at responses t < 2 ^ (net .nets)) → SetsApart net k vectors
       → Decides (no-state-fits net k vectors responses) (¬ ((state : List ℕ) × Fits net k vectors responses state))
   decides-no-state-fits size narrow apart = (
     λ e w. contrary e (fits-read-back size apart (w .0) (w .1) .0),
@@ -195,7 +206,8 @@ module _ (net : Network) (k : ℕ) (vectors responses : List ℕ) where
       sym (only i n (at state i) (h .of-class .reach i m) (fits-answers net vectors responses size k state h i m)))
 
   -- where the only candidate does not fit, no state does
-  pub candidate-fails : length responses ≡ length vectors → ((t : ℕ) → t < length responses → at responses t < 2 ^ (net .nets)) → (candidate : List ℕ)
+  pub candidate-fails : length responses ≡ length vectors
+      → ((t : ℕ) → t < length responses → at responses t < 2 ^ (net .nets)) → (candidate : List ℕ)
       → ((state : List ℕ) → Fits net k vectors responses state → candidate ≡ state) → ¬ (Fits net k vectors responses candidate)
       → no-state-fits net k vectors responses ≡ true
   candidate-fails size narrow candidate only no! = ⊎-elim (λ e. e) none (cases (no-state-fits net k vectors responses))

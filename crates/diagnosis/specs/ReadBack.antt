@@ -17,9 +17,11 @@ use Rattle.checker.specs.Rule.{Rule}
 
 -- the smallest set of the class that reads as a receiver answered, its sequential word (SRV) given
 unfoldable pub reach-read : Network → ℕ → List ℕ → ℕ → Search
-reach-read net k vectors answered = least (2 ^ (net .nets)) 0 (λ set. few-drivers net k set && eqb (sequential-response net vectors set) answered)
+reach-read net k vectors answered =
+    least (2 ^ (net .nets)) 0 (λ set. few-drivers net k set && eqb (sequential-response net vectors set) answered)
 
--- of each receiver the set that reads as it answered, and the empty one, 0, where there is none; bit t of its answer is its bit in response t
+-- of each receiver the set that reads as it answered, and the empty one, 0, where there is none; bit t of its answer is
+-- its bit in response t
 unfoldable pub read-back : Network → ℕ → (vectors responses : List ℕ) → List ℕ
 read-back net k vectors responses = tabulate (net .nets) (λ i. or-zero (reach-read net k vectors (column responses i)))
 

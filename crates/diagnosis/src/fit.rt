@@ -1,5 +1,6 @@
-// What each receiver answered, and whether a state gives a response. Helpers between crates: the nets are those that row 5 admits,
-// and there are at most 64 responses; a state is one of the network's, and the vectors are as many as the responses.
+// What each receiver answered, and whether a state gives a response. Helpers between crates: the nets are those that
+// row 5 admits, and there are at most 64 responses; a state is one of the network's, and the vectors are as many as the
+// responses.
 ghost use mathlib.Core.Path.{_≡_};
 ghost use Prim.Native.Nat.{ℕ, _<_, _≤_, _^_};
 ghost use lib.ListN.{length};
@@ -27,7 +28,8 @@ pub fn answers_of(net: Network, responses: &[u64]) -> [u64; 48]
 
 // The state's response compared with the whole response.
 pub fn gives_response(net: Network, vectors: &[u64], state: &[u64], responses: &[u64]) -> bool
-    requires { ⌜ (length (now responses) ≡ length (now vectors)) × (length (now state) ≤ 64) × ((i : ℕ) → i < length (now state) → at (now state) i < 2 ^ (net .nets)) ⌝ }
+    requires { ⌜ (length (now responses) ≡ length (now vectors)) × (length (now state) ≤ 64)
+        × ((i : ℕ) → i < length (now state) → at (now state) i < 2 ^ (net .nets)) ⌝ }
     ensures { λ r. ⌜ Decides r (response net (now (state .entry)) (now (vectors .entry)) ≡ now (responses .entry)) ⌝ }
 {
     let mut t: usize = 0;

@@ -26,7 +26,9 @@ pub enum Diagnosed {
 // The only reaches that can have answered so.
 fn candidate(net: Network, class: u64, vectors: &[u64], responses: &[u64]) -> [u64; 48]
     requires { ⌜ (length (now responses) ≡ length (now vectors)) × Passed net class (now vectors) ⌝ }
-    ensures { λ r. ⌜ (length r ≡ 48) × ((i : ℕ) → i < net .nets → OnlyAnswer net class (now (vectors .entry)) (column (now (responses .entry)) i) (at r i)) ⌝ }
+    ensures { λ r. ⌜ (length r ≡ 48)
+        × ((i : ℕ) → i < net .nets
+        → OnlyAnswer net class (now (vectors .entry)) (column (now (responses .entry)) i) (at r i)) ⌝ }
 {
     let answers = fit::answers_of(net, responses);
     if class == net.nets {
@@ -43,9 +45,11 @@ fn read_back(
     responses: &[u64],
     out: &mut [u64],
 ) -> Diagnosed
-    requires { ⌜ Passed net class (now vectors) × (length (now responses) ≡ length (now vectors)) × (HighBit net (now responses) → ⊥) × (net .nets ≤ length (now out)) ⌝ }
+    requires { ⌜ Passed net class (now vectors) × (length (now responses) ≡ length (now vectors))
+        × (HighBit net (now responses) → ⊥) × (net .nets ≤ length (now out)) ⌝ }
     ensures answer { λ r. ⌜ meaning r ≡ count-of (fit-answer net class (now (vectors .entry)) (now (responses .entry))) ⌝ }
-    ensures list { λ r. ⌜ now (out .exit) ≡ lent-after (fit-answer net class (now (vectors .entry)) (now (responses .entry))) (now (out .entry)) ⌝ }
+    ensures list { λ r. ⌜ now (out .exit)
+        ≡ lent-after (fit-answer net class (now (vectors .entry)) (now (responses .entry))) (now (out .entry)) ⌝ }
 {
     let n = net.nets as usize;
     let state = candidate(net, class, vectors, responses);
@@ -59,7 +63,8 @@ fn read_back(
     Diagnosed::Wrote(net.nets)
 }
 
-// The call *diagnosis*: the state of the class that gave the response, into the front of `out`. Rows 5 to 10, 12, 13, 14.
+// The call *diagnosis*: the state of the class that gave the response, into the front of `out`. Rows 5 to 10, 12, 13,
+// 14.
 pub fn diagnose(
     net: Network,
     class: u64,
@@ -67,8 +72,12 @@ pub fn diagnose(
     responses: &[u64],
     out: &mut [u64],
 ) -> Diagnosed
-    ensures answer { λ r. ⌜ meaning r ≡ count-of (diagnosis-answer net class (now (vectors .entry)) (now (responses .entry)) (length (now (out .entry)))) ⌝ }
-    ensures list { λ r. ⌜ now (out .exit) ≡ lent-after (diagnosis-answer net class (now (vectors .entry)) (now (responses .entry)) (length (now (out .entry)))) (now (out .entry)) ⌝ }
+    ensures answer { λ r. ⌜ meaning r
+        ≡ count-of (diagnosis-answer net class (now (vectors .entry)) (now (responses .entry))
+        (length (now (out .entry)))) ⌝ }
+    ensures list { λ r. ⌜ now (out .exit)
+        ≡ lent-after (diagnosis-answer net class (now (vectors .entry)) (now (responses .entry))
+        (length (now (out .entry)))) (now (out .entry)) ⌝ }
 {
     let admission = network::refusals::admit_set(net, class, vectors);
     if let Admission::Refused(number) = admission {

@@ -1,6 +1,6 @@
-// Reading back for k = n: the extra vector tells whether a receiver floats, and the walking vectors which drivers reach it.
-// `walking_reach` needs no more than 48 nets and 64 vectors, and says what the answers show. `walking_reaches` needs a test set that is
-// passed for class n, and gives the only reaches that can have answered so.
+// Reading back for k = n: the extra vector tells whether a receiver floats, and the walking vectors which drivers reach
+// it. `walking_reach` needs no more than 48 nets and 64 vectors, and says what the answers show. `walking_reaches`
+// needs a test set that is passed for class n, and gives the only reaches that can have answered so.
 ghost use mathlib.Core.Path.{_≡_};
 ghost use mathlib.Core.Logic.{_↔_};
 ghost use mathlib.Core.Bool.{true};
@@ -53,7 +53,9 @@ pub fn walking_reach(net: Network, vectors: &[u64], answered: Stv) -> u64
 // The reach of each receiver, from its answers.
 pub fn walking_reaches(net: Network, vectors: &[u64], answers: &[u64]) -> [u64; 48]
     requires { ⌜ (length (now answers) ≡ 48) × Passed net (net .nets) (now vectors) ⌝ }
-    ensures { λ r. ⌜ (length r ≡ 48) × ((i : ℕ) → i < net .nets → OnlyAnswer net (net .nets) (now (vectors .entry)) (at (now (answers .entry)) i) (at r i)) ⌝ }
+    ensures { λ r. ⌜ (length r ≡ 48)
+        × ((i : ℕ) → i < net .nets
+        → OnlyAnswer net (net .nets) (now (vectors .entry)) (at (now (answers .entry)) i) (at r i)) ⌝ }
 {
     let n = net.nets as usize;
     let mut reaches = [0u64; 48];

@@ -35,7 +35,8 @@ module _ {A : Type 0} (a : Answer A) (x : A) (e : a ≡ full x) where
   unfolding code
   code-full = rw e
 
-  pub words-full : (words : A → List ℕ) (lent list : List ℕ) → list ≡ lent-after (full (words x)) lent → list ≡ lent-after (in-words words a) lent
+  pub words-full : (words : A → List ℕ) (lent list : List ℕ) → list ≡ lent-after (full (words x)) lent
+      → list ≡ lent-after (in-words words a) lent
   unfolding in-words
   words-full words lent list l = rw e l
 

@@ -26,7 +26,7 @@ unfoldable pub fixed-after : Answer (List ℕ) → List ℕ → List ℕ
 fixed-after (refused number) lent = lent
 fixed-after (full words) lent = words
 
--- ---- the answers that are not those of the calls as they stand
+-- ---- a table's room, a session's words, a count to drive
 
 -- the room in words, 3 a record
 abbrev pub findings-exported : ℕ → (state : List ℕ) → ℕ → Answer (List Finding)
@@ -39,7 +39,8 @@ session-begun session nets room =
 
 abbrev pub session-first : (session answers : List ℕ) → ℕ → Answer (List ℕ)
 session-first session answers room =
-    in-words (λ _. session-words (first-answered (session-of session) answers room .session)) (first-answer (session-of session) answers room)
+    in-words (λ _. session-words (first-answered (session-of session) answers room .session))
+    (first-answer (session-of session) answers room)
 
 abbrev pub session-second : (session answers : List ℕ) → Answer (List ℕ)
 session-second session answers =

@@ -11,7 +11,8 @@ ghost use Rattle.session.specs.Calls.{«begin-answer», «first-answer», «sec
 ghost use Rattle.reader.specs.Reader.{«read-answer», «vectors-read», «responses-read»};
 ghost use Rattle.writer.specs.Writer.{«write-answer»};
 ghost use Rattle.packing.specs.Packed.{«network-of», «verdict-words», «finding-words», «job-words», «size-words», «session-of»};
-ghost use Rattle.exports.specs.Exported.{code, «in-words», «fixed-after», «findings-exported», «session-begun», «session-first», «session-second», «drive-count»};
+ghost use Rattle.exports.specs.Exported.{code, «in-words», «fixed-after», «findings-exported», «session-begun»};
+ghost use Rattle.exports.specs.Exported.{«session-first», «session-second», «drive-count»};
 use checker::Checked;
 use diagnosis::Diagnosed;
 use network::Network;
@@ -28,7 +29,9 @@ pub extern "C" fn fontarelga_check(
     verdict: &mut [u64; 3],
 ) -> u64
     ensures answer { λ r. ⌜ r ≡ code (check-answer (network-of nets) class (now (vectors .entry))) ⌝ }
-    ensures verdict { λ r. ⌜ now (verdict .exit) ≡ fixed-after (in-words verdict-words (check-answer (network-of nets) class (now (vectors .entry)))) (now (verdict .entry)) ⌝ }
+    ensures verdict { λ r. ⌜ now (verdict .exit)
+        ≡ fixed-after (in-words verdict-words (check-answer (network-of nets) class (now (vectors .entry))))
+        (now (verdict .entry)) ⌝ }
 {
     match checker::check(Network { nets: nets }, class, vectors) {
         Checked::Pass => {
@@ -52,8 +55,12 @@ pub extern "C" fn fontarelga_respond(
     state: &[u64],
     response: &mut [u64],
 ) -> u64
-    ensures answer { λ r. ⌜ r ≡ code (response-answer (network-of nets) class (now (vectors .entry)) (now (state .entry)) (length (now (response .entry)))) ⌝ }
-    ensures response { λ r. ⌜ now (response .exit) ≡ lent-after (response-answer (network-of nets) class (now (vectors .entry)) (now (state .entry)) (length (now (response .entry)))) (now (response .entry)) ⌝ }
+    ensures answer { λ r. ⌜ r
+        ≡ code (response-answer (network-of nets) class (now (vectors .entry)) (now (state .entry))
+        (length (now (response .entry)))) ⌝ }
+    ensures response { λ r. ⌜ now (response .exit)
+        ≡ lent-after (response-answer (network-of nets) class (now (vectors .entry)) (now (state .entry))
+        (length (now (response .entry)))) (now (response .entry)) ⌝ }
 {
     match network::response_from_state(Network { nets: nets }, class, vectors, state, response) {
         Responded::Wrote(_) => 0,
@@ -70,8 +77,12 @@ pub extern "C" fn fontarelga_diagnose(
     responses: &[u64],
     state: &mut [u64],
 ) -> u64
-    ensures answer { λ r. ⌜ r ≡ code (diagnosis-answer (network-of nets) class (now (vectors .entry)) (now (responses .entry)) (length (now (state .entry)))) ⌝ }
-    ensures state { λ r. ⌜ now (state .exit) ≡ lent-after (diagnosis-answer (network-of nets) class (now (vectors .entry)) (now (responses .entry)) (length (now (state .entry)))) (now (state .entry)) ⌝ }
+    ensures answer { λ r. ⌜ r
+        ≡ code (diagnosis-answer (network-of nets) class (now (vectors .entry)) (now (responses .entry))
+        (length (now (state .entry)))) ⌝ }
+    ensures state { λ r. ⌜ now (state .exit)
+        ≡ lent-after (diagnosis-answer (network-of nets) class (now (vectors .entry)) (now (responses .entry))
+        (length (now (state .entry)))) (now (state .entry)) ⌝ }
 {
     match diagnosis::diagnose(Network { nets: nets }, class, vectors, responses, state) {
         Diagnosed::Wrote(_) => 0,
@@ -83,7 +94,9 @@ pub extern "C" fn fontarelga_diagnose(
 #[no_mangle]
 pub extern "C" fn fontarelga_findings(nets: u64, state: &[u64], table: &mut [u64]) -> u64
     ensures answer { λ r. ⌜ r ≡ code (findings-exported nets (now (state .entry)) (length (now (table .entry)))) ⌝ }
-    ensures table { λ r. ⌜ now (table .exit) ≡ lent-after (in-words finding-words (findings-exported nets (now (state .entry)) (length (now (table .entry))))) (now (table .entry)) ⌝ }
+    ensures table { λ r. ⌜ now (table .exit)
+        ≡ lent-after (in-words finding-words
+        (findings-exported nets (now (state .entry)) (length (now (table .entry))))) (now (table .entry)) ⌝ }
 {
     let done = findings::by_value(Network { nets: nets }, state);
     if done.code != 0 {
@@ -102,8 +115,11 @@ pub extern "C" fn fontarelga_findings(nets: u64, state: &[u64], table: &mut [u64
 #[no_mangle]
 pub extern "C" fn fontarelga_begin(session: &mut [u64; 59], nets: u64, first: &mut [u64]) -> u64
     ensures answer { λ r. ⌜ r ≡ code (begin-answer (network-of nets) (length (now (first .entry)))) ⌝ }
-    ensures session { λ r. ⌜ now (session .exit) ≡ fixed-after (session-begun (now (session .entry)) nets (length (now (first .entry)))) (now (session .entry)) ⌝ }
-    ensures first { λ r. ⌜ now (first .exit) ≡ lent-after (begin-answer (network-of nets) (length (now (first .entry)))) (now (first .entry)) ⌝ }
+    ensures session { λ r. ⌜ now (session .exit)
+        ≡ fixed-after (session-begun (now (session .entry)) nets (length (now (first .entry))))
+        (now (session .entry)) ⌝ }
+    ensures first { λ r. ⌜ now (first .exit)
+        ≡ lent-after (begin-answer (network-of nets) (length (now (first .entry)))) (now (first .entry)) ⌝ }
 {
     let held = packing::record::session_of(session);
     let done = session::by_value::begin(held, Network { nets: nets }, first);
@@ -112,16 +128,23 @@ pub extern "C" fn fontarelga_begin(session: &mut [u64; 59], nets: u64, first: &m
     done.code
 }
 
-// The call *first answers*: the vectors of step two into the front of `second`, if a net is unclear. Rows 4, 9, 10 and 12.
+// The call *first answers*: the vectors of step two into the front of `second`, if a net is unclear. Rows 4, 9, 10 and
+// 12.
 #[no_mangle]
 pub extern "C" fn fontarelga_first_answers(
     session: &mut [u64; 59],
     answers: &[u64],
     second: &mut [u64],
 ) -> u64
-    ensures answer { λ r. ⌜ r ≡ code (first-answer (session-of (now (session .entry))) (now (answers .entry)) (length (now (second .entry)))) ⌝ }
-    ensures session { λ r. ⌜ now (session .exit) ≡ fixed-after (session-first (now (session .entry)) (now (answers .entry)) (length (now (second .entry)))) (now (session .entry)) ⌝ }
-    ensures second { λ r. ⌜ now (second .exit) ≡ lent-after (first-answer (session-of (now (session .entry))) (now (answers .entry)) (length (now (second .entry)))) (now (second .entry)) ⌝ }
+    ensures answer { λ r. ⌜ r
+        ≡ code (first-answer (session-of (now (session .entry))) (now (answers .entry))
+        (length (now (second .entry)))) ⌝ }
+    ensures session { λ r. ⌜ now (session .exit)
+        ≡ fixed-after (session-first (now (session .entry)) (now (answers .entry)) (length (now (second .entry))))
+        (now (session .entry)) ⌝ }
+    ensures second { λ r. ⌜ now (second .exit)
+        ≡ lent-after (first-answer (session-of (now (session .entry))) (now (answers .entry))
+        (length (now (second .entry)))) (now (second .entry)) ⌝ }
 {
     let held = packing::record::session_of(session);
     let done = session::by_value::first_answers(held, answers, second);
@@ -134,7 +157,8 @@ pub extern "C" fn fontarelga_first_answers(
 #[no_mangle]
 pub extern "C" fn fontarelga_second_answers(session: &mut [u64; 59], answers: &[u64]) -> u64
     ensures answer { λ r. ⌜ r ≡ code (second-answer (session-of (now (session .entry))) (now (answers .entry))) ⌝ }
-    ensures session { λ r. ⌜ now (session .exit) ≡ fixed-after (session-second (now (session .entry)) (now (answers .entry))) (now (session .entry)) ⌝ }
+    ensures session { λ r. ⌜ now (session .exit)
+        ≡ fixed-after (session-second (now (session .entry)) (now (answers .entry))) (now (session .entry)) ⌝ }
 {
     let held = packing::record::session_of(session);
     let done = session::by_value::second_answers(held, answers);
@@ -157,7 +181,8 @@ pub extern "C" fn fontarelga_to_drive<'a>(
     driven.len() as u64
 }
 
-// The call *read a job file*. The job's 4 words: nets, class, number of vectors, number of responses. Rows 1, 2, 3, 5 to 10, 12.
+// The call *read a job file*. The job's 4 words: nets, class, number of vectors, number of responses. Rows 1, 2, 3, 5
+// to 10, 12.
 #[no_mangle]
 pub extern "C" fn fontarelga_read_job(
     file: &[u8],
@@ -166,9 +191,18 @@ pub extern "C" fn fontarelga_read_job(
     job: &mut [u64; 4],
 ) -> u64
     ensures answer { λ r. ⌜ r ≡ code (read-answer (now (file .entry)) (length (now (vectors .entry))) (length (now (responses .entry)))) ⌝ }
-    ensures vectors { λ r. ⌜ now (vectors .exit) ≡ lent-after (vectors-read (read-answer (now (file .entry)) (length (now (vectors .entry))) (length (now (responses .entry))))) (now (vectors .entry)) ⌝ }
-    ensures responses { λ r. ⌜ now (responses .exit) ≡ lent-after (responses-read (read-answer (now (file .entry)) (length (now (vectors .entry))) (length (now (responses .entry))))) (now (responses .entry)) ⌝ }
-    ensures job { λ r. ⌜ now (job .exit) ≡ fixed-after (in-words job-words (read-answer (now (file .entry)) (length (now (vectors .entry))) (length (now (responses .entry))))) (now (job .entry)) ⌝ }
+    ensures vectors { λ r. ⌜ now (vectors .exit)
+        ≡ lent-after (vectors-read
+        (read-answer (now (file .entry)) (length (now (vectors .entry))) (length (now (responses .entry)))))
+        (now (vectors .entry)) ⌝ }
+    ensures responses { λ r. ⌜ now (responses .exit)
+        ≡ lent-after (responses-read
+        (read-answer (now (file .entry)) (length (now (vectors .entry))) (length (now (responses .entry)))))
+        (now (responses .entry)) ⌝ }
+    ensures job { λ r. ⌜ now (job .exit)
+        ≡ fixed-after (in-words job-words
+        (read-answer (now (file .entry)) (length (now (vectors .entry))) (length (now (responses .entry)))))
+        (now (job .entry)) ⌝ }
 {
     match reader::read_job(file, vectors, responses) {
         ReadJob::Content(content) => {
@@ -184,7 +218,8 @@ pub extern "C" fn fontarelga_read_job(
     }
 }
 
-// The call *write a job file*. The size's only word: how many bytes were written. Rows 5 to 10 and 12; 9 and 10 only if there are responses.
+// The call *write a job file*. The size's only word: how many bytes were written. Rows 5 to 10 and 12; 9 and 10 only if
+// there are responses.
 #[no_mangle]
 pub extern "C" fn fontarelga_write_job(
     nets: u64,
@@ -194,9 +229,16 @@ pub extern "C" fn fontarelga_write_job(
     file: &mut [u8],
     size: &mut [u64; 1],
 ) -> u64
-    ensures answer { λ r. ⌜ r ≡ code (write-answer (network-of nets) class (now (vectors .entry)) (now (responses .entry)) (length (now (file .entry)))) ⌝ }
-    ensures file { λ r. ⌜ now (file .exit) ≡ lent-after (write-answer (network-of nets) class (now (vectors .entry)) (now (responses .entry)) (length (now (file .entry)))) (now (file .entry)) ⌝ }
-    ensures size { λ r. ⌜ now (size .exit) ≡ fixed-after (in-words size-words (write-answer (network-of nets) class (now (vectors .entry)) (now (responses .entry)) (length (now (file .entry))))) (now (size .entry)) ⌝ }
+    ensures answer { λ r. ⌜ r
+        ≡ code (write-answer (network-of nets) class (now (vectors .entry)) (now (responses .entry))
+        (length (now (file .entry)))) ⌝ }
+    ensures file { λ r. ⌜ now (file .exit)
+        ≡ lent-after (write-answer (network-of nets) class (now (vectors .entry)) (now (responses .entry))
+        (length (now (file .entry)))) (now (file .entry)) ⌝ }
+    ensures size { λ r. ⌜ now (size .exit)
+        ≡ fixed-after (in-words size-words
+        (write-answer (network-of nets) class (now (vectors .entry)) (now (responses .entry))
+        (length (now (file .entry))))) (now (size .entry)) ⌝ }
 {
     match writer::write_job(Network { nets: nets }, class, vectors, responses, file) {
         Wrote::Bytes(count) => {

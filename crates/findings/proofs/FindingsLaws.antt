@@ -11,7 +11,9 @@ use lib.Seq.{ext-getD, length-take-le, getD-take}
 use Rattle.words.specs.Answers.{Answer, refused, full, ByTable, NoneHolds, by-tests, Decided, lent-after, count-of}
 use Rattle.words.specs.Bits.{at}
 use Rattle.words.specs.Turning.{tabulate}
-use Rattle.words.proofs.Answers.{refused-not-full, tests-by-table, table-determined, table-full, table-none-holds, table-skip, let-through, none-passed, full-answer, shared-pass, front-written, counted-refused, counted-full}
+use Rattle.words.proofs.Answers.{refused-not-full, tests-by-table, table-determined, table-full, table-none-holds}
+use Rattle.words.proofs.Answers.{table-skip, let-through, none-passed, full-answer, shared-pass, front-written}
+use Rattle.words.proofs.Answers.{counted-refused, counted-full}
 use Rattle.words.proofs.Tests.{neither, test-fails}
 use Rattle.words.proofs.Making.{map-at, map-fill, map-filled}
 use Rattle.words.proofs.Columns.{length-tabulate, tabulate-at}
@@ -47,13 +49,18 @@ module _ (net : Network) (state : List ℕ) where
 
 module _ (net : Network) (state : List ℕ) (room : ℕ) where
   decides-rows : Decided (FindingsRows net state room) (findings-tests net state room)
-  decides-rows =
-      (refl, decides-row-5 net, λ _. (refl, decides-not-a-state net (net .nets) state, λ _. (refl, decides-row-12 (net .nets) room, λ _. tt)))
+  decides-rows = (
+    refl,
+    decides-row-5 net,
+    λ _.
+        (refl, decides-not-a-state net (net .nets) state, λ _. (refl, decides-row-12 (net .nets) room, λ _. tt)),
+  )
 
   pub findings-by-table : ByTable (FindingsRows net state room) (Findings net state) (findings-answer net state room)
   unfolding findings-answer
   findings-by-table =
-      tests-by-table (Findings net state) (FindingsRows net state room) (findings-tests net state room) (findings net state) decides-rows (λ _. findings-is net state)
+      tests-by-table (Findings net state) (FindingsRows net state room) (findings-tests net state room)
+      (findings net state) decides-rows (λ _. findings-is net state)
 
   pub findings-determined : (a b : Answer (List Finding)) → ByTable (FindingsRows net state room) (Findings net state) a
       → ByTable (FindingsRows net state room) (Findings net state) b → a ≡ b
@@ -72,7 +79,8 @@ module _ (net : Network) (state : List ℕ) (room : ℕ) where
   -- where no row holds, the call is accepted
   pub none-holds-accepted : NoneHolds (FindingsRows net state room) → Accepted net state room
   none-holds-accepted (five, (eleven, (twelve, _))) =
-      let result = table-skip (Findings net state) (FindingsRows net state room) [] (findings-answer net state room) (five, (eleven, (twelve, tt))) (findings-by-table net state room) in
+      let result = table-skip (Findings net state) (FindingsRows net state room) [] (findings-answer net state room)
+      (five, (eleven, (twelve, tt))) (findings-by-table net state room) in
       let is-state : State net (net .nets) state =
       test→state net (net .nets) state (test-fails (decides-not-a-state net (net .nets) state) eleven) in
       let size = is-state .size in record {
@@ -94,14 +102,18 @@ module _ (net : Network) (state : List ℕ) (room : ℕ) where
   unfolding table-meaning findings-answer
   accepted-0 said =
       let counted = counted-full (findings-answer net state room) (net .nets) (sym said) in
-      none-holds-accepted (let-through (FindingsRows net state room) (findings-tests net state room) (findings net state) (counted .0) (decides-rows net state room) (counted .1))
+      none-holds-accepted (let-through (FindingsRows net state room) (findings-tests net state room)
+      (findings net state) (counted .0) (decides-rows net state room) (counted .1))
 
   -- 0: accepted
-  pub table-accepted : (number : ℕ) → number ≡ 0 → table-meaning net number ≡ count-of (findings-answer net state room) → Accepted net state room
+  pub table-accepted : (number : ℕ) → number ≡ 0 → table-meaning net number ≡ count-of (findings-answer net state room)
+      → Accepted net state room
   table-accepted number z said = accepted-0 (subst (λ (n : ℕ). table-meaning net n ≡ count-of (findings-answer net state room)) z said)
 
   -- any other number: the refusal
-  pub table-refused : (number : ℕ) → ¬ (number ≡ 0) → table-meaning net number ≡ count-of (findings-answer net state room) → findings-answer net state room ≡ refused number
+  pub table-refused : (number : ℕ) → ¬ (number ≡ 0)
+      → table-meaning net number ≡ count-of (findings-answer net state room)
+      → findings-answer net state room ≡ refused number
   unfolding table-meaning
   table-refused zero n said = absurd (n refl)
   table-refused (suc k) n said = counted-refused (findings-answer net state room) (suc k) (sym said)
@@ -110,13 +122,15 @@ module _ (net : Network) (state : List ℕ) (room : ℕ) where
 
 module _ (net : Network) (state : List ℕ) where
   -- the records that an accepted call has written
-  pub records-written : (lent table : List Finding) → Accepted net state 48 → table ≡ lent-after (findings-answer net state 48) lent → take (net .nets) table ≡ findings net state
+  pub records-written : (lent table : List Finding) → Accepted net state 48
+      → table ≡ lent-after (findings-answer net state 48) lent → take (net .nets) table ≡ findings net state
   records-written lent table ok e =
       let size : length (findings net state) ≡ net .nets = findings-size net state ∙ ok .is-state .size in
       ap (take (net .nets)) (e ∙ ap (λ (a : Answer (List Finding)). lent-after a lent) (ok .answer))
       ∙ ap (λ (n : ℕ). take n (lent-after (full (findings net state)) lent)) (sym size) ∙ front-written (findings net state) lent
 
-  pub record-written : (lent table : List Finding) → Accepted net state 48 → table ≡ lent-after (findings-answer net state 48) lent → (i : ℕ) → i < net .nets
+  pub record-written : (lent table : List Finding) → Accepted net state 48
+      → table ≡ lent-after (findings-answer net state 48) lent → (i : ℕ) → i < net .nets
       → (other : Finding) → getD table i other ≡ finding net state i
   record-written lent table ok e i l other =
       let size = ok .is-state .size in
@@ -128,7 +142,8 @@ module _ (net : Network) (state : List ℕ) where
     pub refused-in-any-room : (number : ℕ) → findings-answer net state 48 ≡ refused number → findings-answer net state room ≡ refused number
     unfolding findings-answer by-tests
     refused-in-any-room number e =
-        go (bad-net-count net) (not-a-state net (net .nets) state) (no-room (net .nets) 48) (no-room (net .nets) room) (λ five. neither (ltb (net .nets) 2) (ltb 48 (net .nets)) five .1) e
+        go (bad-net-count net) (not-a-state net (net .nets) state) (no-room (net .nets) 48) (no-room (net .nets) room)
+        (λ five. neither (ltb (net .nets) 2) (ltb 48 (net .nets)) five .1) e
       where
         go : (five eleven over twelve : Bool) → (five ≡ false → over ≡ false)
             → cond five (refused 5) (cond eleven (refused 11) (cond over (refused 12) (full (findings net state)))) ≡ refused number
@@ -160,7 +175,8 @@ module _ (net : Network) (state : List ℕ) (table : List Finding) where
   unfolding filled
   filled-none = refl
 
-  pub filled-next : (i : ℕ) → i < length state → i < length table → set (filled net state i table) i (finding net state i) ≡ filled net state (i + 1) table
+  pub filled-next : (i : ℕ) → i < length state → i < length table
+      → set (filled net state i table) i (finding net state i) ≡ filled net state (i + 1) table
   unfolding filled
   filled-next i l m =
       let place : at (tabulate (length state) (λ j. j)) i ≡ i = tabulate-at (length state) (λ j. j) i l in
@@ -172,7 +188,8 @@ module _ (net : Network) (state : List ℕ) (table : List Finding) where
   filled-length i l m =
       let nets = tabulate (length state) (λ j. j) in
       let size : length nets ≡ length state = length-tabulate (length state) (λ j. j) in
-      let front : length (map (finding net state) (take i nets)) ≡ i = length-map (take i nets) (finding net state) ∙ length-take-le i nets (omega arith) in
+      let front : length (map (finding net state) (take i nets)) ≡ i = length-map (take i nets) (finding net state)
+      ∙ length-take-le i nets (omega arith) in
       let back : length (drop i table) ≡ length table - i = length-drop i table in
       length-append (map (finding net state) (take i nets)) (drop i table) ∙ omega arith
 

@@ -1,4 +1,5 @@
--- The partners of a net in document 01's words: the other nets whose receivers one driver reaches together with this one's.
+-- The partners of a net in document 01's words: the other nets whose receivers one driver reaches together with this
+-- one's.
 use mathlib.Core.Path.{_≡_, sym, ap, _∙_}
 use mathlib.Core.Bool.{true, not, _&&_}
 use mathlib.Core.Logic.{_≢_, _↔_}

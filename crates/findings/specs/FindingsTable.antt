@@ -31,7 +31,8 @@ findings net state = map (finding net state) (tabulate (length state) (λ i. i))
 unfoldable pub findings-answer : Network → (state : List ℕ) → ℕ → Answer (List Finding)
 findings-answer net state room = by-tests (findings-tests net state room) (findings net state)
 
--- document 01's number and values for the number returned: 0 is accepted, as many records as nets; any other number is the refusal
+-- document 01's number and values for the number returned: 0 is accepted, as many records as nets; any other number is
+-- the refusal
 unfoldable pub table-meaning : Network → ℕ → Answer ℕ
 table-meaning net zero = full (net .nets)
 table-meaning net (suc number) = refused (suc number)

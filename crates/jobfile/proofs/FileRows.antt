@@ -10,9 +10,12 @@ use lib.ListN.{length, take}
 use borrow.Author.Tests.{eqb-true, eq-eqb, ne-eqb, ltb-false, le-ltb, not-false}
 use Rattle.words.specs.Answers.{Decides}
 use Rattle.words.specs.Searching.{any}
-use Rattle.words.proofs.Tests.{cases, contrary, and-left, and-right, and-both, and-false, neither, decides-less, decides-equal, decides-not, decides-or, decides-and, test-passes, test-fails}
+use Rattle.words.proofs.Tests.{cases, contrary, and-left, and-right, and-both, and-false, neither, decides-less}
+use Rattle.words.proofs.Tests.{decides-equal, decides-not, decides-or, decides-and, test-passes, test-fails}
 use Rattle.words.proofs.Searching.{any-none, any-false, decides-any}
-use Rattle.jobfile.specs.Layout.{mark, most-bytes, entry-count, bodies-at, entry-kind, body-offset, body-length, Row1, Layout, Row2, Row3, same-bytes, bad-mark, bad-entry, bad-layout, bad-bodies}
+use Rattle.jobfile.specs.Layout.{mark, most-bytes, entry-count, bodies-at, entry-kind, body-offset, body-length}
+use Rattle.jobfile.specs.Layout.{Row1, Layout, Row2, Row3, same-bytes, bad-mark, bad-entry, bad-layout}
+use Rattle.jobfile.specs.Layout.{bad-bodies}
 
 -- ---- row 1
 
@@ -22,7 +25,8 @@ same-is [] [] e = refl
 same-is [] (y ∷ ys) e = absurd (false≢true e)
 same-is (x ∷ xs) [] e = absurd (false≢true e)
 same-is (x ∷ xs) (y ∷ ys) e =
-    ap₂ (λ (z : ℕ) (zs : List ℕ). z ∷ zs) (eqb-true x y (and-left (eqb x y) (same-bytes xs ys) e)) (same-is xs ys (and-right (eqb x y) (same-bytes xs ys) e))
+    ap₂ (λ (z : ℕ) (zs : List ℕ). z ∷ zs) (eqb-true x y (and-left (eqb x y) (same-bytes xs ys) e))
+    (same-is xs ys (and-right (eqb x y) (same-bytes xs ys) e))
 
 same-itself : (xs : List ℕ) → same-bytes xs xs ≡ true
 unfolding same-bytes
@@ -67,7 +71,8 @@ start-after file i = let back : suc i - 1 ≡ i = omega arith in rw (ne-eqb (suc
 
 -- what a file that passes the test has
 module _ (file : List ℕ) (e : bad-layout file ≡ false) where
-  layout-facts : (length file ≤ most-bytes) × ((entry-count file ≡ 2) ⊎ (entry-count file ≡ 3)) × (bodies-at (entry-count file) ≤ length file)
+  layout-facts : (length file ≤ most-bytes) × ((entry-count file ≡ 2) ⊎ (entry-count file ≡ 3))
+      × (bodies-at (entry-count file) ≤ length file)
       × ((i : ℕ) → i < entry-count file → bad-entry file i ≡ false)
   unfolding bad-layout
   layout-facts =
@@ -103,7 +108,9 @@ module _ (file : List ℕ) (e : bad-layout file ≡ false) where
       ends : (i : ℕ) → suc i ≡ entry-count file → body-offset file i + body-length file i ≡ length file
       ends i q =
           let early = entry-facts file i (layout-facts .3 i (omega arith)) .2 in
-          eqb-true _ _ (not-false _ (sym (ap (λ (b : Bool). b && not (eqb (body-offset file i + body-length file i) (length file))) (eq-eqb (suc i) (entry-count file) q)) ∙ early))
+          eqb-true _ _ (not-false _
+          (sym (ap (λ (b : Bool). b && not (eqb (body-offset file i + body-length file i) (length file)))
+          (eq-eqb (suc i) (entry-count file) q)) ∙ early))
 
 module _ (file : List ℕ) (h : Layout file) where
   entry-passes : (i : ℕ) → i < entry-count file → bad-entry file i ≡ false
@@ -152,14 +159,17 @@ module _ (file : List ℕ) (count : ℕ) (counted : count ≡ entry-count file) 
   pub table-breaks : size-breaks count ≡ true → bad-layout file ≡ true
   unfolding bad-layout
   table-breaks e =
-      three-hold (ltb most-bytes (length file)) (not (eqb (entry-count file) 2 || eqb (entry-count file) 3)) (ltb (length file) (bodies-at (entry-count file)))
+      three-hold (ltb most-bytes (length file)) (not (eqb (entry-count file) 2 || eqb (entry-count file) 3))
+      (ltb (length file) (bodies-at (entry-count file)))
       (any (entry-count file) (bad-entry file)) (ap size-breaks (sym counted) ∙ e)
 
-  pub table-stands : size-breaks count ≡ false → (bodies-at (entry-count file) ≤ length file) × (bad-layout file ≡ any (entry-count file) (bad-entry file))
+  pub table-stands : size-breaks count ≡ false
+      → (bodies-at (entry-count file) ≤ length file) × (bad-layout file ≡ any (entry-count file) (bad-entry file))
   unfolding bad-layout
   table-stands e =
       let f =
-      three-fail (ltb most-bytes (length file)) (not (eqb (entry-count file) 2 || eqb (entry-count file) 3)) (ltb (length file) (bodies-at (entry-count file)))
+      three-fail (ltb most-bytes (length file)) (not (eqb (entry-count file) 2 || eqb (entry-count file) 3))
+      (ltb (length file) (bodies-at (entry-count file)))
       (any (entry-count file) (bad-entry file)) (ap size-breaks (sym counted) ∙ e) in
       (ltb-false _ _ (f .0), f .1)
 

@@ -43,8 +43,8 @@ body-length file i = number-at file (10 + 9 * i) 4
 abbrev pub Row1 : List ℕ → Type 0
 Row1 file = take 4 file ≢ mark
 
--- A file of this layout: 2 or 3 entries, their table complete, the kinds 1, 2, 3 in order, and the bodies after it without gaps, in its
--- order, to the end of the file.
+-- A file of this layout: 2 or 3 entries, their table complete, the kinds 1, 2, 3 in order, and the bodies after it
+-- without gaps, in its order, to the end of the file.
 pub record Layout (file : List ℕ) : Type 0 where
   pub size : length file ≤ most-bytes
   pub entries : (entry-count file ≡ 2) ⊎ (entry-count file ≡ 3)

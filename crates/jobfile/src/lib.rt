@@ -1,5 +1,5 @@
-// The mark of a job file, compared for the reader and written for the writer; specs/Layout.antt has the whole layout. `put_mark` is a helper
-// between crates that asks for room.
+// The mark of a job file, compared for the reader and written for the writer; specs/Layout.antt has the whole layout.
+// `put_mark` is a helper between crates that asks for room.
 ghost use mathlib.Core.Path.{_≡_};
 ghost use Prim.Native.Nat.{_≤_};
 ghost use lib.ListN.{length};

@@ -66,7 +66,9 @@ module _ (before : List ℕ) (start : ℕ) (net : Network) (state : List ℕ) wh
               ∙ p .rest);
         }
 
-    pub nets-all : net .nets ≤ i → (end ≡ start + length (net-lines net state 0 (net .nets))) × (text ≡ written before start (net-lines net state 0 (net .nets)))
+    pub nets-all : net .nets ≤ i
+        → (end ≡ start + length (net-lines net state 0 (net .nets)))
+        × (text ≡ written before start (net-lines net state 0 (net .nets)))
     unfolding net-lines
     nets-all l =
         let none : net .nets - i ≡ 0 = omega arith in

@@ -22,7 +22,8 @@ use Rattle.findings.specs.FindingsTable.{FindingsRows}
 use Rattle.reader.specs.declared.Job.{Job}
 use Rattle.reader.specs.declared.ReadJob.{ReadJob}
 use Rattle.reader.specs.declared.ReadJob.the-variants.{Content, Refused as Stopped}
-use Rattle.reader.specs.Reader.{JobContent, content, ReaderRows, read-answer, vectors-read, responses-read, counted, meaning as read-meaning}
+use Rattle.reader.specs.Reader.{JobContent, content, ReaderRows, read-answer, vectors-read, responses-read, counted}
+use Rattle.reader.specs.Reader.{meaning as read-meaning}
 use Rattle.reader.proofs.ReaderLaws.{read-by-table}
 use Rattle.reader.proofs.ReaderAnswers.{read-counted-refused, read-counted-full}
 use Rattle.decimal.specs.Decimal.{spaced, numbers-end}
@@ -60,7 +61,8 @@ module _ (net : Network) (k : ℕ) (vectors responses lent list : List ℕ) (ans
       ap (λ (a : List ℕ). take (net .nets) a) (l ∙ ap (λ (a : Answer (List ℕ)). lent-after a lent) (found .1))
       ∙ ap (λ (n : ℕ). take n (lent-after (full state) lent)) (sym (fits .of-class .size))
       ∙ front-written state lent in
-      let is-state : State net (net .nets) (take (net .nets) list) = subst (State net (net .nets)) (sym front) (wider net k state (fits .of-class)) in
+      let is-state : State net (net .nets) (take (net .nets) list) =
+      subst (State net (net .nets)) (sym front) (wider net k state (fits .of-class)) in
       let five : ¬ (Row5 net) = table-none-holds (Fits net k vectors responses) rows state allowed .0 in
       let most : net .nets ≤ 48 = nets-admitted net five .1 in
       (found .1 ∙ ap full (sym front), (five, (λ eleven. eleven is-state, (λ twelve. omega (arith, most, twelve), tt))))
@@ -112,7 +114,8 @@ pub record ReadContent (file : List ℕ) (job : Job) (vectors responses : List �
   pub admitted : NoneHolds (SetRows (job .network) (job .class) (take (job .vectors) vectors))
   pub text : report file ≡ content-text (job .network) (job .class) (take (job .vectors) vectors) (take (job .responses) responses)
 
-pub read-refused : (file : List ℕ) (answer : ReadJob) (number : ℕ) → answer ≡ Stopped number → read-meaning answer ≡ counted (read-answer file 64 64)
+pub read-refused : (file : List ℕ) (answer : ReadJob) (number : ℕ) → answer ≡ Stopped number
+    → read-meaning answer ≡ counted (read-answer file 64 64)
     → report file ≡ refused-line number
 unfolding report
 read-refused file answer number r e = ap job-text (read-counted-refused (read-answer file 64 64) number (sym e ∙ ap read-meaning r))
@@ -124,7 +127,8 @@ module _ (file : List ℕ) where
       let by-rows : ByTable (ReaderRows file 64 64) (λ x. x ≡ content file) (full c) =
       subst (ByTable (ReaderRows file 64 64) (λ x. x ≡ content file)) e (read-by-table file 64 64) in
       let set = table-none-holds (λ x. x ≡ content file) (ReaderRows file 64 64) c by-rows .1 .1 .1 in
-      subst (λ (x : JobContent). NoneHolds (SetRows (x .network) (x .class) (x .vectors))) (sym (table-full (λ x. x ≡ content file) (ReaderRows file 64 64) c by-rows))
+      subst (λ (x : JobContent). NoneHolds (SetRows (x .network) (x .class) (x .vectors)))
+      (sym (table-full (λ x. x ≡ content file) (ReaderRows file 64 64) c by-rows))
       (set .0, (set .1 .0, (set .1 .1 .0, (set .1 .1 .1 .0, tt))))
 
   content-read : (job : Job) (c : JobContent) → read-answer file 64 64 ≡ full c
@@ -134,7 +138,8 @@ module _ (file : List ℕ) where
   content-read job c e same =
       let vectors = front-written (c .vectors) (replicate 64 0) in
       let responses = front-written (c .responses) (replicate 64 0) in
-      subst (λ (j : Job). ReadContent file j (lent-after (full (c .vectors)) (replicate 64 0)) (lent-after (full (c .responses)) (replicate 64 0))) same
+      subst (λ (j : Job). ReadContent file j (lent-after (full (c .vectors)) (replicate 64 0))
+      (lent-after (full (c .responses)) (replicate 64 0))) same
       (record {
         vectors-room = written-fits (c .vectors) (replicate 64 0);
         responses-room = written-fits (c .responses) (replicate 64 0);
@@ -148,5 +153,7 @@ pub read-content : (file : List ℕ) (answer : ReadJob) (job : Job) (vectors res
     → responses ≡ lent-after (responses-read (read-answer file 64 64)) (replicate 64 0) → ReadContent file job vectors responses
 read-content file answer job vectors responses r e v w =
     let c = read-counted-full (read-answer file 64 64) job (sym e ∙ ap read-meaning r) in
-    subst₂ (λ (a b : List ℕ). ReadContent file job a b) (sym (v ∙ ap (λ (a : Answer JobContent). lent-after (vectors-read a) (replicate 64 0)) (c .1)))
-    (sym (w ∙ ap (λ (a : Answer JobContent). lent-after (responses-read a) (replicate 64 0)) (c .1))) (content-read file job (c .0) (c .1) (c .2))
+    subst₂ (λ (a b : List ℕ). ReadContent file job a b)
+    (sym (v ∙ ap (λ (a : Answer JobContent). lent-after (vectors-read a) (replicate 64 0)) (c .1)))
+    (sym (w ∙ ap (λ (a : Answer JobContent). lent-after (responses-read a) (replicate 64 0)) (c .1)))
+    (content-read file job (c .0) (c .1) (c .2))

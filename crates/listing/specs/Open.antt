@@ -7,5 +7,6 @@ use Rattle.decimal.specs.Decimal.{digits, decimal, numbers-end}
 use Rattle.listing.specs.Report.{refused-line, verdict-line, net-line, net-lines, content-text, report}
 
 unfoldable pub open-listing : ℕ
-unfolding open-diagnosis open-findings open-reader digits decimal numbers-end refused-line verdict-line net-line net-lines content-text report
+unfolding open-diagnosis open-findings open-reader digits decimal numbers-end refused-line verdict-line net-line
+    net-lines content-text report
 open-listing = 0

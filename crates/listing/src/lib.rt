@@ -14,13 +14,15 @@ use diagnosis::Diagnosed;
 use network::Network;
 use reader::ReadJob;
 
-// A text: its bytes from the first on, this many. 4,142 bytes hold the longest report: 110 for line one, and 84 for each of 48 nets.
+// A text: its bytes from the first on, this many. 4,142 bytes hold the longest report: 110 for line one, and 84 for
+// each of 48 nets.
 pub struct Text {
     pub count: usize,
     pub bytes: [u8; 4142],
 }
 
-// What the diagnosis says, from an index on; returns the index past it. A helper: the text has room, and row 5 admits the nets.
+// What the diagnosis says, from an index on; returns the index past it. A helper: the text has room, and row 5 admits
+// the nets.
 fn put_diagnosis(
     text: &mut [u8],
     at: usize,
@@ -30,7 +32,10 @@ fn put_diagnosis(
     responses: &[u64],
 ) -> usize
     requires { ⌜ (net .nets ≤ 48) × (at + 4032 ≤ length (now text)) ⌝ }
-    ensures { λ r. ⌜ (r ≡ at + length (diagnosis-text net (diagnosis-answer net class (now (vectors .entry)) (now (responses .entry)) 48))) × (now (text .exit) ≡ written (now (text .entry)) at (diagnosis-text net (diagnosis-answer net class (now (vectors .entry)) (now (responses .entry)) 48))) ⌝ }
+    ensures { λ r. ⌜ (r ≡ at + length
+        (diagnosis-text net (diagnosis-answer net class (now (vectors .entry)) (now (responses .entry)) 48)))
+        × (now (text .exit) ≡ written (now (text .entry)) at
+        (diagnosis-text net (diagnosis-answer net class (now (vectors .entry)) (now (responses .entry)) 48))) ⌝ }
 {
     let n = net.nets as usize;
     let mut state = [0u64; 48];
@@ -41,7 +46,8 @@ fn put_diagnosis(
     }
 }
 
-// The report on the content of a job file, from the start of a text; returns the index past it. A helper: rows 5 to 8 admit the test set.
+// The report on the content of a job file, from the start of a text; returns the index past it. A helper: rows 5 to 8
+// admit the test set.
 fn put_content(
     text: &mut [u8],
     net: Network,
@@ -50,7 +56,9 @@ fn put_content(
     responses: &[u64],
 ) -> usize
     requires { ⌜ NoneHolds (SetRows net class (now vectors)) × (length (now text) ≡ 4142) ⌝ }
-    ensures { λ r. ⌜ (r ≡ length (content-text net class (now (vectors .entry)) (now (responses .entry)))) × (now (text .exit) ≡ written (now (text .entry)) 0 (content-text net class (now (vectors .entry)) (now (responses .entry)))) ⌝ }
+    ensures { λ r. ⌜ (r ≡ length (content-text net class (now (vectors .entry)) (now (responses .entry))))
+        × (now (text .exit) ≡ written (now (text .entry)) 0
+        (content-text net class (now (vectors .entry)) (now (responses .entry)))) ⌝ }
 {
     let verdict = checker::verdict_of(net, class, vectors);
     let count = vectors.len() as u64;
@@ -63,7 +71,8 @@ fn put_content(
 
 // The report on a file: its text, and zeros after it.
 pub fn report(file: &[u8]) -> Text
-    ensures { λ r. ⌜ (r .count ≡ length (report (now (file .entry)))) × (r .bytes ≡ lent-after (full (report (now (file .entry)))) (replicate 4142 0)) ⌝ }
+    ensures { λ r. ⌜ (r .count ≡ length (report (now (file .entry))))
+        × (r .bytes ≡ lent-after (full (report (now (file .entry)))) (replicate 4142 0)) ⌝ }
 {
     let mut vectors = [0u64; 64];
     let mut responses = [0u64; 64];

@@ -29,7 +29,8 @@ pub fn put_verdict(
     verdict: Verdict,
 ) -> usize
     requires { ⌜ at + 110 ≤ length (now text) ⌝ }
-    ensures { λ r. ⌜ (r ≡ at + length (verdict-line net class count verdict)) × (now (text .exit) ≡ written (now (text .entry)) at (verdict-line net class count verdict)) ⌝ }
+    ensures { λ r. ⌜ (r ≡ at + length (verdict-line net class count verdict))
+        × (now (text .exit) ≡ written (now (text .entry)) at (verdict-line net class count verdict)) ⌝ }
 {
     match verdict {
         Verdict::Pass => {
@@ -56,7 +57,8 @@ fn put_net(text: &mut [u8], at: usize, net: u64, found: Finding) -> usize
 // The lines of all nets of a state that *findings* accepts, from its table; returns the index past them.
 pub fn put_nets(text: &mut [u8], at: usize, net: Network, state: &[u64]) -> usize
     requires { ⌜ NoneHolds (FindingsRows net (now state) 48) × (at + 84 * net .nets ≤ length (now text)) ⌝ }
-    ensures { λ r. ⌜ (r ≡ at + length (net-lines net (now (state .entry)) 0 (net .nets))) × (now (text .exit) ≡ written (now (text .entry)) at (net-lines net (now (state .entry)) 0 (net .nets))) ⌝ }
+    ensures { λ r. ⌜ (r ≡ at + length (net-lines net (now (state .entry)) 0 (net .nets)))
+        × (now (text .exit) ≡ written (now (text .entry)) at (net-lines net (now (state .entry)) 0 (net .nets))) ⌝ }
 {
     let tabled = findings::by_value(net, state);
     let table = tabled.table;

@@ -20,7 +20,8 @@ use Rattle.words.proofs.Searching.{any-at, any-some, any-false}
 use Rattle.words.proofs.Bits.{words-equal, has-zero, has-power, has-not-zero, has-all, has-all-but, has-and, some-bit}
 use Rattle.words.proofs.Making.{map-at, has-made, made-below, made-equal, made-bits}
 use Rattle.network.specs.declared.Network.{Network}
-use Rattle.network.specs.Reading.{all-drivers, all-but, walking-vector, extra-vector, meets, reads, Reads1, ReadAlike, sequential-response, response-word, response, Response}
+use Rattle.network.specs.Reading.{all-drivers, all-but, walking-vector, extra-vector, meets, reads, Reads1}
+use Rattle.network.specs.Reading.{ReadAlike, sequential-response, response-word, response, Response}
 
 -- ---- driver sets and vectors by name
 
@@ -136,7 +137,8 @@ module _ (net : Network) where
           (λ q. absurd (true≢false (sym q)))
 
   -- together they tell any two sets of drivers apart
-  pub walking-apart : (a b : ℕ) → a < 2 ^ (net .nets) → b < 2 ^ (net .nets) → reads net a (extra-vector net) ≡ reads net b (extra-vector net)
+  pub walking-apart : (a b : ℕ) → a < 2 ^ (net .nets) → b < 2 ^ (net .nets)
+      → reads net a (extra-vector net) ≡ reads net b (extra-vector net)
       → ((i : ℕ) → i < net .nets → reads net a (walking-vector net i) ≡ reads net b (walking-vector net i)) → a ≡ b
   walking-apart a b la lb extra walking = go (eqb a 0) refl
     where
@@ -150,7 +152,8 @@ module _ (net : Network) where
           (λ i l. sym (reads-walking a i l (eqb-false a 0 e)) ∙ walking i l ∙ reads-walking b i l (eqb-false b 0 (sym float ∙ e)))
 
   -- on any other vector the empty set reads as all drivers do
-  pub empty-as-all : (vector : ℕ) → vector < 2 ^ (net .nets) → vector ≢ extra-vector net → reads net 0 vector ≡ reads net (all-drivers net) vector
+  pub empty-as-all : (vector : ℕ) → vector < 2 ^ (net .nets) → vector ≢ extra-vector net
+      → reads net 0 vector ≡ reads net (all-drivers net) vector
   unfolding extra-vector
   empty-as-all vector l h =
       let r = some-bit (net .nets) vector l h in
@@ -183,12 +186,15 @@ module _ (net : Network) where
           at-i : eqb i j ≡ true → has vector j ≡ false
           at-i q = ⊎-elim (λ f. absurd (h (is-walking f))) (λ f. f) (cases (has vector j))
             where
-              bit-at : has vector j ≡ true → (x : ℕ) → x < net .nets → (b : Bool) → eqb i x ≡ b → has vector x ≡ has (walking-vector net i) x
-              bit-at f x lx true p = subst (λ (y : ℕ). has vector y ≡ true) (sym (eqb-true i j q) ∙ eqb-true i x p) f ∙ sym (has-walking i x ∙ p)
+              bit-at : has vector j ≡ true → (x : ℕ) → x < net .nets → (b : Bool) → eqb i x ≡ b
+                  → has vector x ≡ has (walking-vector net i) x
+              bit-at f x lx true p = subst (λ (y : ℕ). has vector y ≡ true) (sym (eqb-true i j q) ∙ eqb-true i x p) f
+                  ∙ sym (has-walking i x ∙ p)
               bit-at f x lx false p = off x lx p ∙ sym (has-walking i x ∙ p)
 
               is-walking : has vector j ≡ true → vector ≡ walking-vector net i
-              is-walking f = words-equal (net .nets) vector (walking-vector net i) lv (walking-below i l) (λ x lx. bit-at f x lx (eqb i x) refl)
+              is-walking f = words-equal (net .nets) vector (walking-vector net i) lv (walking-below i l)
+                  (λ x lx. bit-at f x lx (eqb i x) refl)
 
       reads-nothing : (a : ℕ) → a ≢ 0 → any (net .nets) other ≡ false → reads net a vector ≡ false
       reads-nothing a nz e =
@@ -205,7 +211,8 @@ module _ (net : Network) where
 
   -- ---- sequential words, and the response by its bits
 
-  pub has-sequential : (vectors : List ℕ) (set t : ℕ) → t < length vectors → has (sequential-response net vectors set) t ≡ reads net set (at vectors t)
+  pub has-sequential : (vectors : List ℕ) (set t : ℕ) → t < length vectors
+      → has (sequential-response net vectors set) t ≡ reads net set (at vectors t)
   unfolding sequential-response
   has-sequential vectors set t l = has-made (reads net set) vectors t l
 
@@ -214,11 +221,13 @@ module _ (net : Network) where
   sequential-below vectors set = made-below (reads net set) vectors
 
   -- two sets read the same on every vector exactly where their sequential words are equal
-  pub alike-sequential : (vectors : List ℕ) (a b : ℕ) → ReadAlike net vectors a b → sequential-response net vectors a ≡ sequential-response net vectors b
+  pub alike-sequential : (vectors : List ℕ) (a b : ℕ) → ReadAlike net vectors a b
+      → sequential-response net vectors a ≡ sequential-response net vectors b
   unfolding sequential-response
   alike-sequential vectors a b h = made-equal (reads net a) vectors (reads net b) h
 
-  pub sequential-alike : (vectors : List ℕ) (a b : ℕ) → sequential-response net vectors a ≡ sequential-response net vectors b → ReadAlike net vectors a b
+  pub sequential-alike : (vectors : List ℕ) (a b : ℕ)
+      → sequential-response net vectors a ≡ sequential-response net vectors b → ReadAlike net vectors a b
   unfolding sequential-response
   sequential-alike vectors a b e = made-bits (reads net a) vectors (reads net b) e
 
@@ -226,7 +235,8 @@ module _ (net : Network) where
   unfolding response response-word
   response-is state vectors = record {
     one-a-vector = length-map vectors (response-word net state);
-    no-high-bit = λ t l. rw (at-vector t (rw (length-map vectors (response-word net state)) at l)) (made-below (λ reach. reads net reach (at vectors t)) state);
+    no-high-bit = λ t l. rw (at-vector t (rw (length-map vectors (response-word net state)) at l))
+        (made-below (λ reach. reads net reach (at vectors t)) state);
     bits = λ t i l m. both t i l m;
   }
     where
@@ -249,9 +259,11 @@ module _ (net : Network) where
   pub response-determined : (state vectors ws us : List ℕ) → Response net state vectors ws → Response net state vectors us → ws ≡ us
   response-determined state vectors ws us p q =
       ext-getD 0 ws us (p .one-a-vector ∙ sym (q .one-a-vector))
-      (λ t l. words-equal (length state) (at ws t) (at us t) (p .no-high-bit t l) (q .no-high-bit t (rw (p .one-a-vector ∙ sym (q .one-a-vector)) at l))
+      (λ t l. words-equal (length state) (at ws t) (at us t) (p .no-high-bit t l)
+      (q .no-high-bit t (rw (p .one-a-vector ∙ sym (q .one-a-vector)) at l))
       (λ i m. let lt : t < length vectors = rw (p .one-a-vector) at l in
-      same-truth (has (at ws t) i) (has (at us t) i) (λ e. q .bits t i lt m .1 (p .bits t i lt m .0 e)) (λ e. p .bits t i lt m .1 (q .bits t i lt m .0 e))))
+      same-truth (has (at ws t) i) (has (at us t) i) (λ e. q .bits t i lt m .1 (p .bits t i lt m .0 e))
+      (λ e. p .bits t i lt m .1 (q .bits t i lt m .0 e))))
 
   -- ---- responses of two states
 
@@ -269,7 +281,8 @@ module _ (net : Network) where
 
   pub alike-response : (s u vectors : List ℕ) → length s ≡ length u → ((i : ℕ) → i < length s → ReadAlike net vectors (at s i) (at u i))
       → response net s vectors ≡ response net u vectors
-  alike-response s u vectors same h = response-determined u vectors (response net s vectors) (response net u vectors) as-u (response-is u vectors)
+  alike-response s u vectors same h =
+      response-determined u vectors (response net s vectors) (response net u vectors) as-u (response-is u vectors)
     where
       as-u : Response net u vectors (response net s vectors)
       as-u =

@@ -14,15 +14,19 @@ use Rattle.network.proofs.States.{decides-not-a-state}
 use Rattle.network.proofs.Rows.{decides-set, decides-row-12}
 
 module _ (net : Network) (k : ℕ) (vectors state : List ℕ) (room : ℕ) where
-  pub response-by-table : ByTable (ResponseRows net k vectors state room) (Response net state vectors) (response-answer net k vectors state room)
+  pub response-by-table : ByTable (ResponseRows net k vectors state room) (Response net state vectors)
+      (response-answer net k vectors state room)
   unfolding response-answer
   response-by-table =
-      tests-by-table (Response net state vectors) (ResponseRows net k vectors state room) (response-tests net k vectors state room) (response net state vectors)
-      (decided-append (SetRows net k vectors) (OwnRows net k vectors state room) (set-tests net k vectors) (own-tests net k vectors state room) (decides-set net k vectors)
+      tests-by-table (Response net state vectors) (ResponseRows net k vectors state room)
+      (response-tests net k vectors state room) (response net state vectors)
+      (decided-append (SetRows net k vectors) (OwnRows net k vectors state room) (set-tests net k vectors)
+      (own-tests net k vectors state room) (decides-set net k vectors)
       (λ _. (refl, decides-not-a-state net k state, λ _. (refl, decides-row-12 (length vectors) room, λ _. tt))))
       (λ _. response-is net state vectors)
 
   pub response-answer-determined : (a b : Answer (List ℕ)) → ByTable (ResponseRows net k vectors state room) (Response net state vectors) a
       → ByTable (ResponseRows net k vectors state room) (Response net state vectors) b → a ≡ b
   response-answer-determined a b =
-      table-determined (Response net state vectors) (ResponseRows net k vectors state room) a b (λ _ x y. response-determined net state vectors x y)
+      table-determined (Response net state vectors) (ResponseRows net k vectors state room) a b
+      (λ _ x y. response-determined net state vectors x y)

@@ -14,14 +14,16 @@ use Rattle.words.proofs.Tests.{cases, decides-less, decides-at-most, decides-eq
 use Rattle.words.proofs.Searching.{decides-any}
 use Rattle.words.proofs.Answers.{let-through, shared-refuse, shared-pass}
 use Rattle.network.specs.declared.Network.{Network}
-use Rattle.network.specs.Rows.{Row5, Row6, Row7, HighBit, Row9, Row12, bad-net-count, bad-class, bad-vector-count, has-high-bit, bad-response-count, no-room, SetRows, set-tests, set-admission}
+use Rattle.network.specs.Rows.{Row5, Row6, Row7, HighBit, Row9, Row12, bad-net-count, bad-class, bad-vector-count}
+use Rattle.network.specs.Rows.{has-high-bit, bad-response-count, no-room, SetRows, set-tests, set-admission}
 
 pub decides-row-5 : (net : Network) → Decides (bad-net-count net) (Row5 net)
 decides-row-5 net = decides-or (decides-less (net .nets) 2) (decides-less 48 (net .nets))
 
 decides-class : (net : Network) (k : ℕ)
     → Decides (eqb k 1 || (eqb k 2 || (eqb k 3 || eqb k (net .nets)))) ((k ≡ 1) ⊎ ((k ≡ 2) ⊎ ((k ≡ 3) ⊎ (k ≡ net .nets))))
-decides-class net k = decides-or (decides-equal k 1) (decides-or (decides-equal k 2) (decides-or (decides-equal k 3) (decides-equal k (net .nets))))
+decides-class net k = decides-or (decides-equal k 1)
+    (decides-or (decides-equal k 2) (decides-or (decides-equal k 3) (decides-equal k (net .nets))))
 
 decides-row-6 : (net : Network) (k : ℕ) → Decides (bad-class net k) (Row6 net k)
 decides-row-6 net k = decides-or (decides-not (decides-class net k)) (decides-less (net .nets) k)
@@ -32,7 +34,8 @@ decides-row-7 vectors = decides-or (decides-less (length vectors) 1) (decides-le
 pub decides-high-bit : (net : Network) (words : List ℕ) → Decides (has-high-bit net words) (HighBit net words)
 unfolding has-high-bit
 decides-high-bit net words =
-    decides-any (λ t. leb (2 ^ (net .nets)) (at words t)) (λ t. 2 ^ (net .nets) ≤ at words t) (length words) (λ t. decides-at-most (2 ^ (net .nets)) (at words t))
+    decides-any (λ t. leb (2 ^ (net .nets)) (at words t)) (λ t. 2 ^ (net .nets) ≤ at words t) (length words)
+    (λ t. decides-at-most (2 ^ (net .nets)) (at words t))
 
 pub decides-row-9 : (vectors responses : ℕ) → Decides (bad-response-count vectors responses) (Row9 vectors responses)
 decides-row-9 vectors responses = decides-not (decides-equal responses vectors)
@@ -43,7 +46,8 @@ decides-row-12 result room = decides-less room result
 -- ---- what rows that do not hold tell
 
 pub nets-admitted : (net : Network) → ¬ (Row5 net) → (2 ≤ net .nets) × (net .nets ≤ 48)
-nets-admitted net h = let low : net .nets < 2 → ⊥ = λ l. h (inl l) in let high : 48 < net .nets → ⊥ = λ l. h (inr l) in (omega (arith, low), omega (arith, high))
+nets-admitted net h = let low : net .nets < 2 → ⊥ = λ l. h (inl l) in let high : 48 < net .nets → ⊥ = λ l. h (inr l) in
+    (omega (arith, low), omega (arith, high))
 
 pub vectors-admitted : (vectors : List ℕ) → ¬ (Row7 vectors) → length vectors ≤ 64
 vectors-admitted vectors h = let high : 64 < length vectors → ⊥ = λ l. h (inr l) in omega (arith, high)
@@ -54,8 +58,16 @@ no-high-bit net words h t l = lt-of-not-le (λ e. h (t, l, e))
 -- ---- rows 5 to 8
 
 pub decides-set : (net : Network) (k : ℕ) (vectors : List ℕ) → Decided (SetRows net k vectors) (set-tests net k vectors)
-decides-set net k vectors =
-    (refl, decides-row-5 net, λ _. (refl, decides-row-6 net k, λ _. (refl, decides-row-7 vectors, λ _. (refl, decides-high-bit net vectors, λ _. tt))))
+decides-set net k vectors = (
+  refl,
+  decides-row-5 net,
+  λ _. (
+    refl,
+    decides-row-6 net k,
+    λ _.
+        (refl, decides-row-7 vectors, λ _. (refl, decides-high-bit net vectors, λ _. tt)),
+  ),
+)
 
 -- what a test set that they admit has
 pub record AdmittedSet (net : Network) (k : ℕ) (vectors : List ℕ) : Type 0 where

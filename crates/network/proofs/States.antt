@@ -17,7 +17,8 @@ use Rattle.words.proofs.Classes.{ones-counted}
 use Rattle.words.proofs.Searching.{any-none, any-false}
 use Rattle.network.specs.declared.Network.{Network}
 use Rattle.network.specs.Reading.{meets}
-use Rattle.network.specs.States.{driver-count, DriverSet, State, few-drivers, meet-and-differ, has-wrong-reach, conflicts, has-conflict, not-a-state}
+use Rattle.network.specs.States.{driver-count, DriverSet, State, few-drivers, meet-and-differ, has-wrong-reach}
+use Rattle.network.specs.States.{conflicts, has-conflict, not-a-state}
 use Rattle.network.proofs.Reading.{meets-at, meets-some}
 
 -- the count of ones decides
@@ -47,11 +48,14 @@ module _ (net : Network) where
   -- two sets that meet and do not pass as differing are equal
   meet-equal : (a b x : ℕ) → x < net .nets → has a x ≡ true → has b x ≡ true → meet-and-differ net a b ≡ false → a ≡ b
   unfolding meet-and-differ
-  meet-equal a b x l p q e = eqb-true a b (⊎-elim (λ f. f) (λ f. contrary (and-both (meets-at net a b x l p q) (ap not f)) e) (cases (eqb a b)))
+  meet-equal a b x l p q e =
+      eqb-true a b (⊎-elim (λ f. f) (λ f. contrary (and-both (meets-at net a b x l p q) (ap not f)) e)
+      (cases (eqb a b)))
 
 -- two reaches with a driver in common are equal exactly where the test finds no conflict
 abbrev pub MeetOnlyIfEqual : Network → List ℕ → Type 0
-MeetOnlyIfEqual net state = (i j x : ℕ) → i < length state → j < length state → x < net .nets → has (at state i) x ≡ true → has (at state j) x ≡ true
+MeetOnlyIfEqual net state = (i j x : ℕ) → i < length state → j < length state → x < net .nets
+    → has (at state i) x ≡ true → has (at state j) x ≡ true
     → at state i ≡ at state j
 
 module _ (net : Network) (state : List ℕ) where
@@ -70,7 +74,8 @@ module _ (net : Network) (state : List ℕ) where
       any-none (λ i. any (length state) (pair-test i)) (length state)
       (λ i l. any-none (pair-test i) (length state) (λ j m. agree i j l m (cases (meets net (at state i) (at state j)))))
     where
-      agree : (i j : ℕ) → i < length state → j < length state → (meets net (at state i) (at state j) ≡ true) ⊎ (meets net (at state i) (at state j) ≡ false)
+      agree : (i j : ℕ) → i < length state → j < length state
+          → (meets net (at state i) (at state j) ≡ true) ⊎ (meets net (at state i) (at state j) ≡ false)
           → meets net (at state i) (at state j) && not (eqb (at state i) (at state j)) ≡ false
       agree i j l m (inl e) =
           let r = meets-some net (at state i) (at state j) e in
@@ -104,5 +109,6 @@ module _ (net : Network) (k : ℕ) (state : List ℕ) where
   decides-not-a-state = (λ e h. contrary e (state→test h), λ e h. h (test→state e))
 
 -- two states of a class with the same reaches are one
-pub states-equal : (net : Network) (k : ℕ) (s u : List ℕ) → State net k s → State net k u → ((i : ℕ) → i < length s → at s i ≡ at u i) → s ≡ u
+pub states-equal : (net : Network) (k : ℕ) (s u : List ℕ) → State net k s → State net k u
+    → ((i : ℕ) → i < length s → at s i ≡ at u i) → s ≡ u
 states-equal net k s u p q h = ext-getD 0 s u (p .size ∙ sym (q .size)) h

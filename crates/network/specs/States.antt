@@ -19,11 +19,13 @@ pub record DriverSet (net : Network) (k set : ℕ) : Type 0 where
   pub inside : set < 2 ^ (net .nets)
   pub few : driver-count net set ≤ k
 
--- A wiring state of class k: a reach for each receiver, each a set of at most k drivers, and two reaches with a driver in common are equal.
+-- A wiring state of class k: a reach for each receiver, each a set of at most k drivers, and two reaches with a driver
+-- in common are equal.
 pub record State (net : Network) (k : ℕ) (state : List ℕ) : Type 0 where
   pub size : length state ≡ net .nets
   pub reach : (i : ℕ) → i < length state → DriverSet net k (at state i)
-  pub meet-only-if-equal : (i j x : ℕ) → i < length state → j < length state → x < net .nets → has (at state i) x ≡ true → has (at state j) x ≡ true
+  pub meet-only-if-equal : (i j x : ℕ) → i < length state → j < length state → x < net .nets → has (at state i) x ≡ true
+      → has (at state j) x ≡ true
       → at state i ≡ at state j
 
 -- document 01's "a state fits a response": it is of the class, and gives exactly that response

@@ -33,8 +33,12 @@ pub fn response_from_state(
     state: &[u64],
     out: &mut [u64],
 ) -> Responded
-    ensures answer { λ r. ⌜ meaning r ≡ count-of (response-answer net class (now (vectors .entry)) (now (state .entry)) (length (now (out .entry)))) ⌝ }
-    ensures list { λ r. ⌜ now (out .exit) ≡ lent-after (response-answer net class (now (vectors .entry)) (now (state .entry)) (length (now (out .entry)))) (now (out .entry)) ⌝ }
+    ensures answer { λ r. ⌜ meaning r
+        ≡ count-of (response-answer net class (now (vectors .entry)) (now (state .entry))
+        (length (now (out .entry)))) ⌝ }
+    ensures list { λ r. ⌜ now (out .exit)
+        ≡ lent-after (response-answer net class (now (vectors .entry)) (now (state .entry))
+        (length (now (out .entry)))) (now (out .entry)) ⌝ }
 {
     let admission = refusals::admit_set(net, class, vectors);
     if let Admission::Refused(number) = admission {

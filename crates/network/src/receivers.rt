@@ -62,7 +62,8 @@ pub fn response_word(net: Network, state: &[u64], vector: Ptv) -> Ptv
 
 // One response word a vector into the front of `out`; the rest of `out` is kept.
 pub fn fill_response(net: Network, vectors: &[u64], state: &[u64], out: &mut [u64])
-    requires { ⌜ (length (now state) ≤ 64) × ((i : ℕ) → i < length (now state) → at (now state) i < 2 ^ (net .nets)) × (length (now vectors) ≤ length (now out)) ⌝ }
+    requires { ⌜ (length (now state) ≤ 64) × ((i : ℕ) → i < length (now state) → at (now state) i < 2 ^ (net .nets))
+        × (length (now vectors) ≤ length (now out)) ⌝ }
     ensures { λ r. ⌜ now (out .exit) ≡ lent-after (full (response net (now (state .entry)) (now (vectors .entry)))) (now (out .entry)) ⌝ }
 {
     let mut written: usize = 0;

@@ -1,10 +1,12 @@
-// The refusal rows that calls share, a function a row. Helpers between crates: those that need the nets admitted by row 5 say so.
+// The refusal rows that calls share, a function a row. Helpers between crates: those that need the nets admitted by row
+// 5 say so.
 ghost use mathlib.Core.Path.{_≡_};
 ghost use Prim.Native.Nat.{ℕ, _<_, _≤_, _^_};
 ghost use lib.ListN.{length};
 ghost use Rattle.words.specs.Bits.{at};
 ghost use Rattle.network.specs.States.{«few-drivers», «has-wrong-reach», conflicts, «has-conflict», «not-a-state»};
-ghost use Rattle.network.specs.Rows.{«bad-net-count», «bad-class», «bad-vector-count», «has-high-bit», «bad-response-count», «no-room», «set-admission», admission};
+ghost use Rattle.network.specs.Rows.{«bad-net-count», «bad-class», «bad-vector-count», «has-high-bit»};
+ghost use Rattle.network.specs.Rows.{«bad-response-count», «no-room», «set-admission», admission};
 use crate::Admission;
 use crate::Network;
 

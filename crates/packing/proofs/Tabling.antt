@@ -15,8 +15,10 @@ three found = found .kind ∷ found .reach ∷ found .partners ∷ []
 
 -- the records from the one at i on
 module _ (records : List Finding) (i : ℕ) (table : List ℕ) where
-  pub findings-turn : (found other : Finding) (next : List ℕ) → found ≡ getD records i other → next ≡ written table (3 * i) (three found) → i < length records
-      → 3 * i ≤ length table → written next (3 * (i + 1)) (finding-words (drop (i + 1) records)) ≡ written table (3 * i) (finding-words (drop i records))
+  pub findings-turn : (found other : Finding) (next : List ℕ) → found ≡ getD records i other
+      → next ≡ written table (3 * i) (three found) → i < length records
+      → 3 * i ≤ length table → written next (3 * (i + 1)) (finding-words (drop (i + 1) records))
+      ≡ written table (3 * i) (finding-words (drop i records))
   unfolding finding-words
   findings-turn found other next e f l m =
       let others = finding-words (drop (suc i) records) in

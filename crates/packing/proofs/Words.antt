@@ -18,31 +18,40 @@ pub part-written : (out from part : List ℕ) (place : ℕ) → part ≡ lent-af
 unfolding written lent-after
 part-written out from part place e =
     let size = length-drop place out in
-    let whole : take (length out - place) (drop place out) ≡ drop place out = take-all (length out - place) (drop place out) (omega arith) in
-    let none : drop (length out - place) (drop place out) ≡ [] = drop-of-length-le (drop place out) {i = length out - place} (omega arith) in
+    let whole : take (length out - place) (drop place out) ≡ drop place out =
+    take-all (length out - place) (drop place out) (omega arith) in
+    let none : drop (length out - place) (drop place out) ≡ [] =
+    drop-of-length-le (drop place out) {i = length out - place} (omega arith) in
     let tail : drop (length from) (drop place out) ≡ drop (place + length from) out = drop-drop (length from) place out in
-    ap₂ (λ (p t : List ℕ). take place out ++ (p ++ t)) (e ∙ ap (λ (rest : List ℕ). from ++ drop (length from) rest) whole ∙ ap (λ (rest : List ℕ). from ++ rest) tail) none
+    ap₂ (λ (p t : List ℕ). take place out ++ (p ++ t))
+    (e ∙ ap (λ (rest : List ℕ). from ++ drop (length from) rest) whole
+    ∙ ap (λ (rest : List ℕ). from ++ rest) tail) none
     ∙ ap (λ (l : List ℕ). take place out ++ l) (append-nil (from ++ drop (place + length from) out))
     ∙ sym (append-assoc (take place out) from (drop (place + length from) out))
 
 -- a list that is filled to its end
 pub all-written : (words lent : List ℕ) → length words ≡ length lent → lent-after (full words) lent ≡ words
 unfolding lent-after
-all-written words lent e = ap (λ (rest : List ℕ). words ++ rest) (drop-of-length-le lent {i = length words} (omega arith)) ∙ append-nil words
+all-written words lent e =
+    ap (λ (rest : List ℕ). words ++ rest) (drop-of-length-le lent {i = length words} (omega arith))
+    ∙ append-nil words
 
 -- the four parts of a record, put one after the other
-pub session-written : (session : Session) (lent headed answered reached all : List ℕ) → length (session .first) ≡ 8 → length (session .reaches) ≡ 48
+pub session-written : (session : Session) (lent headed answered reached all : List ℕ) → length (session .first) ≡ 8
+    → length (session .reaches) ≡ 48
     → headed ≡ written lent 0 (session .step ∷ session .network .nets ∷ []) → answered ≡ written headed 2 (session .first)
     → reached ≡ written answered 10 (session .reaches) → all ≡ written reached 58 (session .spent ∷ [])
     → all ≡ lent-after (full (session-words session)) lent
 unfolding session-words
 session-written session lent headed answered reached all first-size reaches-size a b c d =
     let head = session .step ∷ session .network .nets ∷ [] in
-    let two : answered ≡ written lent 0 (head ++ session .first) = written-next lent headed answered 0 2 head (session .first) a b (omega arith) (omega arith) in
+    let two : answered ≡ written lent 0 (head ++ session .first) =
+    written-next lent headed answered 0 2 head (session .first) a b (omega arith) (omega arith) in
     let three : reached ≡ written lent 0 (head ++ session .first ++ session .reaches) =
     written-next lent answered reached 0 10 (head ++ session .first) (session .reaches) two c (omega arith) (omega arith) in
     let size = length-append (session .first) (session .reaches) in
-    written-next lent reached all 0 58 (head ++ session .first ++ session .reaches) (session .spent ∷ []) three d (omega arith) (omega arith)
+    written-next lent reached all 0 58 (head ++ session .first ++ session .reaches) (session .spent ∷ []) three d
+    (omega arith) (omega arith)
     ∙ written-front lent (session-words session)
 
 -- the words of the record that 59 words are

@@ -14,7 +14,8 @@ use Rattle.words.specs.Turning.{tabulate}
 use Rattle.words.proofs.Tests.{neither}
 use Rattle.words.proofs.Columns.{length-tabulate, tabulate-at}
 use Rattle.jobfile.specs.Bytes.{number-at}
-use Rattle.jobfile.specs.Layout.{Layout, entry-count, bodies-at, body-offset, body-length, bad-layout, bad-bodies, body-words, has-responses, file-responses}
+use Rattle.jobfile.specs.Layout.{Layout, entry-count, bodies-at, body-offset, body-length, bad-layout, bad-bodies}
+use Rattle.jobfile.specs.Layout.{body-words, has-responses, file-responses}
 use Rattle.jobfile.proofs.FileRows.{test→layout, two-entries}
 
 module _ (file : List ℕ) (e : bad-layout file ≡ false) where

@@ -27,7 +27,8 @@ number-whole file offset count =
     let first : offset + 0 ≡ offset = omega arith in
     rw (all, first)
 
-number-cons : (file : List ℕ) (p d : ℕ) → p < length file → number-of (take (suc d) (drop p file)) ≡ at file p + 256 * number-of (take d (drop (suc p) file))
+number-cons : (file : List ℕ) (p d : ℕ) → p < length file
+    → number-of (take (suc d) (drop p file)) ≡ at file p + 256 * number-of (take d (drop (suc p) file))
 unfolding number-of
 number-cons file p d l = rw (drop-cons file p 0 l)
 
@@ -39,7 +40,8 @@ number-more file offset count i p l h =
     rw (more, next) (omega (arith, number-cons file (offset + (i - 1)) (count - i) (omega arith)))
 
 -- it stays below 256 for each byte
-pub number-room : (count i number byte : ℕ) → 0 < i → i ≤ count → number < 256 ^ (count - i) → byte < 256 → number * 256 + byte < 256 ^ (count - (i - 1))
+pub number-room : (count i number byte : ℕ) → 0 < i → i ≤ count → number < 256 ^ (count - i) → byte < 256
+    → number * 256 + byte < 256 ^ (count - (i - 1))
 number-room count i number byte p l h b =
     let more : count - (i - 1) ≡ suc (count - i) = omega arith in
     rw (more, pow-suc 256 (count - i)) (omega arith)

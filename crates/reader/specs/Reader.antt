@@ -8,7 +8,8 @@ use lib.ListN.{length}
 use Rattle.words.specs.Answers.{Answer, refused, full, by-tests}
 use Rattle.network.specs.declared.Network.{Network}
 use Rattle.network.specs.Rows.{SetRows, Row9, HighBit, Row12, set-tests, bad-response-count, has-high-bit, no-room}
-use Rattle.jobfile.specs.Layout.{Row1, Row2, Row3, bad-mark, bad-layout, bad-bodies, file-network, file-class, body-words, has-responses, file-responses}
+use Rattle.jobfile.specs.Layout.{Row1, Row2, Row3, bad-mark, bad-layout, bad-bodies, file-network, file-class}
+use Rattle.jobfile.specs.Layout.{body-words, has-responses, file-responses}
 use Rattle.reader.specs.declared.Job.{Job}
 use Rattle.reader.specs.declared.ReadJob.{ReadJob}
 use Rattle.reader.specs.declared.ReadJob.the-variants.{Content, Refused}
@@ -36,7 +37,8 @@ ListRows file job vectors-room responses-room =
 
 abbrev pub ReaderRows : List ℕ → (vectors-room responses-room : ℕ) → List (ℕ × Type 0)
 ReaderRows file vectors-room responses-room =
-    FileRows file ++ SetRows (content file .network) (content file .class) (content file .vectors) ++ ListRows file (content file) vectors-room responses-room
+    FileRows file ++ SetRows (content file .network) (content file .class) (content file .vectors)
+    ++ ListRows file (content file) vectors-room responses-room
 
 abbrev pub file-tests : List ℕ → List (ℕ × Bool)
 file-tests file = (1, bad-mark file) ∷ (2, bad-layout file) ∷ (3, bad-bodies file) ∷ []
@@ -70,7 +72,14 @@ responses-read (full job) = full (job .responses)
 -- what the call returns: the network, the class and how many words each list was given
 abbrev pub counted : Answer JobContent → Answer Job
 counted (refused number) = refused number
-counted (full job) = full (record { network = job .network; class = job .class; vectors = length (job .vectors); responses = length (job .responses) })
+counted (full job) = full
+    (record {
+      network = job .network;
+      class = job .class;
+      vectors = length (job .vectors);
+      responses =
+          length (job .responses);
+    })
 
 -- document 01's number and values for each case of the answer
 abbrev pub meaning : ReadJob → Answer Job

@@ -28,9 +28,17 @@ pub enum ReadJob {
 // Rows 5 to 10 and 12, or the content into the fronts of the lists. Rows 1, 2 and 3 do not hold.
 fn read_content(file: &[u8], vectors: &mut [u64], responses: &mut [u64]) -> ReadJob
     requires { ⌜ (bad-mark (now file) ≡ false) × (bad-layout (now file) ≡ false) × (bad-bodies (now file) ≡ false) ⌝ }
-    ensures answer { λ r. ⌜ meaning r ≡ counted (read-answer (now (file .entry)) (length (now (vectors .entry))) (length (now (responses .entry)))) ⌝ }
-    ensures vectors { λ r. ⌜ now (vectors .exit) ≡ lent-after (vectors-read (read-answer (now (file .entry)) (length (now (vectors .entry))) (length (now (responses .entry))))) (now (vectors .entry)) ⌝ }
-    ensures responses { λ r. ⌜ now (responses .exit) ≡ lent-after (responses-read (read-answer (now (file .entry)) (length (now (vectors .entry))) (length (now (responses .entry))))) (now (responses .entry)) ⌝ }
+    ensures answer { λ r. ⌜ meaning r
+        ≡ counted (read-answer (now (file .entry)) (length (now (vectors .entry)))
+        (length (now (responses .entry)))) ⌝ }
+    ensures vectors { λ r. ⌜ now (vectors .exit)
+        ≡ lent-after (vectors-read
+        (read-answer (now (file .entry)) (length (now (vectors .entry))) (length (now (responses .entry)))))
+        (now (vectors .entry)) ⌝ }
+    ensures responses { λ r. ⌜ now (responses .exit)
+        ≡ lent-after (responses-read
+        (read-answer (now (file .entry)) (length (now (vectors .entry))) (length (now (responses .entry)))))
+        (now (responses .entry)) ⌝ }
 {
     let network = reading::file_network(file);
     let class = reading::file_class(file);
@@ -62,11 +70,20 @@ fn read_content(file: &[u8], vectors: &mut [u64], responses: &mut [u64]) -> Read
     })
 }
 
-// The call *read a job file*: the vectors into the front of `vectors`, the responses into the front of `responses`. Rows 1, 2, 3, 5 to 10, 12.
+// The call *read a job file*: the vectors into the front of `vectors`, the responses into the front of `responses`.
+// Rows 1, 2, 3, 5 to 10, 12.
 pub fn read_job(file: &[u8], vectors: &mut [u64], responses: &mut [u64]) -> ReadJob
-    ensures answer { λ r. ⌜ meaning r ≡ counted (read-answer (now (file .entry)) (length (now (vectors .entry))) (length (now (responses .entry)))) ⌝ }
-    ensures vectors { λ r. ⌜ now (vectors .exit) ≡ lent-after (vectors-read (read-answer (now (file .entry)) (length (now (vectors .entry))) (length (now (responses .entry))))) (now (vectors .entry)) ⌝ }
-    ensures responses { λ r. ⌜ now (responses .exit) ≡ lent-after (responses-read (read-answer (now (file .entry)) (length (now (vectors .entry))) (length (now (responses .entry))))) (now (responses .entry)) ⌝ }
+    ensures answer { λ r. ⌜ meaning r
+        ≡ counted (read-answer (now (file .entry)) (length (now (vectors .entry)))
+        (length (now (responses .entry)))) ⌝ }
+    ensures vectors { λ r. ⌜ now (vectors .exit)
+        ≡ lent-after (vectors-read
+        (read-answer (now (file .entry)) (length (now (vectors .entry))) (length (now (responses .entry)))))
+        (now (vectors .entry)) ⌝ }
+    ensures responses { λ r. ⌜ now (responses .exit)
+        ≡ lent-after (responses-read
+        (read-answer (now (file .entry)) (length (now (vectors .entry))) (length (now (responses .entry)))))
+        (now (responses .entry)) ⌝ }
 {
     if jobfile::bad_mark(file) {
         return ReadJob::Refused(1);

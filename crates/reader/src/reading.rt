@@ -1,5 +1,5 @@
-// What a job file says: the tests of rows 2 and 3, and the content. Helpers with a requires: each asks only that the bytes it reads
-// are there, or that the rows before it do not hold.
+// What a job file says: the tests of rows 2 and 3, and the content. Helpers with a requires: each asks only that the
+// bytes it reads are there, or that the rows before it do not hold.
 ghost use mathlib.Core.Path.{_≡_};
 ghost use mathlib.Core.Bool.{false, cond, _&&_, _||_};
 ghost use mathlib.Core.List.{[], _∷_, _++_};
@@ -9,7 +9,9 @@ ghost use lib.ListN.{length, take};
 ghost use Rattle.words.specs.Answers.{«by-tests»};
 ghost use Rattle.network.specs.Rows.{admission, «set-tests», «bad-response-count», «has-high-bit», «no-room»};
 ghost use Rattle.jobfile.specs.Bytes.{«number-at»};
-ghost use Rattle.jobfile.specs.Layout.{«entry-count», «bodies-at», «body-offset», «body-length», «bad-entry», «bad-layout», «bad-bodies», «file-network», «file-class», «body-words», «has-responses», «file-responses»};
+ghost use Rattle.jobfile.specs.Layout.{«entry-count», «bodies-at», «body-offset», «body-length», «bad-entry»};
+ghost use Rattle.jobfile.specs.Layout.{«bad-layout», «bad-bodies», «file-network», «file-class», «body-words»};
+ghost use Rattle.jobfile.specs.Layout.{«has-responses», «file-responses»};
 use network::Admission;
 use network::Network;
 
@@ -56,7 +58,8 @@ fn body_length(file: &[u8], i: usize) -> u64
 // Where the body of entry i has to begin: after the table, or after the body before it.
 fn body_start(file: &[u8], i: usize) -> u64
     requires { ⌜ (i < entry-count (now file)) × (bodies-at (entry-count (now file)) ≤ length (now file)) ⌝ }
-    ensures { λ r. ⌜ r ≡ cond (eqb i 0) (bodies-at (entry-count (now (file .entry)))) (body-offset (now (file .entry)) (i - 1) + body-length (now (file .entry)) (i - 1)) ⌝ }
+    ensures { λ r. ⌜ r ≡ cond (eqb i 0) (bodies-at (entry-count (now (file .entry))))
+        (body-offset (now (file .entry)) (i - 1) + body-length (now (file .entry)) (i - 1)) ⌝ }
 {
     if i == 0 {
         return 5 + 9 * (entry_count(file) as u64);
@@ -196,7 +199,10 @@ pub fn admit_job(
     responses: &[u64],
     given: bool,
 ) -> Admission
-    ensures { λ r. ⌜ admission r ≡ by-tests (set-tests network class (now (vectors .entry)) ++ (9, given && bad-response-count (length (now (vectors .entry))) (length (now (responses .entry)))) ∷ (10, given && has-high-bit network (now (responses .entry))) ∷ []) tt ⌝ }
+    ensures { λ r. ⌜ admission r
+        ≡ by-tests (set-tests network class (now (vectors .entry))
+        ++ (9, given && bad-response-count (length (now (vectors .entry))) (length (now (responses .entry))))
+        ∷ (10, given && has-high-bit network (now (responses .entry))) ∷ []) tt ⌝ }
 {
     let admission = network::refusals::admit_set(network, class, vectors);
     if let Admission::Refused(number) = admission {

@@ -43,7 +43,8 @@ session-is r w is = LL.owed Adv.the-type Adv′.the-laws r _ is .1 .0
 abbrev pub res : ℕ → Session → Stepped
 res c h′ = record { code = c; session = h′ }
 
-pub made : (c : ℕ) (h′ : Session) → c < 2 ^ 64 → Is R h′ (mach h′ ∷ []) → Is Adv.the-row (res c h′) (LL.vals Adv.the-type Adv′.the-laws (res c h′))
+pub made : (c : ℕ) (h′ : Session) → c < 2 ^ 64 → Is R h′ (mach h′ ∷ [])
+    → Is Adv.the-row (res c h′) (LL.vals Adv.the-type Adv′.the-laws (res c h′))
 made c h′ fits g = LL.owes Adv.the-type Adv′.the-laws (res c h′) ((refl, fits), (g, tt))
 
 module _ {M : Type 1} (𝓤 : URA M) (H : Heap 𝓤) (A : Atoms 𝓤) (W : Given 𝓤 H A) where
@@ -51,14 +52,22 @@ module _ {M : Type 1} (𝓤 : URA M) (H : Heap 𝓤) (A : Atoms 𝓤) (W : Given
   typed h g = LL.lawful T.the-type T′.the-laws 𝓤 H A W .typed h _ g .0
 
   -- a local's cell with what the record owns is a record in memory, and back
-  pub stands : (h : Session) (l : ℕ) → ent 𝓤 (sep 𝓤 (H .at fullShare T′.mir l 0 (mach h)) (sem 𝓤 H A (R .own h (mach h ∷ [])))) (sem 𝓤 H A (mem R .lies h l 0))
+  pub stands : (h : Session) (l : ℕ)
+      → ent 𝓤 (sep 𝓤 (H .at fullShare T′.mir l 0 (mach h)) (sem 𝓤 H A (R .own h (mach h ∷ []))))
+      (sem 𝓤 H A (mem R .lies h l 0))
   unfolding partOf
   stands h l =
-      qed W (‵ (fat fullShare T′.mir l 0 (mach h)) ∷ ‵ (R .own h (mach h ∷ [])) ∷ []) ∵ use1 W (‵ (cellAt fullShare (R .mir) (mach h ∷ []) l 0)) (W .laws .at-raw fullShare T′.mir l 0 (mach h)) $
+      qed W (‵ (fat fullShare T′.mir l 0 (mach h)) ∷ ‵ (R .own h (mach h ∷ [])) ∷ []) ∵ use1 W
+      (‵ (cellAt fullShare (R .mir) (mach h ∷ []) l 0)) (W .laws .at-raw fullShare T′.mir l 0 (mach h)) $
       fjoin ! $ fpack ! (List Val) (λ us. fsep (cellAt fullShare (R .mir) us l 0) (R .own h us)) (mach h ∷ []) $ done !
 
-  pub stands-out : (h : Session) (l : ℕ) → ent 𝓤 (sem 𝓤 H A (mem R .lies h l 0)) (guard 𝓤 (Is R h (mach h ∷ [])) (H .at fullShare T′.mir l 0 (mach h)))
+  pub stands-out : (h : Session) (l : ℕ)
+      → ent 𝓤 (sem 𝓤 H A (mem R .lies h l 0)) (guard 𝓤 (Is R h (mach h ∷ [])) (H .at fullShare T′.mir l 0 (mach h)))
   unfolding partOf
   stands-out h l =
-      qed W (‵ (mem R .lies h l 0) ∷ []) ∵ fpick ! (λ vs. fsplit ! $ spelt ! R (Is R) (shows 𝓤 H A R) (LL.vals T.the-type T′.the-laws) (LL.tells T.the-type T′.the-laws) fullShare h vs l 0 $
-      move ! (1 ∷ []) $ peeks ! R (Is R) (shows 𝓤 H A R) h (mach h ∷ []) (λ g. check ! g $ drop ! $ use1 W (‵ (fat fullShare T′.mir l 0 (mach h))) (W .laws .raw-at fullShare T′.mir l 0 (mach h)) $ done !))
+      qed W (‵ (mem R .lies h l 0) ∷ []) ∵ fpick !
+      (λ vs. fsplit ! $ spelt ! R (Is R) (shows 𝓤 H A R) (LL.vals T.the-type T′.the-laws)
+      (LL.tells T.the-type T′.the-laws) fullShare h vs l 0 $
+      move ! (1 ∷ []) $ peeks ! R (Is R) (shows 𝓤 H A R) h (mach h ∷ [])
+      (λ g. check ! g $ drop ! $
+      use1 W (‵ (fat fullShare T′.mir l 0 (mach h))) (W .laws .raw-at fullShare T′.mir l 0 (mach h)) $ done !))

@@ -21,15 +21,18 @@ use Rattle.steps.specs.FirstStep.{word-length}
 use Rattle.steps.specs.SecondStep.{unclear}
 use Rattle.steps.proofs.StepOneWords.{length-bounds}
 use Rattle.session.specs.declared.Session.{Session}
-use Rattle.session.specs.Record.{first-answers-held, pad, awaiting-first, awaiting-second, is-zeros, all-hold, held-answers, awaits-first, awaits-second}
+use Rattle.session.specs.Record.{first-answers-held, pad, awaiting-first, awaiting-second, is-zeros, all-hold}
+use Rattle.session.specs.Record.{held-answers, awaits-first, awaits-second}
 use Rattle.session.proofs.Padding.{pad-size}
 
 -- ---- words that are all 0
 
-pub zeros-hold : (size : ℕ) (words : List ℕ) → length words ≡ size → ((i : ℕ) → i < length words → at words i ≡ 0) → is-zeros size words ≡ true
+pub zeros-hold : (size : ℕ) (words : List ℕ) → length words ≡ size → ((i : ℕ) → i < length words → at words i ≡ 0)
+    → is-zeros size words ≡ true
 unfolding is-zeros
 zeros-hold size words e h =
-    let none : any (length words) (λ i. not (eqb (at words i) 0)) ≡ false = any-none _ (length words) (λ i l. ap not (eq-eqb _ _ (h i l))) in
+    let none : any (length words) (λ i. not (eqb (at words i) 0)) ≡ false =
+    any-none _ (length words) (λ i l. ap not (eq-eqb _ _ (h i l))) in
     and-both (eq-eqb _ _ e) (ap not none)
 
 pub zeros-fail : (size : ℕ) (words : List ℕ) (i : ℕ) → i < length words → at words i ≢ 0 → is-zeros size words ≡ false
@@ -45,7 +48,9 @@ zeros-size size words e = eqb-true _ _ (and-left (eqb (length words) size) _ e)
 zeros-at : (size : ℕ) (words : List ℕ) → is-zeros size words ≡ true → (i : ℕ) → i < length words → at words i ≡ 0
 unfolding is-zeros
 zeros-at size words e i l =
-    eqb-true _ _ (not-false _ (any-false (λ z. not (eqb (at words z) 0)) (length words) i l (not-true _ (and-right (eqb (length words) size) _ e))))
+    eqb-true _ _ (not-false _
+    (any-false (λ z. not (eqb (at words z) 0)) (length words) i l
+    (not-true _ (and-right (eqb (length words) size) _ e))))
 
 -- they are a list of zeros, and a list of zeros is such
 zeros-are : (size : ℕ) (words : List ℕ) → is-zeros size words ≡ true → words ≡ replicate size 0
@@ -59,15 +64,19 @@ zeros-of size =
     (λ i l. getD-replicate {A = ℕ} size i 0 0 (rw (length-replicate {A = ℕ} size 0) at l))
 
 -- told by a test of the whole list
-pub zeros-by : (size : ℕ) (words : List ℕ) {b d : Bool} → length words ≡ size → b ≡ is-zeros (length words) words → b ≡ d → is-zeros size words ≡ d
+pub zeros-by : (size : ℕ) (words : List ℕ) {b d : Bool} → length words ≡ size → b ≡ is-zeros (length words) words
+    → b ≡ d → is-zeros size words ≡ d
 zeros-by size words e h f = ap (λ (n : ℕ). is-zeros n words) (sym e) ∙ sym h ∙ f
 
 -- told by a test of the words from p on
 pub zeros-after : (words : List ℕ) (p q : ℕ) {b d : Bool} → length words ≡ 8 → p ≡ q
-    → b ≡ is-zeros (length (take (length words - p) (drop p words))) (take (length words - p) (drop p words)) → b ≡ d → is-zeros (8 - q) (drop q words) ≡ d
+    → b ≡ is-zeros (length (take (length words - p) (drop p words))) (take (length words - p) (drop p words)) → b ≡ d
+    → is-zeros (8 - q) (drop q words) ≡ d
 zeros-after words p q eight same h f =
     let size : length (drop q words) ≡ 8 - q = length-drop q words ∙ ap (λ (n : ℕ). n - q) eight in
-    let whole : take (length words - p) (drop p words) ≡ drop q words = rw same (take-all (length words - q) (drop q words) (rw (length-drop q words) (le-refl (length words - q)))) in
+    let whole : take (length words - p) (drop p words) ≡ drop q words =
+    rw same (take-all (length words - q) (drop q words)
+    (rw (length-drop q words) (le-refl (length words - q)))) in
     zeros-by (8 - q) (drop q words) size (rw whole at h) f
 
 -- the length of a list that is the front of another
@@ -116,7 +125,8 @@ module _ (s : Session) (e : awaits-first s ≡ true) where
 pub held-of : (net : Network) (answers : List ℕ) → length answers ≡ word-length net → held-answers (awaiting-second net answers) ≡ answers
 held-of net answers e = take-at answers (replicate (8 - length answers) 0) (word-length net) e
 
-pub awaits-second-of : (net : Network) (answers : List ℕ) → bad-net-count net ≡ false → length answers ≡ word-length net → word-length net ≤ 8
+pub awaits-second-of : (net : Network) (answers : List ℕ) → bad-net-count net ≡ false → length answers ≡ word-length net
+    → word-length net ≤ 8
     → has-high-bit net answers ≡ false → length (unclear net answers) ≢ 0 → awaits-second (awaiting-second net answers) ≡ true
 unfolding awaits-second all-hold
 awaits-second-of net answers count e l high some =

@@ -13,7 +13,8 @@ use Rattle.session.specs.declared.Session.{Session}
 use Rattle.session.specs.declared.Stepped.{Stepped}
 use Rattle.session.specs.Record.{awaiting-first, awaiting-second, finished, held-answers, awaits-first, awaits-second}
 
--- document 01's number for an answer, and 0 if the call is accepted; the record as it was after a refusal, else the new one
+-- document 01's number for an answer, and 0 if the call is accepted; the record as it was after a refusal, else the new
+-- one
 unfoldable pub stepped : Answer (List ℕ) → (new old : Session) → Stepped
 stepped (refused number) new old = record { code = number; session = old }
 stepped (full words) new old = record { code = 0; session = new }

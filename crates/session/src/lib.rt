@@ -11,7 +11,8 @@ mod record;
 
 use network::Network;
 
-// A session's record. Step 1 waits for first answers, 2 for second answers, 3 is finished; what a step does not use is 0.
+// A session's record. Step 1 waits for first answers, 2 for second answers, 3 is finished; what a step does not use is
+// 0.
 pub struct Session {
     pub step: u64,
     pub network: Network,

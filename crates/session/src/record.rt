@@ -1,4 +1,5 @@
-// How a record that waits for answers is told. Those that need the nets admitted by row 5, and 8 words, are helpers of this crate.
+// How a record that waits for answers is told. Those that need the nets admitted by row 5, and 8 words, are helpers of
+// this crate.
 ghost use mathlib.Core.Path.{_≡_};
 ghost use Prim.Native.Nat.{_≤_};
 ghost use lib.ListN.{length, take};

@@ -72,7 +72,8 @@ fn next(vectors: &[u64]) {
     show::part(vectors, 0, vectors.len());
 }
 
-// An accepted call with a lent list: the words written, as many as are to be driven, and the entries left; then the record.
+// An accepted call with a lent list: the words written, as many as are to be driven, and the entries left; then the
+// record.
 fn accepted(after: Session, vectors: &[u64], list: &[u64]) {
     if vectors.len() == 0 {
         show::text(b" no words");
@@ -187,7 +188,8 @@ fn try_numbers(before: Session, head: &[u64; MOST], count: usize) -> Session
     before
 }
 
-// A line with a colon, from the index past it on: first answers, second answers, or two lists to drive of. `count` is that of the numbers before it.
+// A line with a colon, from the index past it on: first answers, second answers, or two lists to drive of. `count` is
+// that of the numbers before it.
 fn try_lists(before: Session, head: &[u64; MOST], count: usize, line: &[u8], at: usize) -> Session
     requires { ⌜ (length (now head) ≡ 65) × (at ≤ length (now line)) ⌝ }
 {

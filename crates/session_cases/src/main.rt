@@ -1,7 +1,8 @@
-// The bench examples of document 01 for the session, its refusals, and records that no calls leave. Standard input has them, a call a line (calls.rt).
-// After a line `session`, the lines are calls on one record, which is junk at first. A line a call: what it was given, and what it answered. `lent` gives the
-// length of the list lent, and after `kept` stand its entries that the call left as they were; after an accepted call stand what the record then says, and
-// the vectors to drive next.
+// The bench examples of document 01 for the session, its refusals, and records that no calls leave. Standard input has
+// them, a call a line (calls.rt). After a line `session`, the lines are calls on one record, which is junk at first. A
+// line a call: what it was given, and what it answered. `lent` gives the length of the list lent, and after `kept`
+// stand its entries that the call left as they were; after an accepted call stand what the record then says, and the
+// vectors to drive next.
 mod calls;
 
 use session::Session;

@@ -25,13 +25,15 @@ use Rattle.words.proofs.Tests.{cases, contrary, and-left, and-right, and-both, 
 use Rattle.network.specs.declared.Network.{Network}
 use Rattle.network.specs.Reading.{walking-vector, extra-vector, reads, ReadAlike, sequential-response, response-word, response}
 use Rattle.network.specs.States.{DriverSet, State, Fits}
-use Rattle.network.proofs.Reading.{reads-floating, reads-driven, reads-only, reads-walking, reads-extra, has-sequential, sequential-below, alike-sequential, response-is}
+use Rattle.network.proofs.Reading.{reads-floating, reads-driven, reads-only, reads-walking, reads-extra, has-sequential}
+use Rattle.network.proofs.Reading.{sequential-below, alike-sequential, response-is}
 use Rattle.diagnosis.specs.ReadBack.{read-back, no-state-fits}
 use Rattle.diagnosis.specs.Walking.{Walked}
 use Rattle.diagnosis.proofs.Gathering.{walked-is}
 use Rattle.diagnosis.proofs.ReadingBack.{fits-answers, answers-fit, read-back-fits, smallest-read-back, candidate-fails}
 use Rattle.steps.specs.FirstStep.{word-length, sequential-words, first-vectors}
-use Rattle.steps.specs.SecondStep.{only-at, is-clear, Clear, unclear, UnclearNets, settling-vectors, second-vectors, session-vectors, fault-free-state}
+use Rattle.steps.specs.SecondStep.{only-at, is-clear, Clear, unclear, UnclearNets, settling-vectors}
+use Rattle.steps.specs.SecondStep.{second-vectors, session-vectors, fault-free-state}
 use Rattle.steps.proofs.WordsApart.{WordsApart}
 use Rattle.steps.proofs.StepOneWords.{first-size, first-has}
 
@@ -61,11 +63,20 @@ module _ (net : Network) (before after : List ℕ) where
   response-parts state = map-append (response-word net state) before after
 
   -- a state fits both answers exactly where it fits each
-  pub fits-parts : (k : ℕ) (first second state : List ℕ) → length first ≡ length before → Fits net k (before ++ after) (first ++ second) state
+  pub fits-parts : (k : ℕ) (first second state : List ℕ) → length first ≡ length before
+      → Fits net k (before ++ after) (first ++ second) state
       → Fits net k before first state × Fits net k after second state
   fits-parts k first second state size h = (
-    record { of-class = h .of-class; gives = sym (take-at _ (response net state after) _ length-of) ∙ ap (take (length before)) both ∙ take-at first second _ size },
-    record { of-class = h .of-class; gives = sym (drop-at (response net state before) _ _ length-of) ∙ ap (drop (length before)) both ∙ drop-at first second _ size },
+    record {
+      of-class = h .of-class;
+      gives = sym (take-at _ (response net state after) _ length-of)
+          ∙ ap (take (length before)) both ∙ take-at first second _ size;
+    },
+    record {
+      of-class = h .of-class;
+      gives = sym (drop-at (response net state before) _ _ length-of)
+          ∙ ap (drop (length before)) both ∙ drop-at first second _ size;
+    },
   )
     where
       length-of : length (response net state before) ≡ length before
@@ -96,7 +107,8 @@ module _ (net : Network) where
   reads-alone : (i vector : ℕ) → i < net .nets → reads net (2 ^ i) vector ≡ has vector i
   reads-alone i vector l =
       same-truth (reads net (2 ^ i) vector) (has vector i)
-      (λ e. let r = reads-only net (2 ^ i) vector (has-not-zero (2 ^ i) i (has-own i)) e in subst (λ (x : ℕ). has vector x ≡ true) (sym (has-only i (r .0) (r .2))) (r .3))
+      (λ e. let r = reads-only net (2 ^ i) vector (has-not-zero (2 ^ i) i (has-own i)) e in
+      subst (λ (x : ℕ). has vector x ≡ true) (sym (has-only i (r .0) (r .2))) (r .3))
       (λ e. reads-driven net (2 ^ i) vector i l (has-own i) e)
 
 module _ (net : Network) (apart : WordsApart net) where
@@ -104,8 +116,11 @@ module _ (net : Network) (apart : WordsApart net) where
   has-first t i l m = first-has net t i l (rw (apart .size) m)
 
   -- a reach that returns net i's word is its driver alone
-  own-word : (i a : ℕ) → i < net .nets → a < 2 ^ (net .nets) → sequential-response net (first-vectors net) a ≡ at (sequential-words net) i → a ≡ 2 ^ i
-  own-word i a l inside e = words-equal (net .nets) a (2 ^ i) inside (pow-lt l) (λ j m. same-truth (has a j) (has (2 ^ i) j) (there j m) (back j))
+  own-word : (i a : ℕ) → i < net .nets → a < 2 ^ (net .nets)
+      → sequential-response net (first-vectors net) a ≡ at (sequential-words net) i → a ≡ 2 ^ i
+  own-word i a l inside e =
+      words-equal (net .nets) a (2 ^ i) inside (pow-lt l)
+      (λ j m. same-truth (has a j) (has (2 ^ i) j) (there j m) (back j))
     where
       returned : (t : ℕ) → t < word-length net → reads net a (at (first-vectors net) t) ≡ has (at (sequential-words net) i) t
       returned t m = sym (has-sequential net (first-vectors net) a t (rw (first-size net) m)) ∙ ap (λ (w : ℕ). has w t) e
@@ -113,13 +128,15 @@ module _ (net : Network) (apart : WordsApart net) where
       driven : a ≢ 0
       driven q =
           let g = apart .has-gap i l in
-          contrary (ap (λ (x : ℕ). reads net x (at (first-vectors net) (g .0))) q ∙ reads-floating net (at (first-vectors net) (g .0))) (returned (g .0) (g .1) ∙ g .2)
+          contrary (ap (λ (x : ℕ). reads net x (at (first-vectors net) (g .0))) q
+          ∙ reads-floating net (at (first-vectors net) (g .0))) (returned (g .0) (g .1) ∙ g .2)
 
       only : (j : ℕ) → j < net .nets → has a j ≡ true → i ≡ j
       only j m on =
           ⊎-elim (λ q. eqb-true i j q)
           (λ q. let o = apart .uncovered i j l m (eqb-false i j q) in
-          contrary (reads-driven net a (at (first-vectors net) (o .0)) j m on (has-first (o .0) j (o .1) m ∙ o .2)) (returned (o .0) (o .1) ∙ o .3)) (cases (eqb i j))
+          contrary (reads-driven net a (at (first-vectors net) (o .0)) j m on (has-first (o .0) j (o .1) m ∙ o .2))
+          (returned (o .0) (o .1) ∙ o .3)) (cases (eqb i j))
 
       there : (j : ℕ) → j < net .nets → has a j ≡ true → has (2 ^ i) j ≡ true
       there j m on = ap (has (2 ^ i)) (sym (only j m on)) ∙ has-own i
@@ -132,8 +149,10 @@ module _ (net : Network) (apart : WordsApart net) where
   -- and its driver alone returns it
   own-returns : (i : ℕ) → i < net .nets → sequential-response net (first-vectors net) (2 ^ i) ≡ at (sequential-words net) i
   own-returns i l =
-      words-equal (word-length net) _ (at (sequential-words net) i) (rw (first-size net) at (sequential-below net (first-vectors net) (2 ^ i))) (apart .below i l)
-      (λ t m. has-sequential net (first-vectors net) (2 ^ i) t (rw (first-size net) m) ∙ reads-alone net i (at (first-vectors net) t) l ∙ has-first t i m l)
+      words-equal (word-length net) _ (at (sequential-words net) i)
+      (rw (first-size net) at (sequential-below net (first-vectors net) (2 ^ i))) (apart .below i l)
+      (λ t m. has-sequential net (first-vectors net) (2 ^ i) t (rw (first-size net) m)
+      ∙ reads-alone net i (at (first-vectors net) t) l ∙ has-first t i m l)
 
 -- ---- clear nets
 
@@ -145,19 +164,24 @@ decides-only word words i = (there, back)
     other : ℕ → Bool
     other j = not (eqb j i) && eqb (at words j) word
 
-    there : eqb (at words i) word && not (any (length words) other) ≡ true → (at words i ≡ word) × ((j : ℕ) → j < length words → at words j ≡ word → j ≡ i)
+    there : eqb (at words i) word && not (any (length words) other) ≡ true
+        → (at words i ≡ word) × ((j : ℕ) → j < length words → at words j ≡ word → j ≡ i)
     there e = (
       eqb-true _ word (and-left (eqb (at words i) word) _ e),
       λ j l q. ⊎-elim (λ f. eqb-true j i f)
-          (λ f. contrary (any-at other (length words) j l (and-both (ap not f) (eq-eqb (at words j) word q))) (not-true _ (and-right (eqb (at words i) word) _ e))) (cases (eqb j i)),
+          (λ f. contrary (any-at other (length words) j l (and-both (ap not f) (eq-eqb (at words j) word q)))
+          (not-true _ (and-right (eqb (at words i) word) _ e))) (cases (eqb j i)),
     )
 
-    back : eqb (at words i) word && not (any (length words) other) ≡ false → ¬ ((at words i ≡ word) × ((j : ℕ) → j < length words → at words j ≡ word → j ≡ i))
+    back : eqb (at words i) word && not (any (length words) other) ≡ false
+        → ¬ ((at words i ≡ word) × ((j : ℕ) → j < length words → at words j ≡ word → j ≡ i))
     back e (own, alone) =
-        contrary (and-both (eq-eqb (at words i) word own) (ap not (any-none other (length words) (λ j l. ⊎-elim (same j l) (λ f. f) (cases (other j)))))) e
+        contrary (and-both (eq-eqb (at words i) word own)
+        (ap not (any-none other (length words) (λ j l. ⊎-elim (same j l) (λ f. f) (cases (other j)))))) e
       where
         same : (j : ℕ) → j < length words → other j ≡ true → other j ≡ false
-        same j l f = contrary (eq-eqb j i (alone j l (eqb-true _ word (and-right (not (eqb j i)) _ f)))) (not-true _ (and-left (not (eqb j i)) _ f))
+        same j l f = contrary (eq-eqb j i (alone j l (eqb-true _ word (and-right (not (eqb j i)) _ f))))
+            (not-true _ (and-left (not (eqb j i)) _ f))
 
 module _ (net : Network) (answers : List ℕ) where
   decides-clear : (i : ℕ) → i < net .nets → Decides (is-clear net answers i) (Clear net answers i)
@@ -170,7 +194,8 @@ module _ (net : Network) (answers : List ℕ) where
         },
         λ e c. d .1 e (
           transpose-at (net .nets) answers i l ∙ c .own,
-          λ j m q. let n : j < net .nets = rw (transpose-size (net .nets) answers) at m in c .alone j n (sym (transpose-at (net .nets) answers j n) ∙ q),
+          λ j m q. let n : j < net .nets = rw (transpose-size (net .nets) answers) at m in
+              c .alone j n (sym (transpose-at (net .nets) answers j n) ∙ q),
         ),
       )
 
@@ -205,14 +230,20 @@ module _ (net : Network) (answers : List ℕ) where
   unclear-place : (j : ℕ) → j < net .nets → is-clear net answers j ≡ false
       → (u : ℕ) × (u < length (unclear net answers)) × (at (unclear net answers) u ≡ j)
   unfolding unclear is-unclear
-  unclear-place j l e = (length (passing is-unclear j), count-grows-past is-unclear j (net .nets) l (ap not e), entry-of is-unclear (net .nets) j l (ap not e))
+  unclear-place j l e = (
+    length (passing is-unclear j),
+    count-grows-past is-unclear j (net .nets) l
+        (ap not e),
+    entry-of is-unclear (net .nets) j l (ap not e),
+  )
 
   -- they are just those that are not clear, ascending
   pub unclear-nets : UnclearNets net answers (unclear net answers)
   unfolding unclear is-unclear
   unclear-nets = record {
     below = λ u l. entry-is is-unclear (net .nets) u l .below;
-    ascending = λ u v l m. larger-by-count is-unclear _ _ (rw (entry-is is-unclear (net .nets) u (omega arith) .index, entry-is is-unclear (net .nets) v m .index) l);
+    ascending = λ u v l m. larger-by-count is-unclear _ _
+        (rw (entry-is is-unclear (net .nets) u (omega arith) .index, entry-is is-unclear (net .nets) v m .index) l);
     not-clear = λ i l. (
       λ r. decides-clear net answers i l .1 (not-true _ (rw (r .2) at (entry-is is-unclear (net .nets) (r .0) (r .1) .passes))),
       λ c. unclear-place i l (test-fails (decides-clear net answers i l) c),
@@ -222,7 +253,8 @@ module _ (net : Network) (answers : List ℕ) where
   -- where none is unclear, each is clear
   all-clear : length (unclear net answers) ≡ 0 → (i : ℕ) → i < net .nets → is-clear net answers i ≡ true
   all-clear none i l =
-      ⊎-elim (λ e. e) (λ e. let r = unclear-place i l e in absurd (not-suc-le-zero {n = 0} (omega (arith, none, r .1)))) (cases (is-clear net answers i))
+      ⊎-elim (λ e. e) (λ e. let r = unclear-place i l e in absurd (not-suc-le-zero {n = 0} (omega (arith, none, r .1))))
+      (cases (is-clear net answers i))
 
   some-unclear : (j : ℕ) → j < net .nets → is-clear net answers j ≡ false → length (unclear net answers) ≢ 0
   some-unclear j l e none = contrary (all-clear none j l) e
@@ -236,7 +268,8 @@ module _ (net : Network) (answers : List ℕ) where
   second-none none = settling-none net (unclear net answers) none
 
   -- the extra vector comes first
-  extra-in : length (unclear net answers) ≢ 0 → (0 < length (second-vectors net answers)) × (at (second-vectors net answers) 0 ≡ extra-vector net)
+  extra-in : length (unclear net answers) ≢ 0
+      → (0 < length (second-vectors net answers)) × (at (second-vectors net answers) 0 ≡ extra-vector net)
   unfolding second-vectors
   extra-in some = (omega (arith, settling-size net (unclear net answers) some), settling-extra net (unclear net answers) some)
 
@@ -267,18 +300,25 @@ module _ (net : Network) (apart : WordsApart net) (first state : List ℕ) (fits
 
   -- a clear net's reach is its own driver
   pub clear-reach : (i : ℕ) → i < net .nets → is-clear net first i ≡ true → at state i ≡ 2 ^ i
-  clear-reach i l e = own-word net apart i (at state i) l (reach-inside net (net .nets) (first-vectors net) first state fits i l) (returned i l ∙ decides-clear net first i l .0 e .own)
+  clear-reach i l e = own-word net apart i (at state i) l
+      (reach-inside net (net .nets) (first-vectors net) first state fits i l)
+      (returned i l ∙ decides-clear net first i l .0 e .own)
 
   -- which is in no unclear net's reach
-  clear-alone : (i j : ℕ) → i < net .nets → j < net .nets → is-clear net first i ≡ false → is-clear net first j ≡ true → has (at state i) j ≡ false
+  clear-alone : (i j : ℕ) → i < net .nets → j < net .nets → is-clear net first i ≡ false → is-clear net first j ≡ true
+      → has (at state i) j ≡ false
   clear-alone i j l m unclear clear = ⊎-elim meet (λ e. e) (cases (has (at state i) j))
     where
       meet : has (at state i) j ≡ true → has (at state i) j ≡ false
       meet e =
           let own : at state j ≡ 2 ^ j = clear-reach j m clear in
           let size = fits .of-class .size in
-          let same : at state i ≡ 2 ^ j = fits .of-class .meet-only-if-equal i j j (rw size l) (rw size m) m e (ap (λ (x : ℕ). has x j) own ∙ has-own j) ∙ own in
-          let q : i ≡ j = decides-clear net first j m .0 clear .alone i l (sym (returned i l) ∙ ap (sequential-response net (first-vectors net)) same ∙ own-returns net apart j m) in
+          let same : at state i ≡ 2 ^ j =
+          fits .of-class .meet-only-if-equal i j j (rw size l) (rw size m) m e
+          (ap (λ (x : ℕ). has x j) own ∙ has-own j) ∙ own in
+          let q : i ≡ j = decides-clear net first j m .0 clear .alone i l
+          (sym (returned i l) ∙ ap (sequential-response net (first-vectors net)) same
+          ∙ own-returns net apart j m) in
           contrary (ap (is-clear net first) q ∙ clear) unclear
 
 -- ---- and of one that fits the answers to both
@@ -286,10 +326,12 @@ module _ (net : Network) (apart : WordsApart net) (first state : List ℕ) (fits
 module _ (net : Network) (apart : WordsApart net) (first second state : List ℕ) (size : length first ≡ word-length net)
     (fits : Fits net (net .nets) (session-vectors net first) (first ++ second) state) where
   pub fits-first : Fits net (net .nets) (first-vectors net) first state
-  fits-first = fits-parts net (first-vectors net) (second-vectors net first) (net .nets) first second state (size ∙ sym (first-size net)) fits .0
+  fits-first = fits-parts net (first-vectors net) (second-vectors net first) (net .nets) first second state
+      (size ∙ sym (first-size net)) fits .0
 
   fits-second : Fits net (net .nets) (second-vectors net first) second state
-  fits-second = fits-parts net (first-vectors net) (second-vectors net first) (net .nets) first second state (size ∙ sym (first-size net)) fits .1
+  fits-second = fits-parts net (first-vectors net) (second-vectors net first) (net .nets) first second state
+      (size ∙ sym (first-size net)) fits .1
 
   -- an unclear receiver's reach has unclear drivers only, each with its walking vector
   unclear-drivers : (i j : ℕ) → i < net .nets → j < net .nets → is-clear net first i ≡ false → has (at state i) j ≡ true
@@ -299,7 +341,8 @@ module _ (net : Network) (apart : WordsApart net) (first second state : List ℕ
       (⊎-elim (λ f. contrary on (clear-alone net apart first state fits-first i j l m e f)) (λ f. f) (cases (is-clear net first j)))
 
   -- each reach is the smallest set that reads so
-  reach-smallest : (i set : ℕ) → i < net .nets → DriverSet net (net .nets) set → ReadAlike net (session-vectors net first) set (at state i) → at state i ≤ set
+  reach-smallest : (i set : ℕ) → i < net .nets → DriverSet net (net .nets) set
+      → ReadAlike net (session-vectors net first) set (at state i) → at state i ≤ set
   reach-smallest i set l d alike = ⊎-elim by-word by-drivers (cases (is-clear net first i))
     where
       parts : ReadAlike net (first-vectors net) set (at state i) × ReadAlike net (second-vectors net first) set (at state i)
@@ -310,23 +353,31 @@ module _ (net : Network) (apart : WordsApart net) (first second state : List ℕ
           let own : at state i ≡ 2 ^ i = clear-reach net apart first state fits-first i l e in
           let q : set ≡ 2 ^ i =
           own-word net apart i set l (d .inside)
-          (alike-sequential net (first-vectors net) set (at state i) (parts .0) ∙ ap (sequential-response net (first-vectors net)) own ∙ own-returns net apart i l) in
+          (alike-sequential net (first-vectors net) set (at state i) (parts .0)
+          ∙ ap (sequential-response net (first-vectors net)) own ∙ own-returns net apart i l) in
           omega (arith, own, q)
 
       by-drivers : is-clear net first i ≡ false → at state i ≤ set
-      by-drivers e = subset-at-most (net .nets) (at state i) set (reach-inside net (net .nets) (session-vectors net first) (first ++ second) state fits i l) (λ j m on. also j m on (unclear-drivers i j l m e on))
+      by-drivers e = subset-at-most (net .nets) (at state i) set
+          (reach-inside net (net .nets) (session-vectors net first) (first ++ second) state fits i l)
+          (λ j m on. also j m on (unclear-drivers i j l m e on))
         where
           extra : reads net set (extra-vector net) ≡ reads net (at state i) (extra-vector net)
           extra =
               let r = extra-in net first (some-unclear net first i l e) in
               ap (reads net set) (sym (r .1)) ∙ parts .1 0 (r .0) ∙ ap (reads net (at state i)) (r .1)
 
-          also : (j : ℕ) → j < net .nets → has (at state i) j ≡ true → (u : ℕ) × (u < length (second-vectors net first)) × (at (second-vectors net first) u ≡ walking-vector net j)
+          also : (j : ℕ) → j < net .nets → has (at state i) j ≡ true
+              → (u : ℕ) × (u < length (second-vectors net first))
+              × (at (second-vectors net first) u ≡ walking-vector net j)
               → has set j ≡ true
           also j m on (u, lu, w) =
               let driven : at state i ≢ 0 = has-not-zero (at state i) j on in
-              let also-driven : set ≢ 0 = eqb-false set 0 (sym (reads-extra net set) ∙ extra ∙ reads-extra net (at state i) ∙ ne-eqb (at state i) 0 driven) in
-              sym (reads-walking net set j m also-driven) ∙ ap (reads net set) (sym w) ∙ parts .1 u lu ∙ ap (reads net (at state i)) w ∙ reads-walking net (at state i) j m driven ∙ on
+              let also-driven : set ≢ 0 =
+              eqb-false set 0 (sym (reads-extra net set) ∙ extra ∙ reads-extra net (at state i)
+              ∙ ne-eqb (at state i) 0 driven) in
+              sym (reads-walking net set j m also-driven) ∙ ap (reads net set) (sym w) ∙ parts .1 u lu
+              ∙ ap (reads net (at state i)) w ∙ reads-walking net (at state i) j m driven ∙ on
 
   -- so the state is what is read back
   pub both-read-back : (no-state-fits net (net .nets) (session-vectors net first) (first ++ second) ≡ false)
@@ -336,17 +387,22 @@ module _ (net : Network) (apart : WordsApart net) (first second state : List ℕ
       (fits-size net (net .nets) (session-vectors net first) (first ++ second) state fits) state fits reach-smallest
 
   -- and what the second answers show of an unclear receiver is its reach
-  pub decoded-reach : (i reach : ℕ) → i < net .nets → is-clear net first i ≡ false → Walked net (second-vectors net first) (column second i) reach → reach ≡ at state i
+  pub decoded-reach : (i reach : ℕ) → i < net .nets → is-clear net first i ≡ false
+      → Walked net (second-vectors net first) (column second i) reach → reach ≡ at state i
   decoded-reach i reach l e w =
       let extra = extra-in net first (some-unclear net first i l e) in
       sym
       (walked-is net (second-vectors net first) (column second i) (at state i) reach
-      (reach-answers net (net .nets) (second-vectors net first) second state fits-second i l) (reach-inside net (net .nets) (session-vectors net first) (first ++ second) state fits i l) (0, extra .0, extra .1) (λ j m on. unclear-drivers i j l m e on) w)
+      (reach-answers net (net .nets) (second-vectors net first) second state fits-second i l)
+      (reach-inside net (net .nets) (session-vectors net first) (first ++ second) state fits i l)
+      (0, extra .0, extra .1) (λ j m on. unclear-drivers i j l m e on) w)
 
 -- ---- whether some state fits both
 
-module _ (net : Network) (first second : List ℕ) (size : length first ≡ word-length net) (also : length second ≡ length (second-vectors net first))
-    (narrow : (t : ℕ) → t < length first → at first t < 2 ^ (net .nets)) (also-narrow : (t : ℕ) → t < length second → at second t < 2 ^ (net .nets)) where
+module _ (net : Network) (first second : List ℕ) (size : length first ≡ word-length net)
+    (also : length second ≡ length (second-vectors net first))
+    (narrow : (t : ℕ) → t < length first → at first t < 2 ^ (net .nets))
+    (also-narrow : (t : ℕ) → t < length second → at second t < 2 ^ (net .nets)) where
   both-size : length (first ++ second) ≡ length (session-vectors net first)
   both-size = omega (arith, length-append first second, length-append (first-vectors net) (second-vectors net first), first-size net)
 
@@ -354,7 +410,8 @@ module _ (net : Network) (first second : List ℕ) (size : length first ≡ word
   both-narrow = below-parts (2 ^ (net .nets)) first second narrow also-narrow
 
   pub both-fits : no-state-fits net (net .nets) (session-vectors net first) (first ++ second) ≡ false
-      → Fits net (net .nets) (session-vectors net first) (first ++ second) (read-back net (net .nets) (session-vectors net first) (first ++ second))
+      → Fits net (net .nets) (session-vectors net first) (first ++ second)
+      (read-back net (net .nets) (session-vectors net first) (first ++ second))
   both-fits e = read-back-fits net (net .nets) (session-vectors net first) (first ++ second) both-size both-narrow e
 
   -- a test of the only reaches that can fit decides it, and finds what is read back
@@ -363,14 +420,19 @@ module _ (net : Network) (first second : List ℕ) (size : length first ≡ word
       → Decides fits (Fits net (net .nets) (session-vectors net first) (first ++ second) candidate)
       → (fits ≡ not (no-state-fits net (net .nets) (session-vectors net first) (first ++ second)))
       × (fits ≡ true → candidate ≡ read-back net (net .nets) (session-vectors net first) (first ++ second))
-  candidate-decides apart candidate fits only decides = (⊎-elim (λ e. e ∙ ap not (sym (found e .0))) (λ e. e ∙ ap not (sym (fails e))) (cases fits), λ e. sym (found e .1))
+  candidate-decides apart candidate fits only decides = (
+    ⊎-elim (λ e. e ∙ ap not (sym (found e .0))) (λ e. e ∙ ap not (sym (fails e))) (cases fits),
+    λ e. sym
+        (found e .1),
+  )
     where
       found : fits ≡ true → (no-state-fits net (net .nets) (session-vectors net first) (first ++ second) ≡ false)
           × (read-back net (net .nets) (session-vectors net first) (first ++ second) ≡ candidate)
       found e = both-read-back net apart first second candidate size (decides .0 e)
 
       fails : fits ≡ false → no-state-fits net (net .nets) (session-vectors net first) (first ++ second) ≡ true
-      fails e = candidate-fails net (net .nets) (session-vectors net first) (first ++ second) both-size both-narrow candidate only (decides .1 e)
+      fails e = candidate-fails net (net .nets) (session-vectors net first)
+          (first ++ second) both-size both-narrow candidate only (decides .1 e)
 
 -- ---- no net unclear: the fault-free state, and no other
 
@@ -400,9 +462,11 @@ module _ (net : Network) (apart : WordsApart net) (first : List ℕ) (none : len
   pub all-clear-fits : length first ≡ word-length net → ((t : ℕ) → t < length first → at first t < 2 ^ (net .nets))
       → Fits net (net .nets) (first-vectors net) first (fault-free-state net)
   all-clear-fits size narrow =
-      answers-fit net (first-vectors net) first (size ∙ sym (first-size net)) (net .nets) (fault-free-state net) (fault-free-is-state net) narrow
+      answers-fit net (first-vectors net) first (size ∙ sym (first-size net)) (net .nets) (fault-free-state net)
+      (fault-free-is-state net) narrow
       (λ i l. let m : i < net .nets = rw (fault-free-size net) at l in
-      ap (sequential-response net (first-vectors net)) (fault-free-at net i m) ∙ own-returns net apart i m ∙ sym (decides-clear net first i m .0 (all-clear net first none i m) .own))
+      ap (sequential-response net (first-vectors net)) (fault-free-at net i m) ∙ own-returns net apart i m
+      ∙ sym (decides-clear net first i m .0 (all-clear net first none i m) .own))
 
   pub all-clear-only : (state : List ℕ) → Fits net (net .nets) (first-vectors net) first state → state ≡ fault-free-state net
   all-clear-only state fits =

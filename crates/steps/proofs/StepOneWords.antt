@@ -20,7 +20,8 @@ use Rattle.words.proofs.Searching.{Least, first, nowhere, least-below, any-some
 use Rattle.words.proofs.Passing.{Entry, entry-is, entry-of, larger-by-count}
 use Rattle.words.proofs.Columns.{transpose-size, transpose-below, transpose-bits}
 use Rattle.network.specs.declared.Network.{Network}
-use Rattle.steps.specs.FirstStep.{binomial, word-length, balanced-words, sequential-words, first-vectors, WordLength, SmallestWords, VectorsOfWords}
+use Rattle.steps.specs.FirstStep.{binomial, word-length, balanced-words, sequential-words, first-vectors}
+use Rattle.steps.specs.FirstStep.{WordLength, SmallestWords, VectorsOfWords}
 use Rattle.steps.specs.Open.{open-steps}
 use Rattle.steps.proofs.WordsApart.{WordsApart}
 
@@ -108,7 +109,9 @@ module _ (p : ℕ) (two : 2 ≤ p) (eight : p ≤ 8) where
       let words = balanced-words p in
       let test : ℕ → ℕ → Bool = λ x y. not (eqb x y) && covers p (at words x) (at words y) in
       let none : some-covers p words ≡ false = none-from-two (λ q. some-covers q (balanced-words q)) 7 none-covers p two (omega arith) in
-      let here : test i j ≡ false = any-false (test i) (length words) j m (any-false (λ x. any (length words) (test x)) (length words) i l none) in
+      let here : test i j ≡ false =
+      any-false (test i) (length words) j m
+      (any-false (λ x. any (length words) (test x)) (length words) i l none) in
       let r = any-some (λ t. has (at words j) t && not (has (at words i) t)) p (not-false _ (rw (ne-eqb i j d) at here)) in
       let b = has (at words j) (r .0) in
       let a = has (at words i) (r .0) in
@@ -146,12 +149,14 @@ module _ (net : Network) (two : 2 ≤ net .nets) (most : net .nets ≤ 48) where
   module _ (p : ℕ) (up-to : p ≤ word-length net) where
     pub length-further : at central-numbers p < net .nets → p < word-length net
     length-further l =
-        let here : p ≡ word-length net → ⊥ = λ e. let enough = rw (← e) at (word-length-is .enough) in omega (arith, central-is p (omega (arith, length-bounds))) in
+        let here : p ≡ word-length net → ⊥ = λ e. let enough = rw (← e) at (word-length-is .enough) in
+        omega (arith, central-is p (omega (arith, length-bounds))) in
         omega (arith, here)
 
     pub length-reached : net .nets ≤ at central-numbers p → p ≡ word-length net
     length-reached l =
-        let not-less : p < word-length net → ⊥ = λ m. omega (arith, word-length-is .smallest p m, central-is p (omega (arith, length-bounds))) in
+        let not-less : p < word-length net
+        → ⊥ = λ m. omega (arith, word-length-is .smallest p m, central-is p (omega (arith, length-bounds))) in
         omega (arith, not-less)
 
   -- ---- the words themselves
@@ -177,7 +182,8 @@ module _ (net : Network) (two : 2 ≤ net .nets) (most : net .nets ≤ 48) where
     ascending = λ i j l m. larger-by-count (balanced net) _ _ (rw (word-is i (omega arith) .index, word-is j m .index) l);
     smallest = λ w l e. ⊎-elim
         (λ m. inl (length (passing (balanced net) w), m, word-at _ m ∙ entry-of (balanced net) (2 ^ word-length net) w l (eq-eqb _ _ e)))
-        (λ (m : net .nets ≤ length (passing (balanced net) w)). inr (λ i k. larger-by-count (balanced net) _ _ (rw (word-is i k .index) (omega arith))))
+        (λ (m : net .nets ≤ length (passing (balanced net) w)). inr
+        (λ i k. larger-by-count (balanced net) _ _ (rw (word-is i k .index) (omega arith))))
         (less-or-not (length (passing (balanced net) w)) (net .nets));
   }
 
@@ -190,7 +196,9 @@ module _ (net : Network) (two : 2 ≤ net .nets) (most : net .nets ≤ 48) where
         below = λ i l. word-is i l .below;
         has-gap = λ i l. rw (word-at i l) (balanced-gap p (bounds .0) (bounds .1) i (omega (arith, enough-words)));
         uncovered = λ i j l m d.
-            rw (word-at i l, word-at j m) (balanced-apart p (bounds .0) (bounds .1) i j (omega (arith, enough-words)) (omega (arith, enough-words)) d);
+            rw (word-at i l, word-at j m)
+            (balanced-apart p (bounds .0) (bounds .1) i j (omega (arith, enough-words))
+            (omega (arith, enough-words)) d);
       }
 
 -- ---- the vectors
@@ -204,7 +212,8 @@ pub first-has : (net : Network) (t i : ℕ) → t < word-length net → i < leng
 unfolding first-vectors
 first-has net t i l m = transpose-bits (word-length net) (sequential-words net) t i m l
 
-pub vectors-of-words : (net : Network) → 2 ≤ net .nets → net .nets ≤ 48 → VectorsOfWords net (word-length net) (sequential-words net) (first-vectors net)
+pub vectors-of-words : (net : Network) → 2 ≤ net .nets → net .nets ≤ 48
+    → VectorsOfWords net (word-length net) (sequential-words net) (first-vectors net)
 unfolding first-vectors
 vectors-of-words net two most = record {
   one-a-bit = first-size net;

@@ -24,13 +24,15 @@ use Rattle.steps.proofs.BothSteps.{second-none}
 
 -- ---- no vectors where no net is given, and else the extra vector first
 
-settling-some : (net : Network) (nets : List ℕ) → length nets ≢ 0 → extra-vector net ∷ map (walking-vector net) nets ≡ settling-vectors net nets
+settling-some : (net : Network) (nets : List ℕ) → length nets ≢ 0
+    → extra-vector net ∷ map (walking-vector net) nets ≡ settling-vectors net nets
 settling-some net [] n = absurd (n refl)
 settling-some net (i ∷ nets) n = refl
 
 settling-empty : (net : Network) (nets : List ℕ) → eqb (length (settling-vectors net nets)) 0 ≡ eqb (length nets) 0
 settling-empty net [] = refl
-settling-empty net (i ∷ nets) = ne-eqb (length (settling-vectors net (i ∷ nets))) 0 (λ e. omega arith) ∙ sym (ne-eqb (suc (length nets)) 0 (λ e. omega arith))
+settling-empty net (i ∷ nets) = ne-eqb (length (settling-vectors net (i ∷ nets))) 0 (λ e. omega arith)
+    ∙ sym (ne-eqb (suc (length nets)) 0 (λ e. omega arith))
 
 pub second-empty : (net : Network) (answers : List ℕ) → eqb (length (second-vectors net answers)) 0 ≡ eqb (length (unclear net answers)) 0
 unfolding second-vectors
@@ -91,7 +93,8 @@ module _ (net : Network) (words returned : List ℕ) where
 
     pub listed-same : only-at (at words i) returned i ≡ true → Listed net words returned vectors count (i + 1)
     listed-same e =
-        let same : unclear-below words returned (i + 1) ≡ unclear-below words returned i = rw (add-one i) (passing-no (λ z. not (only-at (at words z) returned z)) i (ap not e)) in
+        let same : unclear-below words returned (i + 1) ≡ unclear-below words returned i =
+        rw (add-one i) (passing-no (λ z. not (only-at (at words z) returned z)) i (ap not e)) in
         record {
           size = s .size;
           few = omega (arith, s .few);

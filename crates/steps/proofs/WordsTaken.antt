@@ -1,4 +1,5 @@
--- The loop that gathers the sequential words of step one: each number from 0 on is tried, and taken if it has half ones.
+-- The loop that gathers the sequential words of step one: each number from 0 on is tried, and taken if it has half
+-- ones.
 use mathlib.Core.Path.{_≡_, refl, sym, ap, _∙_}
 use mathlib.Core.Bool.{true, false}
 use mathlib.Core.List.{List, [], _∷_, _++_}
@@ -35,14 +36,16 @@ module _ (net : Network) where
         let not-all : word ≡ 2 ^ word-length net → ⊥ = λ e. let c = rw e at (so-far .counted) in omega (arith, enough-words net two most) in
         omega (arith, so-far .inside, not-all)
 
-    pub word-taken : count < net .nets → count < length words → ones word ≡ word-length net / 2 → WordsTaken (set words count word) (count + 1) (word + 1)
+    pub word-taken : count < net .nets → count < length words → ones word ≡ word-length net / 2
+        → WordsTaken (set words count word) (count + 1) (word + 1)
     word-taken l room e =
         let low : word < 2 ^ word-length net = more-to-try l in
         let passes : balanced net word ≡ true = eq-eqb _ _ (ones-counted (word-length net) word low ∙ e) in
         rw (add-one count, add-one word) (record {
           inside = low;
           counted = count-passed (balanced net) word passes ∙ ap suc (so-far .counted);
-          front = take-suc-set words count word room ∙ ap (λ (l : List ℕ). l ++ word ∷ []) (so-far .front) ∙ sym (passing-yes (balanced net) word passes);
+          front = take-suc-set words count word room ∙ ap (λ (l : List ℕ). l ++ word ∷ []) (so-far .front)
+              ∙ sym (passing-yes (balanced net) word passes);
         })
 
     pub word-left : count < net .nets → (ones word ≡ word-length net / 2 → ⊥) → WordsTaken words count (word + 1)
@@ -59,5 +62,6 @@ module _ (net : Network) where
     unfolding sequential-words balanced-words
     all-taken e =
         let c : length (passing (balanced net) word) ≡ net .nets = so-far .counted ∙ e in
-        ap (λ (n : ℕ). take n words) (sym e) ∙ so-far .front ∙ sym (passing-front (balanced net) word (2 ^ word-length net) (so-far .inside))
+        ap (λ (n : ℕ). take n words) (sym e) ∙ so-far .front
+        ∙ sym (passing-front (balanced net) word (2 ^ word-length net) (so-far .inside))
         ∙ ap (λ (n : ℕ). take n (balanced-words (word-length net))) c

@@ -44,7 +44,8 @@ pub record SmallestWords (net : Network) (p : ℕ) (words : List ℕ) : Type 0 w
   pub half-ones : (i : ℕ) → i < net .nets → ones-of p (at words i) ≡ p / 2
   pub ascending : (i j : ℕ) → i < j → j < net .nets → at words i < at words j
   -- every other such word is larger than all of them
-  pub smallest : (w : ℕ) → w < 2 ^ p → ones-of p w ≡ p / 2 → ((i : ℕ) × (i < net .nets) × (at words i ≡ w)) ⊎ ((i : ℕ) → i < net .nets → at words i < w)
+  pub smallest : (w : ℕ) → w < 2 ^ p → ones-of p w ≡ p / 2
+      → ((i : ℕ) × (i < net .nets) × (at words i ≡ w)) ⊎ ((i : ℕ) → i < net .nets → at words i < w)
 
 -- The words of p bits turned into p vectors: bit t of net i's word is bit i of vector t, and there are no other bits.
 pub record VectorsOfWords (net : Network) (p : ℕ) (words vectors : List ℕ) : Type 0 where

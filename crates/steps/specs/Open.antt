@@ -5,5 +5,6 @@ use Rattle.steps.specs.FirstStep.{binomial, word-length, balanced-words,
 use Rattle.steps.specs.SecondStep.{only-at, is-clear, unclear, second-vectors, fault-free-state}
 
 unfoldable pub open-steps : ℕ
-unfolding open-diagnosis binomial word-length balanced-words sequential-words first-vectors only-at is-clear unclear second-vectors fault-free-state
+unfolding open-diagnosis binomial word-length balanced-words sequential-words first-vectors only-at is-clear unclear
+    second-vectors fault-free-state
 open-steps = 0

@@ -19,8 +19,8 @@ only-at word words i =
     let other = any (length words) (λ j. not (eqb j i) && eqb (at words j) word) in
     eqb (at words i) word && not other
 
--- net i is clear if receiver i returned its own sequential word and no other receiver did; the answers turned are what the
--- receivers returned
+-- net i is clear if receiver i returned its own sequential word and no other receiver did; the answers turned are what
+-- the receivers returned
 unfoldable pub is-clear : Network → List ℕ → ℕ → Bool
 is-clear net answers i = only-at (at (sequential-words net) i) (transpose (net .nets) answers) i
 

@@ -1,5 +1,5 @@
-// The vectors of step two. Helpers between crates: the nets are those that row 5 admits, there are at most 64 answers, and an index is
-// inside its list.
+// The vectors of step two. Helpers between crates: the nets are those that row 5 admits, there are at most 64 answers,
+// and an index is inside its list.
 ghost use mathlib.Core.Path.{_≡_};
 ghost use mathlib.Core.List.{List};
 ghost use Prim.Native.Nat.{ℕ, _<_, _≤_};
@@ -28,10 +28,14 @@ pub fn only_at(word: u64, words: &[u64], i: usize) -> bool
     true
 }
 
-// The extra vector, then the walking vector of each net whose word its own receiver alone did not return; none if there is no such net.
+// The extra vector, then the walking vector of each net whose word its own receiver alone did not return; none if there
+// is no such net.
 fn vectors_for_unclear(net: Network, words: &[u64], returned: &[u64]) -> SecondVectors
-    requires { ⌜ (net .nets ≤ 48) × (now words ≡ sequential-words net) × (length (now words) ≡ net .nets) × (length (now returned) ≡ net .nets) ⌝ }
-    ensures { λ r. ⌜ ((answers : List ℕ) → now (returned .entry) ≡ transpose (net .nets) answers → (length (r .words) ≡ 49) × (r .count ≤ 49) × (take (r .count) (r .words) ≡ second-vectors net answers)) ⌝ }
+    requires { ⌜ (net .nets ≤ 48) × (now words ≡ sequential-words net) × (length (now words) ≡ net .nets)
+        × (length (now returned) ≡ net .nets) ⌝ }
+    ensures { λ r. ⌜ ((answers : List ℕ) → now (returned .entry) ≡ transpose (net .nets) answers
+        → (length (r .words) ≡ 49) × (r .count ≤ 49)
+        × (take (r .count) (r .words) ≡ second-vectors net answers)) ⌝ }
 {
     let mut vectors = [0u64; 49];
     vectors[0] = network::drivers::extra_vector(net).0;
@@ -56,7 +60,8 @@ fn vectors_for_unclear(net: Network, words: &[u64], returned: &[u64]) -> SecondV
 // The vectors of step two, by the first answers.
 pub fn second_vectors(net: Network, answers: &[u64]) -> SecondVectors
     requires { ⌜ (2 ≤ net .nets) × (net .nets ≤ 48) × (length (now answers) ≤ 64) ⌝ }
-    ensures { λ r. ⌜ (length (r .words) ≡ 49) × (r .count ≤ 49) × (take (r .count) (r .words) ≡ second-vectors net (now (answers .entry))) ⌝ }
+    ensures { λ r. ⌜ (length (r .words) ≡ 49) × (r .count ≤ 49)
+        × (take (r .count) (r .words) ≡ second-vectors net (now (answers .entry))) ⌝ }
 {
     let n = net.nets as usize;
     let words = crate::first::sequential_words(net);

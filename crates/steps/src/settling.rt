@@ -1,5 +1,5 @@
-// How the answers of both steps give the state. Helpers between crates: the nets are those that row 5 admits, the vectors of step two are
-// those that the first answers ask for, and there are as many answers as vectors.
+// How the answers of both steps give the state. Helpers between crates: the nets are those that row 5 admits, the
+// vectors of step two are those that the first answers ask for, and there are as many answers as vectors.
 ghost use mathlib.Core.Path.{_≡_};
 ghost use mathlib.Core.Bool.{true, not};
 ghost use mathlib.Core.List.{List, _++_};
@@ -31,8 +31,11 @@ pub fn fault_free(net: Network) -> [u64; 48]
 
 // The only reaches that can fit: a clear net's own driver, and of any other receiver what its second answers show.
 fn decoded(net: Network, first: &[u64], vectors: &[u64], second: &[u64]) -> [u64; 48]
-    requires { ⌜ (2 ≤ net .nets) × (net .nets ≤ 48) × (length (now first) ≡ word-length net) × (now vectors ≡ second-vectors net (now first)) × (length (now second) ≡ length (now vectors)) ⌝ }
-    ensures { λ r. ⌜ (length r ≡ 48) × ((state : List ℕ) → Fits net (net .nets) (session-vectors net (now (first .entry))) (now (first .entry) ++ now (second .entry)) state → take (net .nets) r ≡ state) ⌝ }
+    requires { ⌜ (2 ≤ net .nets) × (net .nets ≤ 48) × (length (now first) ≡ word-length net)
+        × (now vectors ≡ second-vectors net (now first)) × (length (now second) ≡ length (now vectors)) ⌝ }
+    ensures { λ r. ⌜ (length r ≡ 48)
+        × ((state : List ℕ) → Fits net (net .nets) (session-vectors net (now (first .entry)))
+        (now (first .entry) ++ now (second .entry)) state → take (net .nets) r ≡ state) ⌝ }
 {
     let n = net.nets as usize;
     let words = crate::first::sequential_words(net);
@@ -53,8 +56,12 @@ fn decoded(net: Network, first: &[u64], vectors: &[u64], second: &[u64]) -> [u64
 
 // Whether these reaches are a state that fits the answers of both steps.
 fn fits_both(net: Network, first: &[u64], vectors: &[u64], second: &[u64], state: &[u64]) -> bool
-    requires { ⌜ (2 ≤ net .nets) × (net .nets ≤ 48) × (length (now first) ≡ word-length net) × (now vectors ≡ second-vectors net (now first)) × (length (now second) ≡ length (now vectors)) × (length (now state) ≡ net .nets) ⌝ }
-    ensures { λ r. ⌜ Decides r (Fits net (net .nets) (session-vectors net (now (first .entry))) (now (first .entry) ++ now (second .entry)) (now (state .entry))) ⌝ }
+    requires { ⌜ (2 ≤ net .nets) × (net .nets ≤ 48) × (length (now first) ≡ word-length net)
+        × (now vectors ≡ second-vectors net (now first)) × (length (now second) ≡ length (now vectors))
+        × (length (now state) ≡ net .nets) ⌝ }
+    ensures { λ r. ⌜ Decides r
+        (Fits net (net .nets) (session-vectors net (now (first .entry))) (now (first .entry) ++ now (second .entry))
+        (now (state .entry))) ⌝ }
 {
     if network::refusals::not_a_state(net, net.nets, state) {
         return false;
@@ -69,8 +76,15 @@ fn fits_both(net: Network, first: &[u64], vectors: &[u64], second: &[u64], state
 
 // The state that fits the answers of both steps, if there is one.
 pub fn settled(net: Network, first: &[u64], vectors: &[u64], second: &[u64]) -> Settled
-    requires { ⌜ (2 ≤ net .nets) × (net .nets ≤ 48) × (length (now first) ≡ word-length net) × (now vectors ≡ second-vectors net (now first)) × (length (now second) ≡ length (now vectors)) × (HighBit net (now first) → ⊥) × (HighBit net (now second) → ⊥) ⌝ }
-    ensures { λ r. ⌜ (length (r .state) ≡ 48) × (r .fits ≡ not (no-state-fits net (net .nets) (session-vectors net (now (first .entry))) (now (first .entry) ++ now (second .entry)))) × (r .fits ≡ true → take (net .nets) (r .state) ≡ read-back net (net .nets) (session-vectors net (now (first .entry))) (now (first .entry) ++ now (second .entry))) ⌝ }
+    requires { ⌜ (2 ≤ net .nets) × (net .nets ≤ 48) × (length (now first) ≡ word-length net)
+        × (now vectors ≡ second-vectors net (now first)) × (length (now second) ≡ length (now vectors))
+        × (HighBit net (now first) → ⊥) × (HighBit net (now second) → ⊥) ⌝ }
+    ensures { λ r. ⌜ (length (r .state) ≡ 48)
+        × (r .fits ≡ not (no-state-fits net (net .nets) (session-vectors net (now (first .entry)))
+        (now (first .entry) ++ now (second .entry))))
+        × (r .fits ≡ true → take (net .nets) (r .state)
+        ≡ read-back net (net .nets) (session-vectors net (now (first .entry)))
+        (now (first .entry) ++ now (second .entry))) ⌝ }
 {
     let n = net.nets as usize;
     let state = decoded(net, first, vectors, second);

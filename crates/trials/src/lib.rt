@@ -1,4 +1,5 @@
-// What the programs that try tables of calls share: the input, the lines of a table, the numbers in a line, and what is shown of a call.
+// What the programs that try tables of calls share: the input, the lines of a table, the numbers in a line, and what is
+// shown of a call.
 ghost use Rattle.io.specs.Counts.{Counts};
 
 pub mod lent;
@@ -12,7 +13,8 @@ pub enum Line {
     Call,
 }
 
-// Empty lines and lines that begin with `#` are skipped, and a line that begins with a letter names the calls of the lines after it.
+// Empty lines and lines that begin with `#` are skipped, and a line that begins with a letter names the calls of the
+// lines after it.
 pub fn kind_of(line: &[u8]) -> Line {
     if line.len() == 0 {
         return Line::Skipped;
@@ -26,8 +28,8 @@ pub fn kind_of(line: &[u8]) -> Line {
     Line::Call
 }
 
-// Reads standard input to its end, and returns how many bytes it has; none where the buffer is too short for it or a read fails. A read after the
-// end answers 0.
+// Reads standard input to its end, and returns how many bytes it has; none where the buffer is too short for it or a
+// read fails. A read after the end answers 0.
 pub fn input(buffer: &mut [u8]) -> usize
     ensures { λ r. ⌜ Counts r (now (buffer .exit)) ⌝ }
 {

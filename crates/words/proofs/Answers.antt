@@ -7,11 +7,13 @@ use Prim.Native.Nat.{ℕ, _≤_}
 use native.Mathlib.Omega.{arith}
 use lib.ListN.{length, take, drop, length-append}
 use lib.Seq.{drop-append-seam, take-append-seam}
-use Rattle.words.specs.Answers.{Answer, refused, full, ByTable, NoneHolds, by-tests, Decided, lent-after, count-of, Filled, FillsByTable}
+use Rattle.words.specs.Answers.{Answer, refused, full, ByTable, NoneHolds, by-tests, Decided, lent-after}
+use Rattle.words.specs.Answers.{count-of, Filled, FillsByTable}
 
 -- no answer is both a refusal and a full result
 pub refused-not-full : {A B : Type 0} {number : ℕ} {x : A} {a : Answer A} → a ≡ refused number → a ≡ full x → B
-refused-not-full {number = number} {x = x} p q = let e : refused number ≡ full x = sym p ∙ q in let z : _≡_ {A = ℕ} 0 1 = cc in absurd (omega arith)
+refused-not-full {number = number} {x = x} p q = let e : refused number ≡ full x = sym p ∙ q in
+    let z : _≡_ {A = ℕ} 0 1 = cc in absurd (omega arith)
 
 module _ {A : Type 0} (result : A → Type 0) where
   -- tests that decide their rows give the answer that the rows allow
@@ -24,8 +26,10 @@ module _ {A : Type 0} (result : A → Type 0) where
   tests-by-table ((number, holds) ∷ rows) ((number′, test) ∷ tests) x (same, decides, rest) r =
       go test (decides .0) (decides .1) (λ n. tests-by-table rows tests x (rest n))
     where
-      go : (t : Bool) → (t ≡ true → holds) → (t ≡ false → ¬ holds) → (¬ holds → (NoneHolds rows → result x) → ByTable rows result (by-tests tests x))
-          → (holds × (cond t (refused number′) (by-tests tests x) ≡ refused number)) ⊎ ((¬ holds) × ByTable rows result (cond t (refused number′) (by-tests tests x)))
+      go : (t : Bool) → (t ≡ true → holds) → (t ≡ false → ¬ holds)
+          → (¬ holds → (NoneHolds rows → result x) → ByTable rows result (by-tests tests x))
+          → (holds × (cond t (refused number′) (by-tests tests x) ≡ refused number)) ⊎
+          ((¬ holds) × ByTable rows result (cond t (refused number′) (by-tests tests x)))
       go true yes! no! later = inl (yes! refl, ap refused (sym same))
       go false yes! no! later = inr (no! refl, later (no! refl) (λ n. r (no! refl, n)))
 
@@ -70,7 +74,8 @@ module _ {A : Type 0} (result : A → Type 0) where
   table-not-refused ((other, holds) ∷ rows) number (n, m) (inl (h, e)) = n h
   table-not-refused ((other, holds) ∷ rows) number (n, m) (inr (k, p)) = table-not-refused rows number m p
 
-pub decided-append : (rows more : List (ℕ × Type 0)) (tests others : List (ℕ × Bool)) → Decided rows tests → (NoneHolds rows → Decided more others)
+pub decided-append : (rows more : List (ℕ × Type 0)) (tests others : List (ℕ × Bool)) → Decided rows tests
+    → (NoneHolds rows → Decided more others)
     → Decided (rows ++ more) (tests ++ others)
 decided-append [] more [] others d e = e tt
 decided-append [] more (t ∷ tests) others d e = absurd d
@@ -79,14 +84,17 @@ decided-append ((number, holds) ∷ rows) more ((number′, test) ∷ tests) oth
     (same, decides, λ n. decided-append rows more tests others (rest n) (λ m. e (n, m)))
 
 -- where the tests let a call through, no row holds
-pub let-through : {A : Type 0} (rows : List (ℕ × Type 0)) (tests : List (ℕ × Bool)) (x y : A) → Decided rows tests → by-tests tests x ≡ full y → NoneHolds rows
+pub let-through : {A : Type 0} (rows : List (ℕ × Type 0)) (tests : List (ℕ × Bool)) (x y : A) → Decided rows tests
+    → by-tests tests x ≡ full y → NoneHolds rows
 unfolding by-tests
 let-through [] [] x y d e = tt
 let-through [] (t ∷ tests) x y d e = absurd d
 let-through (r ∷ rows) [] x y d e = absurd d
-let-through ((number, holds) ∷ rows) ((number′, test) ∷ tests) x y (same, decides, rest) e = go test (decides .1) e (λ n. let-through rows tests x y (rest n))
+let-through ((number, holds) ∷ rows) ((number′, test) ∷ tests) x y (same, decides, rest) e =
+    go test (decides .1) e (λ n. let-through rows tests x y (rest n))
   where
-    go : (t : Bool) → (t ≡ false → ¬ holds) → cond t (refused number′) (by-tests tests x) ≡ full y → (¬ holds → by-tests tests x ≡ full y → NoneHolds rows)
+    go : (t : Bool) → (t ≡ false → ¬ holds) → cond t (refused number′) (by-tests tests x) ≡ full y
+        → (¬ holds → by-tests tests x ≡ full y → NoneHolds rows)
         → (¬ holds) × NoneHolds rows
     go true no! q later = refused-not-full refl q
     go false no! q later = (no! refl, later (no! refl) q)
@@ -115,12 +123,14 @@ full-answer ((number, test) ∷ tests) x (e, h) = rw e (full-answer tests x h)
 
 -- first tests that several calls share, then a call's own
 module _ {A B : Type 0} (x : A) (y : B) where
-  pub shared-refuse : (tests more : List (ℕ × Bool)) (number : ℕ) → by-tests tests x ≡ refused number → by-tests (tests ++ more) y ≡ refused number
+  pub shared-refuse : (tests more : List (ℕ × Bool)) (number : ℕ) → by-tests tests x ≡ refused number
+      → by-tests (tests ++ more) y ≡ refused number
   unfolding by-tests
   shared-refuse [] more number e = refused-not-full e refl
   shared-refuse ((n, test) ∷ tests) more number e = go test e (shared-refuse tests more number)
     where
-      go : (t : Bool) → cond t (refused n) (by-tests tests x) ≡ refused number → (by-tests tests x ≡ refused number → by-tests (tests ++ more) y ≡ refused number)
+      go : (t : Bool) → cond t (refused n) (by-tests tests x) ≡ refused number
+          → (by-tests tests x ≡ refused number → by-tests (tests ++ more) y ≡ refused number)
           → cond t (refused n) (by-tests (tests ++ more) y) ≡ refused number
       go true q later = let same : n ≡ number = cc in ap refused same
       go false q later = later q
@@ -130,7 +140,8 @@ module _ {A B : Type 0} (x : A) (y : B) where
   shared-pass [] more z e = refl
   shared-pass ((n, test) ∷ tests) more z e = go test e (shared-pass tests more z)
     where
-      go : (t : Bool) → cond t (refused n) (by-tests tests x) ≡ full z → (by-tests tests x ≡ full z → by-tests (tests ++ more) y ≡ by-tests more y)
+      go : (t : Bool) → cond t (refused n) (by-tests tests x) ≡ full z
+          → (by-tests tests x ≡ full z → by-tests (tests ++ more) y ≡ by-tests more y)
           → cond t (refused n) (by-tests (tests ++ more) y) ≡ by-tests more y
       go true q later = refused-not-full refl q
       go false q later = later q
@@ -151,11 +162,13 @@ module _ {A : Type 0} where
   written-fits xs old = let both = length-append xs (drop (length xs) old) in omega arith
 
   -- what a call that fills a list owes when it refuses, and when it has written
-  pub owed-refused : (a : Answer (List A)) (number : ℕ) (lent : List A) → a ≡ refused number → (refused number ≡ count-of a) × (lent ≡ lent-after a lent)
+  pub owed-refused : (a : Answer (List A)) (number : ℕ) (lent : List A) → a ≡ refused number
+      → (refused number ≡ count-of a) × (lent ≡ lent-after a lent)
   unfolding count-of lent-after
   owed-refused a number lent e = (rw e, rw e)
 
-  pub owed-full : (a : Answer (List A)) (count : ℕ) (xs lent list : List A) → a ≡ full xs → count ≡ length xs → list ≡ lent-after (full xs) lent
+  pub owed-full : (a : Answer (List A)) (count : ℕ) (xs lent list : List A) → a ≡ full xs → count ≡ length xs
+      → list ≡ lent-after (full xs) lent
       → (full count ≡ count-of a) × (list ≡ lent-after a lent)
   unfolding count-of
   owed-full a count xs lent list e n l = (rw e (ap full n), rw e l)

@@ -73,7 +73,9 @@ subset-at-most zero a b ha e = let q : a ≡ 0 = lt-one ha in omega arith
 subset-at-most (suc n) a b ha e =
     let rest : a / 2 ≤ b / 2 =
     subset-at-most n (a / 2) (b / 2) (half-below n ha) (λ i l h. sym (has-half b i) ∙ e (suc i) (omega arith) (has-half a i ∙ h)) in
-    let here : a % 2 ≤ b % 2 = bit-at-most (a % 2) (b % 2) (mod-lt a two-positive) (λ h. sym (has-low b) ∙ e 0 (omega arith) (has-low a ∙ h)) in
+    let here : a % 2 ≤ b % 2 =
+    bit-at-most (a % 2) (b % 2) (mod-lt a two-positive)
+    (λ h. sym (has-low b) ∙ e 0 (omega arith) (has-low a ∙ h)) in
     omega arith
 
 -- ---- a word made of its lowest bit and the rest
@@ -130,7 +132,8 @@ all-suc n = let h = pow-pos n in omega arith
 pub has-all : (n i : ℕ) → i < n → has (2 ^ n - 1) i ≡ true
 has-all zero i l = absurd (not-suc-le-zero l)
 has-all (suc n) zero l = ap (λ (x : ℕ). has x 0) (all-suc n) ∙ has-lowest 1 (2 ^ n - 1) (omega arith)
-has-all (suc n) (suc i) l = ap (λ (x : ℕ). has x (suc i)) (all-suc n) ∙ has-rest 1 (2 ^ n - 1) i (omega arith) ∙ has-all n i (le-of-suc-le-suc l)
+has-all (suc n) (suc i) l = ap (λ (x : ℕ). has x (suc i)) (all-suc n) ∙ has-rest 1 (2 ^ n - 1) i (omega arith)
+    ∙ has-all n i (le-of-suc-le-suc l)
 
 but-zero : (n : ℕ) → 2 ^ suc n - 1 - 2 ^ 0 ≡ 0 + 2 * (2 ^ n - 1)
 but-zero n = let h = pow-pos n in omega arith
@@ -142,9 +145,11 @@ pub has-all-but : (n i j : ℕ) → i < n → j < n → has (2 ^ n - 1 - 2 ^ i) 
 has-all-but zero i j l m = absurd (not-suc-le-zero l)
 has-all-but (suc n) zero zero l m = ap (λ (x : ℕ). has x 0) (but-zero n) ∙ has-lowest 0 (2 ^ n - 1) (omega arith)
 has-all-but (suc n) zero (suc j) l m =
-    ap (λ (x : ℕ). has x (suc j)) (but-zero n) ∙ has-rest 0 (2 ^ n - 1) j (omega arith) ∙ has-all n j (le-of-suc-le-suc m) ∙ sym (ap not (eqb·zero-suc j))
+    ap (λ (x : ℕ). has x (suc j)) (but-zero n) ∙ has-rest 0 (2 ^ n - 1) j (omega arith)
+    ∙ has-all n j (le-of-suc-le-suc m) ∙ sym (ap not (eqb·zero-suc j))
 has-all-but (suc n) (suc i) zero l m =
-    ap (λ (x : ℕ). has x 0) (but-suc n i (le-of-suc-le-suc l)) ∙ has-lowest 1 (2 ^ n - 1 - 2 ^ i) (omega arith) ∙ sym (ap not (eqb·suc-zero i))
+    ap (λ (x : ℕ). has x 0) (but-suc n i (le-of-suc-le-suc l)) ∙ has-lowest 1 (2 ^ n - 1 - 2 ^ i) (omega arith)
+    ∙ sym (ap not (eqb·suc-zero i))
 has-all-but (suc n) (suc i) (suc j) l m =
     ap (λ (x : ℕ). has x (suc j)) (but-suc n i (le-of-suc-le-suc l)) ∙ has-rest 1 (2 ^ n - 1 - 2 ^ i) j (omega arith)
     ∙ has-all-but n i j (le-of-suc-le-suc l) (le-of-suc-le-suc m) ∙ sym (ap not (eqb·suc-suc i j))
@@ -153,9 +158,11 @@ has-all-but (suc n) (suc i) (suc j) l m =
 
 some-bit-differs : (n a b : ℕ) → a < 2 ^ n → b < 2 ^ n → a ≢ b → (i : ℕ) × (i < n) × (has a i ≢ has b i)
 some-bit-differs zero a b ha hb d = absurd (d (lt-one ha ∙ sym (lt-one hb)))
-some-bit-differs (suc n) a b ha hb d = go (has a 0) (has b 0) refl refl (some-bit-differs n (a / 2) (b / 2) (half-below n ha) (half-below n hb))
+some-bit-differs (suc n) a b ha hb d =
+    go (has a 0) (has b 0) refl refl (some-bit-differs n (a / 2) (b / 2) (half-below n ha) (half-below n hb))
   where
-    later : (a / 2 ≢ b / 2 → (i : ℕ) × (i < n) × (has (a / 2) i ≢ has (b / 2) i)) → has a 0 ≡ has b 0 → (i : ℕ) × (i < suc n) × (has a i ≢ has b i)
+    later : (a / 2 ≢ b / 2 → (i : ℕ) × (i < n) × (has (a / 2) i ≢ has (b / 2) i)) → has a 0 ≡ has b 0
+        → (i : ℕ) × (i < suc n) × (has a i ≢ has b i)
     later ih e =
         let low : a % 2 ≡ b % 2 =
         same-bit (a % 2) (b % 2) (mod-lt a two-positive) (mod-lt b two-positive) (sym (has-low a) ∙ e ∙ has-low b) in

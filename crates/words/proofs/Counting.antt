@@ -39,7 +39,12 @@ class-size-grows zero (suc k) m j h l = class-size-positive m j
 class-size-grows (suc n) (suc k) zero j h l = absurd (not-suc-le-zero h)
 class-size-grows (suc n) (suc k) (suc m) zero h l = absurd (not-suc-le-zero l)
 class-size-grows (suc n) (suc k) (suc m) (suc j) h l =
-    omega (arith, class-size-grows n (suc k) m (suc j) (le-of-suc-le-suc h) l, class-size-grows n k m j (le-of-suc-le-suc h) (le-of-suc-le-suc l))
+    omega (
+      arith,
+      class-size-grows n (suc k) m (suc j) (le-of-suc-le-suc h) l,
+      class-size-grows n k m j
+          (le-of-suc-le-suc h) (le-of-suc-le-suc l),
+    )
 
 class-size-largest : class-size 48 3 ≡ 18473
 unfolding class-size
@@ -50,13 +55,15 @@ ones-top : (n z : ℕ) → z < 2 ^ n → ones (2 ^ n + z) ≡ suc (ones z)
 unfolding ones
 ones-top n z l = let e = rw (one-mul (2 ^ n)) at (ones-cat n 1 z l) in omega arith
 
-sets-double : (n k : ℕ) → length (sets-of-class k (2 ^ suc n)) ≡ length (sets-of-class k (2 ^ n)) + length (passing (λ z. leb (suc (ones z)) k) (2 ^ n))
+sets-double : (n k : ℕ) → length (sets-of-class k (2 ^ suc n))
+    ≡ length (sets-of-class k (2 ^ n)) + length (passing (λ z. leb (suc (ones z)) k) (2 ^ n))
 unfolding sets-of-class
 sets-double n k =
     let p : ℕ → Bool = λ z. leb (ones z) k in
     let twice : 2 ^ suc n ≡ 2 ^ n + 2 ^ n = omega arith in
     ap (λ (x : ℕ). length (passing p x)) twice ∙ count-parts p (2 ^ n) (2 ^ n)
-    ∙ ap (λ (x : List ℕ). length (passing p (2 ^ n)) + length x) (passing-same _ _ (2 ^ n) (λ z l. ap (λ (x : ℕ). leb x k) (ones-top n z l)))
+    ∙ ap (λ (x : List ℕ). length (passing p (2 ^ n)) + length x)
+    (passing-same _ _ (2 ^ n) (λ z l. ap (λ (x : ℕ). leb x k) (ones-top n z l)))
 
 -- the word 0 alone
 sets-first : (k : ℕ) → sets-of-class k 1 ≡ 0 ∷ []
@@ -71,7 +78,8 @@ sets-counted (suc n) zero =
     let none : passing (λ z. leb (suc (ones z)) 0) (2 ^ n) ≡ [] = passing-gap _ 0 (2 ^ n) zero-le (λ z i j. leb·suc-zero (ones z)) in
     sets-double n 0 ∙ rw (none, sets-counted n 0)
 sets-counted (suc n) (suc k) =
-    let less : passing (λ z. leb (suc (ones z)) (suc k)) (2 ^ n) ≡ sets-of-class k (2 ^ n) = passing-same _ _ (2 ^ n) (λ z l. leb·suc-suc (ones z) k) in
+    let less : passing (λ z. leb (suc (ones z)) (suc k)) (2 ^ n) ≡ sets-of-class k (2 ^ n) =
+    passing-same _ _ (2 ^ n) (λ z l. leb·suc-suc (ones z) k) in
     sets-double n (suc k) ∙ rw (less, sets-counted n (suc k), sets-counted n k)
 
 -- ---- the bound
@@ -99,6 +107,7 @@ module _ (k b : ℕ) (q : ℕ → Bool) where
   unfolding sets-of-class
   least-in-class = least-in (λ z. leb (ones z) k) b q
 
-  pub none-in-class : ((j : ℕ) → j < length (sets-of-class k b) → q (at (sets-of-class k b) j) ≡ false) → least b 0 (λ a. leb (ones a) k && q a) ≡ Missing
+  pub none-in-class : ((j : ℕ) → j < length (sets-of-class k b) → q (at (sets-of-class k b) j) ≡ false)
+      → least b 0 (λ a. leb (ones a) k && q a) ≡ Missing
   unfolding sets-of-class
   none-in-class = none-in (λ z. leb (ones z) k) b q

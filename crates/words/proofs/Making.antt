@@ -61,7 +61,8 @@ word-snoc : (bs : List Bool) (b : Bool) → word (bs ++ b ∷ []) ≡ word bs + 
 unfolding word
 word-snoc [] b = omega arith
 word-snoc (x ∷ bs) b =
-    let p : bit-value b * 2 ^ length (x ∷ bs) ≡ bit-value b * (2 ^ length bs * 2) = ap (λ (n : ℕ). bit-value b * n) (pow-suc 2 (length bs)) in
+    let p : bit-value b * 2 ^ length (x ∷ bs) ≡ bit-value b * (2 ^ length bs * 2) =
+    ap (λ (n : ℕ). bit-value b * n) (pow-suc 2 (length bs)) in
     omega (arith, word-snoc bs b)
 
 pub map-snoc : {A B : Type 0} (f : A → B) (xs : List A) (x : A) → map f (xs ++ x ∷ []) ≡ map f xs ++ f x ∷ []
@@ -75,7 +76,8 @@ map-more f xs t h = rw (add-one, take-suc xs t 0) (map-snoc f (take t xs) (at xs
 length-map-take : {B : Type 0} (f : ℕ → B) (xs : List ℕ) (t : ℕ) → t ≤ length xs → length (map f (take t xs)) ≡ t
 length-map-take f xs t h = length-map (take t xs) f ∙ length-take-le t xs h
 
-word-more : (f : ℕ → Bool) (xs : List ℕ) (t : ℕ) → t < length xs → word (map f (take (t + 1) xs)) ≡ word (map f (take t xs)) + bit-value (f (at xs t)) * 2 ^ t
+word-more : (f : ℕ → Bool) (xs : List ℕ) (t : ℕ) → t < length xs
+    → word (map f (take (t + 1) xs)) ≡ word (map f (take t xs)) + bit-value (f (at xs t)) * 2 ^ t
 word-more f xs t h =
     ap word (map-more f xs t h) ∙ word-snoc (map f (take t xs)) (f (at xs t))
     ∙ ap (λ (n : ℕ). word (map f (take t xs)) + bit-value (f (at xs t)) * 2 ^ n) (length-map-take f xs t (omega arith))
@@ -109,13 +111,15 @@ word-whole f xs t h = rw (take-all t xs h)
 -- ---- a loop that fills a list from the front
 
 -- one more store
-fill-more : {A : Type 0} (done d : List A) (t : ℕ) (x : A) → length done ≡ t → t < length d → set (done ++ drop t d) t x ≡ (done ++ x ∷ []) ++ drop (t + 1) d
+fill-more : {A : Type 0} (done d : List A) (t : ℕ) (x : A) → length done ≡ t → t < length d
+    → set (done ++ drop t d) t x ≡ (done ++ x ∷ []) ++ drop (t + 1) d
 fill-more {A} done d t x e h =
     ap (λ (l : List A). set (done ++ l) t x) (drop-cons d t x h) ∙ set-at done (getD d t x) (drop (suc t) d) x t e
     ∙ sym (append-snoc done x (drop (suc t) d)) ∙ ap (λ (n : ℕ). done ++ (x ∷ []) ++ drop n d) (sym (add-one t))
 
 -- each entry of a list into the front of a list d: a turn, and the end
-pub list-fill : (xs d : List ℕ) (t : ℕ) → t < length xs → t < length d → set (take t xs ++ drop t d) t (at xs t) ≡ take (t + 1) xs ++ drop (t + 1) d
+pub list-fill : (xs d : List ℕ) (t : ℕ) → t < length xs → t < length d
+    → set (take t xs ++ drop t d) t (at xs t) ≡ take (t + 1) xs ++ drop (t + 1) d
 list-fill xs d t h l =
     let more : take (t + 1) xs ≡ take t xs ++ at xs t ∷ [] = rw add-one (take-suc xs t 0 h) in
     fill-more (take t xs) d t (at xs t) (length-take-le t xs (omega arith)) l ∙ ap (λ (m : List ℕ). m ++ drop (t + 1) d) (sym more)
@@ -132,7 +136,8 @@ map-fill {B} f xs d t h l =
     fill-more (map f (take t xs)) d t (f (at xs t)) (length-map-take f xs t (omega arith)) l
     ∙ ap (λ (m : List B). m ++ drop (t + 1) d) (sym (map-more f xs t h))
 
-pub map-filled : {B : Type 0} (f : ℕ → B) (xs : List ℕ) (d : List B) (t : ℕ) → t ≤ length xs → length xs ≤ t → map f (take t xs) ++ drop t d ≡ map f xs ++ drop (length (map f xs)) d
+pub map-filled : {B : Type 0} (f : ℕ → B) (xs : List ℕ) (d : List B) (t : ℕ) → t ≤ length xs → length xs ≤ t
+    → map f (take t xs) ++ drop t d ≡ map f xs ++ drop (length (map f xs)) d
 map-filled f xs d t h l =
     let e : t ≡ length (map f xs) = rw (length-map xs f) (omega arith) in
     ap₂ (λ (m : List ℕ) (n : ℕ). map f m ++ drop n d) (take-all t xs l) e

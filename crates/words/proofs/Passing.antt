@@ -128,7 +128,8 @@ module _ (p : ℕ → Bool) where
   -- a search below b for a number that passes both tests is a search in the list
   module _ (b : ℕ) (q : ℕ → Bool) where
     fails : (z : ℕ) → z < b → (p z ≡ true → q (at (passing p b) (length (passing p z))) ≡ false) → p z && q z ≡ false
-    fails z l h = ⊎-elim (λ e. let f : q z ≡ false = sym (ap q (entry-of b z l e)) ∙ h e in rw f (and-false (p z))) (λ e. rw e) (cases (p z))
+    fails z l h = ⊎-elim (λ e. let f : q z ≡ false = sym (ap q (entry-of b z l e)) ∙ h e in rw f (and-false (p z)))
+        (λ e. rw e) (cases (p z))
 
     pub least-in : (m : ℕ) → m < length (passing p b) → q (at (passing p b) m) ≡ true → ((j : ℕ) → j < m → q (at (passing p b) j) ≡ false)
         → least b 0 (λ a. p a && q a) ≡ Found (at (passing p b) m)

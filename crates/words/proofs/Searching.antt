@@ -28,10 +28,13 @@ module _ (p : ℕ → Bool) where
   least-is (suc d) x e q = go (p x) refl (least-is d (suc x) e (omega arith))
     where
       step : (s : Search) → p x ≡ false → Least (suc x) e s → Least x e s
-      step (Found y) f (first a b c g) = first {y = y} (omega arith) b c (λ z l m. ⊎-elim (λ q. ap p (sym q) ∙ f) (λ k. g z k m) (eq-or-lt-of-le l))
+      step (Found y) f (first a b c g) =
+          first {y = y} (omega arith) b c
+          (λ z l m. ⊎-elim (λ q. ap p (sym q) ∙ f) (λ k. g z k m) (eq-or-lt-of-le l))
       step Missing f (nowhere g) = nowhere (λ z l m. ⊎-elim (λ q. ap p (sym q) ∙ f) (λ k. g z k m) (eq-or-lt-of-le l))
 
-      go : (b : Bool) → p x ≡ b → Least (suc x) e (least d (suc x) p) → Least x e (elim b as (λ _. Search) [ true ↦ Found x | false ↦ least d (suc x) p ])
+      go : (b : Bool) → p x ≡ b → Least (suc x) e (least d (suc x) p)
+          → Least x e (elim b as (λ _. Search) [ true ↦ Found x | false ↦ least d (suc x) p ])
       go true f r = first {y = x} (le-refl x) (omega arith) f (λ z l m. absurd (not-suc-le-zero {n = 0} (omega arith)))
       go false f r = step (least d (suc x) p) f r
 

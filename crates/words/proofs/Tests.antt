@@ -66,8 +66,11 @@ pub decides-equal : (a b : ℕ) → Decides (eqb a b) (a ≡ b)
 decides-equal a b = (eqb-true a b, eqb-false a b)
 
 pub decides-or : {a b : Bool} {A B : Type 0} → Decides a A → Decides b B → Decides (a || b) (A ⊎ B)
-decides-or {a} {b} f g =
-    (λ e. ⊎-elim (λ p. inl (f .0 p)) (λ q. inr (g .0 q)) (or-cases a b e), λ e w. ⊎-elim (f .1 (neither a b e .0)) (g .1 (neither a b e .1)) w)
+decides-or {a} {b} f g = (
+  λ e. ⊎-elim (λ p. inl (f .0 p)) (λ q. inr (g .0 q)) (or-cases a b e),
+  λ e w. ⊎-elim (f .1 (neither a b e .0))
+      (g .1 (neither a b e .1)) w,
+)
 
 pub decides-not : {a : Bool} {A : Type 0} → Decides a A → Decides (not a) (¬ A)
 decides-not {a} f = (λ e. f .1 (borrow.Author.Tests.not-true a e), λ e n. n (f .0 (borrow.Author.Tests.not-false a e)))

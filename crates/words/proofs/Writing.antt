@@ -46,15 +46,18 @@ module _ (list : List ℕ) (index : ℕ) where
       let head = take index list ++ first in
       let tail = drop (index + length first) list in
       let size : index + length first + length second ≡ length head + length second = omega arith in
-      let end : index + length first + length second ≡ index + length (first ++ second) = let both = length-append first second in omega arith in
+      let end : index + length first + length second ≡ index + length (first ++ second) = let both =
+      length-append first second in omega arith in
       let rest : drop (index + length first + length second) (head ++ tail) ≡ drop (index + length (first ++ second)) list =
-      ap (λ (n : ℕ). drop n (head ++ tail)) size ∙ drop-append-add head tail (length second) ∙ drop-drop (length second) (index + length first) list
+      ap (λ (n : ℕ). drop n (head ++ tail)) size ∙ drop-append-add head tail (length second)
+      ∙ drop-drop (length second) (index + length first) list
       ∙ ap (λ (n : ℕ). drop n list) end in
       ap₂ (λ (a b : List ℕ). a ++ second ++ b) (take-at head tail (index + length first) front) rest
       ∙ ap (λ (a : List ℕ). a ++ drop (index + length (first ++ second)) list) (append-assoc (take index list) first second)
 
 -- a list after one write, and after a second right behind it
-pub written-next : (list middle after : List ℕ) (index next : ℕ) (first second : List ℕ) → middle ≡ written list index first → after ≡ written middle next second
+pub written-next : (list middle after : List ℕ) (index next : ℕ) (first second : List ℕ)
+    → middle ≡ written list index first → after ≡ written middle next second
     → next ≡ index + length first → index ≤ length list → after ≡ written list index (first ++ second)
 written-next list middle after index next first second e f n l =
     f ∙ ap₂ (λ (m : List ℕ) (k : ℕ). written m k second) e n ∙ written-more list index first second l

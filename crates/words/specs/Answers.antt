@@ -13,7 +13,8 @@ pub data Answer (A : Type 0) : Type 0 where
 
 -- ---- the table, as document 01 says it
 
--- Rows from top to bottom, each a number and what holds. The first that holds is the answer; if none holds, the full result.
+-- Rows from top to bottom, each a number and what holds. The first that holds is the answer; if none holds, the full
+-- result.
 abbrev pub ByTable : {A : Type 0} → List (ℕ × Type 0) → (A → Type 0) → Answer A → Type 0
 ByTable {A} [] result a = (x : A) × (a ≡ full x) × result x
 ByTable ((number, holds) ∷ rows) result a = (holds × (a ≡ refused number)) ⊎ ((¬ holds) × ByTable rows result a)

@@ -1,4 +1,5 @@
-// Driver sets as words: single bits, counts of ones, the sets of a class in order. Helpers between crates: some have a requires.
+// Driver sets as words: single bits, counts of ones, the sets of a class in order. Helpers between crates: some have a
+// requires.
 ghost use mathlib.Core.Path.{_≡_};
 ghost use Prim.Native.Nat.{_<_, _≤_, _^_};
 ghost use lib.Count.{ones, trailingZeros};

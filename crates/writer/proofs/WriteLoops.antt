@@ -14,14 +14,16 @@ use Rattle.jobfile.proofs.ByteLaws.{bytes-count}
 -- the bytes of a number from byte i on
 module _ (file : List ℕ) (offset i count rest : ℕ) where
   pub number-turn : offset + count ≤ length file → i < count
-      → written (set file (offset + i) (rest % 256)) (offset + (i + 1)) (bytes-of (count - (i + 1)) (rest / 256)) ≡ written file (offset + i) (bytes-of (count - i) rest)
+      → written (set file (offset + i) (rest % 256)) (offset + (i + 1)) (bytes-of (count - (i + 1)) (rest / 256))
+      ≡ written file (offset + i) (bytes-of (count - i) rest)
   unfolding bytes-of
   number-turn room l =
       let more : suc (count - (i + 1)) ≡ count - i = omega arith in
       let next : offset + (i + 1) ≡ offset + i + 1 = omega arith in
       let others = bytes-of (count - (i + 1)) (rest / 256) in
       ap₂ (λ (m : List ℕ) (n : ℕ). written m n others) (written-one file (offset + i) (rest % 256) (omega arith)) next
-      ∙ written-more file (offset + i) (rest % 256 ∷ []) others (omega arith) ∙ ap (λ (n : ℕ). written file (offset + i) (bytes-of n rest)) more
+      ∙ written-more file (offset + i) (rest % 256 ∷ []) others (omega arith)
+      ∙ ap (λ (n : ℕ). written file (offset + i) (bytes-of n rest)) more
 
   pub number-end : count ≤ i → written file (offset + i) (bytes-of (count - i) rest) ≡ file
   unfolding bytes-of
@@ -46,4 +48,5 @@ module _ (file : List ℕ) (offset t : ℕ) (words : List ℕ) where
 
   pub words-end : length words ≤ t → written file (offset + 8 * t) (word-bytes (drop t words)) ≡ file
   unfolding word-bytes
-  words-end l = ap (λ (rest : List ℕ). written file (offset + 8 * t) (word-bytes rest)) (drop-of-length-le words l) ∙ written-none file (offset + 8 * t)
+  words-end l = ap (λ (rest : List ℕ). written file (offset + 8 * t) (word-bytes rest)) (drop-of-length-le words l)
+      ∙ written-none file (offset + 8 * t)

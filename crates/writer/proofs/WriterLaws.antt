@@ -1,4 +1,5 @@
--- The call *write a job file*: how long its file is, and that it answers as its rows and its result say, with nothing left open.
+-- The call *write a job file*: how long its file is, and that it answers as its rows and its result say, with nothing
+-- left open.
 use mathlib.Core.Path.{_≡_, refl, sym, _∙_}
 use mathlib.Core.Bool.{false, _&&_, true≢false, false≢true}
 use mathlib.Core.Logic.{_≢_}
@@ -18,7 +19,8 @@ use Rattle.network.proofs.Rows.{decides-set, decides-row-9, decides-high-bit, d
 use Rattle.jobfile.specs.Bytes.{bytes-of, word-bytes}
 use Rattle.jobfile.specs.Layout.{mark, bodies-at}
 use Rattle.jobfile.proofs.ByteLaws.{bytes-count, word-bytes-count}
-use Rattle.writer.specs.Writer.{entry-bytes, response-entry, entries-for, head-of, file-of, OwnRows, WriterRows, given, own-tests, writer-tests, write-answer}
+use Rattle.writer.specs.Writer.{entry-bytes, response-entry, entries-for, head-of, file-of, OwnRows, WriterRows}
+use Rattle.writer.specs.Writer.{given, own-tests, writer-tests, write-answer}
 
 -- two entries, or three if there are responses
 pub entries-two : (responses : List ℕ) → length responses ≤ 0 → entries-for responses ≡ 2
@@ -37,7 +39,8 @@ pub no-response-entry : (offset : ℕ) (responses : List ℕ) → length respons
 no-response-entry offset [] l = refl
 no-response-entry offset (word ∷ words) l = absurd (not-suc-le-zero l)
 
-pub response-entry-is : (offset : ℕ) (responses : List ℕ) → 0 < length responses → response-entry offset responses ≡ entry-bytes 3 offset (8 * length responses)
+pub response-entry-is : (offset : ℕ) (responses : List ℕ) → 0 < length responses
+    → response-entry offset responses ≡ entry-bytes 3 offset (8 * length responses)
 response-entry-is offset [] l = absurd (not-suc-le-zero l)
 response-entry-is offset (word ∷ words) l = refl
 
@@ -50,7 +53,8 @@ entry-size kind offset size =
     let both = length-append (kind ∷ bytes-of 4 offset) (bytes-of 4 size) in
     omega arith
 
-pub response-entry-size : (offset : ℕ) (responses : List ℕ) → 23 + length (response-entry offset responses) ≡ bodies-at (entries-for responses)
+pub response-entry-size : (offset : ℕ) (responses : List ℕ)
+    → 23 + length (response-entry offset responses) ≡ bodies-at (entries-for responses)
 response-entry-size offset [] = omega arith
 response-entry-size offset (word ∷ words) = let size = entry-size 3 offset (8 * length (word ∷ words)) in omega arith
 
@@ -69,7 +73,9 @@ module _ (vectors responses : List ℕ) where
       let f = response-entry-size (start + 2 + 8 * length vectors) responses in
       omega arith
 
-  pub file-size : (net : Network) (k : ℕ) → length (file-of net k vectors responses) ≡ bodies-at (entries-for responses) + 2 + 8 * length vectors + 8 * length responses
+  pub file-size : (net : Network) (k : ℕ)
+      → length (file-of net k vectors responses)
+      ≡ bodies-at (entries-for responses) + 2 + 8 * length vectors + 8 * length responses
   unfolding file-of
   file-size net k =
       let a = length-append (head-of vectors responses ++ net .nets ∷ k ∷ word-bytes vectors) (word-bytes responses) in
@@ -91,7 +97,9 @@ decides-given [] = (λ e. absurd (false≢true e), λ _ n. n refl)
 decides-given (word ∷ words) = (λ _ e. let z : _≡_ {A = ℕ} 0 1 = cc in omega arith, λ e. absurd (true≢false e))
 
 -- no more responses than vectors, where row 9 does not hold
-pub responses-most : (vectors responses : List ℕ) → given responses && bad-response-count (length vectors) (length responses) ≡ false → length responses ≤ length vectors
+pub responses-most : (vectors responses : List ℕ)
+    → given responses && bad-response-count (length vectors) (length responses) ≡ false
+    → length responses ≤ length vectors
 responses-most vectors [] e = omega arith
 responses-most vectors (word ∷ words) e =
     let same = eqb-true (length (word ∷ words)) (length vectors) (not-false (eqb (length (word ∷ words)) (length vectors)) e) in omega arith
@@ -100,21 +108,31 @@ module _ (net : Network) (k : ℕ) (vectors responses : List ℕ) (room : ℕ) w
   decides-rows : Decided (WriterRows net k vectors responses room) (writer-tests net k vectors responses room)
   decides-rows =
       let is-given = decides-given responses in
-      decided-append (SetRows net k vectors) (OwnRows net k vectors responses room) (set-tests net k vectors) (own-tests net k vectors responses room)
+      decided-append (SetRows net k vectors) (OwnRows net k vectors responses room) (set-tests net k vectors)
+      (own-tests net k vectors responses room)
       (decides-set net k vectors)
       (λ _. (
         refl,
         decides-and is-given (decides-row-9 (length vectors) (length responses)),
-        λ _. (refl, decides-and is-given (decides-high-bit net responses), λ _. (refl, decides-row-12 (length (file-of net k vectors responses)) room, λ _. tt)),
+        λ _. (
+          refl,
+          decides-and is-given (decides-high-bit net responses),
+          λ _.
+              (refl, decides-row-12 (length (file-of net k vectors responses)) room, λ _. tt),
+        ),
       ))
 
-  pub write-by-table : ByTable (WriterRows net k vectors responses room) (λ bytes. bytes ≡ file-of net k vectors responses) (write-answer net k vectors responses room)
+  pub write-by-table : ByTable (WriterRows net k vectors responses room)
+      (λ bytes. bytes ≡ file-of net k vectors responses) (write-answer net k vectors responses room)
   unfolding write-answer
   write-by-table =
-      tests-by-table (λ bytes. bytes ≡ file-of net k vectors responses) (WriterRows net k vectors responses room) (writer-tests net k vectors responses room)
+      tests-by-table (λ bytes. bytes ≡ file-of net k vectors responses) (WriterRows net k vectors responses room)
+      (writer-tests net k vectors responses room)
       (file-of net k vectors responses) decides-rows (λ _. refl)
 
-  pub write-determined : (a b : Answer (List ℕ)) → ByTable (WriterRows net k vectors responses room) (λ bytes. bytes ≡ file-of net k vectors responses) a
+  pub write-determined : (a b : Answer (List ℕ))
+      → ByTable (WriterRows net k vectors responses room) (λ bytes. bytes ≡ file-of net k vectors responses) a
       → ByTable (WriterRows net k vectors responses room) (λ bytes. bytes ≡ file-of net k vectors responses) b → a ≡ b
   write-determined a b =
-      table-determined (λ bytes. bytes ≡ file-of net k vectors responses) (WriterRows net k vectors responses room) a b (λ _ x y p q. p ∙ sym q)
+      table-determined (λ bytes. bytes ≡ file-of net k vectors responses) (WriterRows net k vectors responses room) a b
+      (λ _ x y p q. p ∙ sym q)

@@ -15,7 +15,8 @@ pub enum Wrote {
     Refused(u64),
 }
 
-// The call *write a job file*: its bytes into the front of `file`. Rows 5 to 10 and 12; 9 and 10 only if there are responses.
+// The call *write a job file*: its bytes into the front of `file`. Rows 5 to 10 and 12; 9 and 10 only if there are
+// responses.
 pub fn write_job(
     net: Network,
     class: u64,
@@ -23,8 +24,12 @@ pub fn write_job(
     responses: &[u64],
     file: &mut [u8],
 ) -> Wrote
-    ensures answer { λ r. ⌜ meaning r ≡ count-of (write-answer net class (now (vectors .entry)) (now (responses .entry)) (length (now (file .entry)))) ⌝ }
-    ensures list { λ r. ⌜ now (file .exit) ≡ lent-after (write-answer net class (now (vectors .entry)) (now (responses .entry)) (length (now (file .entry)))) (now (file .entry)) ⌝ }
+    ensures answer { λ r. ⌜ meaning r
+        ≡ count-of (write-answer net class (now (vectors .entry)) (now (responses .entry))
+        (length (now (file .entry)))) ⌝ }
+    ensures list { λ r. ⌜ now (file .exit)
+        ≡ lent-after (write-answer net class (now (vectors .entry)) (now (responses .entry))
+        (length (now (file .entry)))) (now (file .entry)) ⌝ }
 {
     let admission = network::refusals::admit_set(net, class, vectors);
     if let Admission::Refused(number) = admission {

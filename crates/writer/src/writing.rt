@@ -1,4 +1,5 @@
-// Bytes put into a lent file. Helpers: each asks for room, and for nets, class and lists as the rows before row 12 leave them.
+// Bytes put into a lent file. Helpers: each asks for room, and for nets, class and lists as the rows before row 12
+// leave them.
 ghost use mathlib.Core.Path.{_≡_};
 ghost use mathlib.Core.List.{[], _∷_, _++_};
 ghost use Prim.Native.Nat.{ℕ, _+_, _*_, _<_, _≤_};
@@ -114,8 +115,11 @@ fn put_bodies(
     vectors: &[u64],
     responses: &[u64],
 )
-    requires { ⌜ (net .nets < 256) × (class < 256) × (offset + 2 + 8 * length (now vectors) + 8 * length (now responses) ≤ length (now file)) ⌝ }
-    ensures { λ r. ⌜ now (file .exit) ≡ written (now (file .entry)) offset (net .nets ∷ class ∷ word-bytes (now (vectors .entry)) ++ word-bytes (now (responses .entry))) ⌝ }
+    requires { ⌜ (net .nets < 256) × (class < 256)
+        × (offset + 2 + 8 * length (now vectors) + 8 * length (now responses) ≤ length (now file)) ⌝ }
+    ensures { λ r. ⌜ now (file .exit)
+        ≡ written (now (file .entry)) offset
+        (net .nets ∷ class ∷ word-bytes (now (vectors .entry)) ++ word-bytes (now (responses .entry))) ⌝ }
 {
     put_byte(file, offset, net.nets as u8);
     put_byte(file, offset + 1, class as u8);
@@ -125,8 +129,11 @@ fn put_bodies(
 
 // The whole file into the front of a lent one.
 pub fn put_file(file: &mut [u8], net: Network, class: u64, vectors: &[u64], responses: &[u64])
-    requires { ⌜ (net .nets < 256) × (class < 256) × (length (now vectors) ≤ 64) × (length (file-of net class (now vectors) (now responses)) ≤ length (now file)) ⌝ }
-    ensures { λ r. ⌜ now (file .exit) ≡ lent-after (full (file-of net class (now (vectors .entry)) (now (responses .entry)))) (now (file .entry)) ⌝ }
+    requires { ⌜ (net .nets < 256) × (class < 256) × (length (now vectors) ≤ 64)
+        × (length (file-of net class (now vectors) (now responses)) ≤ length (now file)) ⌝ }
+    ensures { λ r. ⌜ now (file .exit)
+        ≡ lent-after (full (file-of net class (now (vectors .entry)) (now (responses .entry))))
+        (now (file .entry)) ⌝ }
 {
     let start = bodies_at(responses);
     put_head(file, vectors, responses);

@@ -39,7 +39,8 @@ enum-told : tie.Need-enum-told
 enum-told c = search needs
 
 -- rows 5 to 8 have admitted the test set
-admitted : (c : tie.After-enum-told) → let a = c .before .before .before .before .args in set-admission (a .net) (a .class) (a .vectors .now) ≡ full tt
+admitted : (c : tie.After-enum-told) → let a = c .before .before .before .before .args in
+    set-admission (a .net) (a .class) (a .vectors .now) ≡ full tt
 admitted c = sym (c .before .before .admit-set .ensures) ∙ ap admission (c .enum-told .given .1)
 
 verdict-of-requires : tie.Need-verdict-of-requires
@@ -58,13 +59,15 @@ returns-2 : tie.Need-returns-2
 returns-2 c =
     let d = c .before .before in
     let a = d .before .before .before .before .before .args in
-    sym (by-verdict (a .net) (a .class) (a .vectors .now) (admitted (d .before)) ∙ ap full (sym (d .verdict-of .ensures) ∙ c .enum-told2 .given .1))
+    sym (by-verdict (a .net) (a .class) (a .vectors .now) (admitted (d .before))
+    ∙ ap full (sym (d .verdict-of .ensures) ∙ c .enum-told2 .given .1))
 
 returns-3 : tie.Need-returns-3
 returns-3 c =
     let d = c .before .before .before in
     let a = d .before .before .before .before .before .args in
-    sym (by-verdict (a .net) (a .class) (a .vectors .now) (admitted (d .before)) ∙ ap full (sym (d .verdict-of .ensures) ∙ c .before .a .given .1))
+    sym (by-verdict (a .net) (a .class) (a .vectors .now) (admitted (d .before))
+    ∙ ap full (sym (d .verdict-of .ensures) ∙ c .before .a .given .1))
 
 pub check-spec : {M : Type 1} → statement M
 check-spec =

@@ -36,10 +36,12 @@ loop-holds c =
 turn : (c : tie.In-loop Inv-loop μ-loop)
     → let l = c .before .loop in
     (1 ≤ l .start) × (l .rest / 10 < 10 ^ (l .start - 1))
-    × (decimal (c .before .before .args .n) ≡ higher (l .start - 1) (l .rest / 10) ++ drop (l .start - 1) (set (l .buffer) (l .start - 1) (digit-byte (l .rest % 10))))
+    × (decimal (c .before .before .args .n) ≡ higher (l .start - 1) (l .rest / 10)
+    ++ drop (l .start - 1) (set (l .buffer) (l .start - 1) (digit-byte (l .rest % 10))))
 turn c =
     let l = c .before .loop in
-    next-digit (decimal (c .before .before .args .n)) (l .buffer) (l .inv .0) (l .start) (l .rest) (l .inv .1) (l .inv .2) (c .loop-test .taken) (l .inv .3)
+    next-digit (decimal (c .before .before .args .n)) (l .buffer) (l .inv .0) (l .start) (l .rest) (l .inv .1)
+    (l .inv .2) (c .loop-test .taken) (l .inv .3)
 
 sub-start : tie.Need-sub-start Inv-loop μ-loop
 sub-start c = turn c .0

@@ -45,7 +45,8 @@ add-text : tie.Need-add-text Inv-loop μ-loop
 add-text c =
     let l = c .before .before .loop in
     let a = c .before .before .before .args in
-    let size = same-size (a .text .now) (l .text) (a .bytes .now) (a .at) (l .i) (c .before .before .before .pre) (l .inv .1) (l .inv .0) in search needs
+    let size = same-size (a .text .now) (l .text) (a .bytes .now) (a .at) (l .i) (c .before .before .before .pre)
+    (l .inv .1) (l .inv .0) in search needs
 
 slice-write-text : tie.Need-slice-write-text Inv-loop μ-loop
 slice-write-text c =
@@ -63,8 +64,11 @@ loop-less c = search needs
 loop-again : tie.Need-loop-again Inv-loop μ-loop
 loop-again c =
     let l = c .before .before .loop in
-    let a = c .before .before .before .args in
-    (search needs, one-more (a .text .now) (l .text) (a .bytes .now) (a .at) (l .i) (c .before .before .before .pre) (l .inv .1) (c .before .loop-test .taken))
+    let a = c .before .before .before .args in (
+      search needs,
+      one-more (a .text .now) (l .text) (a .bytes .now) (a .at) (l .i) (c .before .before .before .pre)
+          (l .inv .1) (c .before .loop-test .taken),
+    )
 
 same-length : tie.Need-same-length Inv-loop μ-loop
 same-length c =

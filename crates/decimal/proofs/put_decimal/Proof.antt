@@ -44,8 +44,12 @@ returns c =
     let start = r .result in
     let buffer : List ℕ = r .last .1 .0 in
     let size : length (drop start buffer) ≡ 20 - start = length-drop start buffer ∙ ap (λ (n : ℕ). n - start) (r .ensures .1) in
-    let whole : take (20 - start) (drop start buffer) ≡ drop start buffer = take-all (20 - start) (drop start buffer) (omega (arith, size)) in
-    (ap (λ (n : ℕ). a .at + n) (sym size ∙ ap length (r .ensures .2)), c .before .before .put-bytes .ensures ∙ ap (written (a .text .now) (a .at)) (whole ∙ r .ensures .2))
+    let whole : take (20 - start) (drop start buffer) ≡ drop start buffer =
+    take-all (20 - start) (drop start buffer) (omega (arith, size)) in (
+      ap (λ (n : ℕ). a .at + n) (sym size ∙ ap length (r .ensures .2)),
+      c .before .before .put-bytes .ensures
+          ∙ ap (written (a .text .now) (a .at)) (whole ∙ r .ensures .2),
+    )
 
 pub put-decimal-spec : {M : Type 1} → statement M
 put-decimal-spec =

@@ -30,7 +30,8 @@ returns c =
     let line = numbers-end (a .numbers .now) in
     let whole = length-append word line in (
       d .put-numbers .ensures .0 ∙ omega (arith, whole),
-      written-next (a .text .now) (b .put-bytes .last .0) (d .put-numbers .last .0) (a .at) (a .at + length word) word line (b .put-bytes .ensures)
+      written-next (a .text .now) (b .put-bytes .last .0) (d .put-numbers .last .0) (a .at)
+          (a .at + length word) word line (b .put-bytes .ensures)
           (d .put-numbers .ensures .1) refl (omega (arith, s .pre)),
     )
 

@@ -39,7 +39,8 @@ loop-again c =
     let s = g .before .before .before in
     let a = s .args in
     let n = c .before .before .put-spaced in
-    put-one (a .text .now) (a .at) (a .numbers .now) (g .loop .text) (g .loop .end) (g .loop .i) (g .loop .inv) (s .pre) (n .last .0) (n .result)
+    put-one (a .text .now) (a .at) (a .numbers .now) (g .loop .text) (g .loop .end) (g .loop .i) (g .loop .inv) (s .pre)
+    (n .last .0) (n .result)
     (c .before .before .before .before .before .loop-test .taken) (n .ensures .0) (n .ensures .1)
 
 slice-aggregate-put-bytes : tie.Need-slice-aggregate-put-bytes Inv-loop μ-loop

@@ -32,7 +32,8 @@ returns c =
     let a = s .args in
     let next : a .at + 1 + length (decimal (a .n)) ≡ a .at + suc (length (decimal (a .n))) = omega arith in (
       d .put-decimal .ensures .0 ∙ next,
-      written-next (a .text .now) (b .put-bytes .last .0) (d .put-decimal .last .0) (a .at) (a .at + 1) (space ∷ []) (decimal (a .n)) (b .put-bytes .ensures)
+      written-next (a .text .now) (b .put-bytes .last .0) (d .put-decimal .last .0) (a .at) (a .at + 1) (space ∷ [])
+          (decimal (a .n)) (b .put-bytes .ensures)
           (d .put-decimal .ensures .1) (omega arith) (omega (arith, s .pre)),
     )
 

@@ -19,16 +19,19 @@ use Rattle.diagnosis.proofs.diagnose.Tie as tie
 
 -- the answer where rows 5 to 8 refuse, and by the call's own rows where they do not
 module _ (net : Network) (k : ℕ) (vectors responses lent : List ℕ) where
-  by-set : (number : ℕ) → set-admission net k vectors ≡ refused number → diagnosis-answer net k vectors responses (length lent) ≡ refused number
+  by-set : (number : ℕ) → set-admission net k vectors ≡ refused number
+      → diagnosis-answer net k vectors responses (length lent) ≡ refused number
   unfolding diagnosis-answer
   by-set number e = set-refuses net k vectors (own-tests net k vectors responses (length lent)) (read-back net k vectors responses) number e
 
   module _ (admitted : set-admission net k vectors ≡ full tt) where
-    by-own : diagnosis-answer net k vectors responses (length lent) ≡ by-tests (own-tests net k vectors responses (length lent)) (read-back net k vectors responses)
+    by-own : diagnosis-answer net k vectors responses (length lent)
+        ≡ by-tests (own-tests net k vectors responses (length lent)) (read-back net k vectors responses)
     unfolding diagnosis-answer
     by-own = set-admits net k vectors (own-tests net k vectors responses (length lent)) (read-back net k vectors responses) admitted
 
-    by-row-9 : bad-response-count (length vectors) (length responses) ≡ true → diagnosis-answer net k vectors responses (length lent) ≡ refused 9
+    by-row-9 : bad-response-count (length vectors) (length responses) ≡ true
+        → diagnosis-answer net k vectors responses (length lent) ≡ refused 9
     unfolding by-tests
     by-row-9 e = by-own ∙ rw e
 
@@ -47,7 +50,8 @@ module _ (net : Network) (k : ℕ) (vectors responses lent : List ℕ) where
           unfolding by-tests
           by-row-13 e = by-own ∙ rw (nine, ten, twelve, e)
 
-          by-fit : not-passed (verdict net k vectors) ≡ false → diagnosis-answer net k vectors responses (length lent) ≡ fit-answer net k vectors responses
+          by-fit : not-passed (verdict net k vectors) ≡ false
+              → diagnosis-answer net k vectors responses (length lent) ≡ fit-answer net k vectors responses
           unfolding by-tests fit-answer
           by-fit e = by-own ∙ rw (nine, ten, twelve, e)
 
@@ -69,7 +73,8 @@ enum-told : tie.Need-enum-told
 enum-told c = search needs
 
 -- rows 5 to 8 have admitted the test set
-admitted : (c : tie.After-enum-told) → let a = c .before .before .before .before .before .before .args in set-admission (a .net) (a .class) (a .vectors .now) ≡ full tt
+admitted : (c : tie.After-enum-told) → let a = c .before .before .before .before .before .before .args in
+    set-admission (a .net) (a .class) (a .vectors .now) ≡ full tt
 admitted c = sym (c .before .before .admit-set .ensures) ∙ ap admission (c .enum-told .given .1)
 
 bad-response-count-requires : tie.Need-bad-response-count-requires
@@ -80,9 +85,11 @@ returns-2 c =
     let d = c .before .before in
     let a = d .before .before .before .before .before .before .args in
     owed-refused _ 9 (a .out .now)
-    (by-row-9 (a .net) (a .class) (a .vectors .now) (a .responses .now) (a .out .now) (admitted d) (sym (c .before .bad-response-count .ensures) ∙ c .if1 .taken))
+    (by-row-9 (a .net) (a .class) (a .vectors .now) (a .responses .now) (a .out .now) (admitted d)
+    (sym (c .before .bad-response-count .ensures) ∙ c .if1 .taken))
 
-nine : (c : tie.Else1) → let a = c .before .before .before .before .before .before .before .before .args in bad-response-count (length (a .vectors .now)) (length (a .responses .now)) ≡ false
+nine : (c : tie.Else1) → let a = c .before .before .before .before .before .before .before .before .args in
+    bad-response-count (length (a .vectors .now)) (length (a .responses .now)) ≡ false
 nine c = sym (c .before .bad-response-count .ensures) ∙ c .if1 .left
 
 has-high-bit-requires : tie.Need-has-high-bit-requires
@@ -98,12 +105,15 @@ returns-3 c =
     let d = e .before .before in
     let a = d .before .before .before .before .before .before .args in
     owed-refused _ 10 (a .out .now)
-    (by-row-10 (a .net) (a .class) (a .vectors .now) (a .responses .now) (a .out .now) (admitted d) (nine e) (sym (c .before .has-high-bit .ensures) ∙ c .if2 .taken))
+    (by-row-10 (a .net) (a .class) (a .vectors .now) (a .responses .now) (a .out .now) (admitted d) (nine e)
+    (sym (c .before .has-high-bit .ensures) ∙ c .if2 .taken))
 
 no-room-requires : tie.Need-no-room-requires
 no-room-requires c κs = search needs
 
-ten : (c : tie.Else2) → let a = c .before .before .before .before .before .before .before .before .before .before .args in has-high-bit (a .net) (a .responses .now) ≡ false
+ten : (c : tie.Else2) → let a =
+    c .before .before .before .before .before .before .before .before .before .before .args in
+    has-high-bit (a .net) (a .responses .now) ≡ false
 ten c = sym (c .before .has-high-bit .ensures) ∙ c .if2 .left
 
 returns-4 : tie.Need-returns-4
@@ -113,7 +123,8 @@ returns-4 c =
     let d = e .before .before in
     let a = d .before .before .before .before .before .before .args in
     owed-refused _ 12 (a .out .now)
-    (by-row-12 (a .net) (a .class) (a .vectors .now) (a .responses .now) (a .out .now) (admitted d) (nine e) (ten f) (sym (c .before .no-room .ensures) ∙ c .if3 .taken))
+    (by-row-12 (a .net) (a .class) (a .vectors .now) (a .responses .now) (a .out .now) (admitted d) (nine e) (ten f)
+    (sym (c .before .no-room .ensures) ∙ c .if3 .taken))
 
 -- rows 5 to 12 do not hold
 module _ (c : tie.Else3) where
@@ -133,17 +144,21 @@ module _ (c : tie.Else3) where
   twelve = sym (c .before .no-room .ensures) ∙ c .if3 .left
 
   refuses-13 : not-passed (verdict (start .args .net) (start .args .class) (start .args .vectors .now)) ≡ true
-      → diagnosis-answer (start .args .net) (start .args .class) (start .args .vectors .now) (start .args .responses .now) (length (start .args .out .now)) ≡ refused 13
+      → diagnosis-answer (start .args .net) (start .args .class) (start .args .vectors .now)
+      (start .args .responses .now) (length (start .args .out .now)) ≡ refused 13
   refuses-13 e =
       let a = start .args in
-      by-row-13 (a .net) (a .class) (a .vectors .now) (a .responses .now) (a .out .now) (admitted set-passed) (nine count-passed) (ten response-passed) twelve e
+      by-row-13 (a .net) (a .class) (a .vectors .now) (a .responses .now) (a .out .now) (admitted set-passed)
+      (nine count-passed) (ten response-passed) twelve e
 
   reads-back : not-passed (verdict (start .args .net) (start .args .class) (start .args .vectors .now)) ≡ false
-      → diagnosis-answer (start .args .net) (start .args .class) (start .args .vectors .now) (start .args .responses .now) (length (start .args .out .now))
+      → diagnosis-answer (start .args .net) (start .args .class) (start .args .vectors .now)
+      (start .args .responses .now) (length (start .args .out .now))
       ≡ fit-answer (start .args .net) (start .args .class) (start .args .vectors .now) (start .args .responses .now)
   reads-back e =
       let a = start .args in
-      by-fit (a .net) (a .class) (a .vectors .now) (a .responses .now) (a .out .now) (admitted set-passed) (nine count-passed) (ten response-passed) twelve e
+      by-fit (a .net) (a .class) (a .vectors .now) (a .responses .now) (a .out .now) (admitted set-passed)
+      (nine count-passed) (ten response-passed) twelve e
 
 verdict-of-requires : tie.Need-verdict-of-requires
 verdict-of-requires c κs =
@@ -172,7 +187,11 @@ read-back-requires c κs =
     let p = c .before in
     let e = p .before .before .before in
     let a = start e .args in (
-      (set-none-holds (a .net) (a .class) (a .vectors .now) (admitted (set-passed e)), passes-rule (a .net) (a .class) (a .vectors .now) (passed p)),
+      (
+        set-none-holds (a .net) (a .class) (a .vectors .now) (admitted (set-passed e)),
+        passes-rule (a .net) (a .class)
+            (a .vectors .now) (passed p),
+      ),
       eqb-true _ _ (not-false _ (nine (count-passed e))),
       decides-high-bit (a .net) (a .responses .now) .1 (ten (response-passed e)),
       ltb-false _ _ (twelve e),

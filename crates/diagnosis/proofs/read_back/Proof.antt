@@ -24,7 +24,8 @@ use Rattle.diagnosis.proofs.read_back.Statement.{statement}
 use Rattle.diagnosis.proofs.read_back.Tie as tie
 
 -- what the candidate's test shows
-module _ (net : Network) (k : ℕ) (vectors responses candidate : List ℕ) (passed : Passed net k vectors) (size : length responses ≡ length vectors)
+module _ (net : Network) (k : ℕ) (vectors responses candidate : List ℕ) (passed : Passed net k vectors)
+    (size : length responses ≡ length vectors)
     (narrow : HighBit net responses → ⊥) (full-size : length candidate ≡ net .nets)
     (only : (i : ℕ) → i < net .nets → OnlyAnswer net k vectors (column responses i) (at candidate i)) where
   fails : ¬ (Fits net k vectors responses candidate) → fit-answer net k vectors responses ≡ refused 14
@@ -60,7 +61,8 @@ module _ (c : tie.After-candidate) where
   reaches-size = length-take-le (start .args .net .nets) (c .candidate .result) room
 
   only-reaches : (i : ℕ) → i < start .args .net .nets
-      → OnlyAnswer (start .args .net) (start .args .class) (start .args .vectors .now) (column (start .args .responses .now) i) (at reaches i)
+      → OnlyAnswer (start .args .net) (start .args .class) (start .args .vectors .now)
+      (column (start .args .responses .now) i) (at reaches i)
   only-reaches i l = rw (getD-take (start .args .net .nets) (c .candidate .result) i 0 l) (c .candidate .ensures .1 i l)
 
   refuses : ¬ (Fits (start .args .net) (start .args .class) (start .args .vectors .now) (start .args .responses .now) reaches)
@@ -91,7 +93,8 @@ returns c =
     let d = c .before .before .before in
     let a = start d .args in
     owed-refused _ 14 (a .out .now)
-    (refuses d (λ h. contrary (sym (c .before .not-a-state .ensures) ∙ c .if1 .taken) (state→test (a .net) (a .class) (reaches d) (h .of-class))))
+    (refuses d (λ h. contrary (sym (c .before .not-a-state .ensures) ∙ c .if1 .taken)
+    (state→test (a .net) (a .class) (reaches d) (h .of-class))))
 
 array-share-prefix-state-2 : tie.Need-array-share-prefix-state-2
 array-share-prefix-state-2 c = room (c .before .before .before)
@@ -137,7 +140,11 @@ returns-3 c =
     let d = e .before .before .before .before .before .before in
     let a = start d .args in
     owed-full _ (a .net .nets) (reaches d) (a .out .now) _
-    (accepts d (record { of-class = is-state (e .before .before .before); gives = e .before .gives-response .ensures .0 (not-false _ (e .if2 .left)) }))
+    (accepts d (record {
+      of-class = is-state (e .before .before .before);
+      gives =
+          e .before .gives-response .ensures .0 (not-false _ (e .if2 .left));
+    }))
     (sym (reaches-size d)) (c .before .before .copy-words .ensures)
 
 pub read-back-spec : {M : Type 1} → statement M

@@ -44,14 +44,16 @@ returns-2 : tie.Need-returns-2
 returns-2 c =
     let d = c .before .before in
     let a = start d .args in
-    let e = accepted-by-room (network-of (a .nets)) (a .state .now) (length (a .table .now) / 3) (accepted d) true (sym (c .before .no-room .ensures) ∙ c .if2 .taken) in
+    let e = accepted-by-room (network-of (a .nets)) (a .state .now) (length (a .table .now) / 3) (accepted d) true
+    (sym (c .before .no-room .ensures) ∙ c .if2 .taken) in
     (code-refused _ _ e, words-refused _ _ e finding-words (a .table .now))
 
 put-findings-requires : tie.Need-put-findings-requires
 put-findings-requires c κs =
     let e = c .before .before in
     let d = e .before .before in
-    let room = ltb-false (length (start d .args .table .now) / 3) (start d .args .nets) (sym (e .before .no-room .ensures) ∙ e .if2 .left) in
+    let room = ltb-false (length (start d .args .table .now) / 3) (start d .args .nets)
+    (sym (e .before .no-room .ensures) ∙ e .if2 .left) in
     (accepted d .few, omega arith)
 
 same-length : tie.Need-same-length
@@ -64,7 +66,8 @@ returns-3 c =
     let d = e .before .before in
     let a = start d .args in
     let b = d .before .before .by-value in
-    let ok = accepted-by-room (network-of (a .nets)) (a .state .now) (length (a .table .now) / 3) (accepted d) false (sym (e .before .no-room .ensures) ∙ e .if2 .left) in
+    let ok = accepted-by-room (network-of (a .nets)) (a .state .now) (length (a .table .now) / 3) (accepted d) false
+    (sym (e .before .no-room .ensures) ∙ e .if2 .left) in
     let written = records-written (network-of (a .nets)) (a .state .now) blank-table (b .result .table) (accepted d) (b .ensures .1) in (
       code-full _ _ ok,
       words-full _ _ ok finding-words (a .table .now) _

@@ -1,6 +1,7 @@
--- Where `table_refusal` says a number other than 0 it is returned; else the loop's turn calls `finding_of` with a
--- copy of the state's borrow, opens the table's borrow, stores the record at the place, and closes it.
---     At i         the whole context where the loop's test is reached: the table's borrow is closed, at the table with i places filled
+-- Where `table_refusal` says a number other than 0 it is returned; else the loop's turn calls `finding_of` with a copy
+-- of the state's borrow, opens the table's borrow, stores the record at the place, and closes it.
+--     At i         the whole context where the loop's test is reached: the table's borrow is closed, at the table with
+--         i places filled
 --     more, ends   a turn that fills one place, and the turn that leaves the loop, with the rest of the body
 -- All that the proof knows of `table_refusal` and `finding_of` is that each meets its contract.
 use mathlib.Core.Path.{_≡_, refl, sym, _∙_, ap, subst}
@@ -26,8 +27,11 @@ use prog.Wp.{Heap, Out, Env, Calls, Loops, Wp, WpFn, Tables, afterSeq, afterBloc
 use ghost.Atoms.{Atoms, sem}
 use contract.Monad.{Fun, fact}
 use contract.Running.{givenOf, tables, tablesOf}
-use types.Kit.{Given, Item, Sq, runs, anyQ, atRet, ‵, raw, some, later, _⊛_, ⋆, _$_, _∵_, !, qed, by, move, keep, drop, use1, use2, split, join, pick, rewrite, fsplit, fjoin, suffices, frame, await, done}
-use types.Run.{look, init, store, store-raw, forget, stop, hop, fld, from, load, lit, bin, of-opd, and-then, no-more, assigns, assigns-last, stays, leaves-loop, first, blocks, branches, skips, land, returns, returns-within, enter, alloc1, alloc0, params1, pass1, pass0, free1, free0, exec, Below, again, loops}
+use types.Kit.{Given, Item, Sq, runs, anyQ, atRet, ‵, raw, some, later, _⊛_, ⋆, _$_, _∵_, !, qed, by, move, keep, drop}
+use types.Kit.{use1, use2, split, join, pick, rewrite, fsplit, fjoin, suffices, frame, await, done}
+use types.Run.{look, init, store, store-raw, forget, stop, hop, fld, from, load, lit, bin, of-opd, and-then, no-more}
+use types.Run.{assigns, assigns-last, stays, leaves-loop, first, blocks, branches, skips, land, returns, returns-within}
+use types.Run.{enter, alloc1, alloc0, params1, pass1, pass0, free1, free0, exec, Below, again, loops}
 use types.Part.{whole, sub, look-in}
 use sound.WpLaws.{fmOf, WpFn-mono}
 use denote.RattleType.{RattleType, owns}
@@ -38,7 +42,8 @@ use denote.Builtin.{u64, usize}
 use denote.Ref.{RefT}
 use denote.Lend.{Held}
 use denote.Index.{place-is, elem-out, elem-put, opens-slice, closes-slice}
-use denote.Slice.{sliceTy, sliceVal, MutSlice, ShrSlice, Room, finally, heres, codedHoleys, slice-vals, mut-slice-tells, shr-slice-tells, shr-slice-copy, res-finally}
+use denote.Slice.{sliceTy, sliceVal, MutSlice, ShrSlice, Room, finally, heres, codedHoleys, slice-vals, mut-slice-tells}
+use denote.Slice.{shr-slice-tells, shr-slice-copy, res-finally}
 use denote.Steps.{only, owned, peeks, heard, nothing}
 use denote.Struct.Laws as LL
 use denote.Triple.Entry.{onEntry}
@@ -47,7 +52,8 @@ use denote.Triple.Statement.{Contract, Triple}
 use denote.Triple.Call.{calls-at}
 use denote.Triple.Clauses.{ensured, lasts}
 use denote.Triple.Table.{entered, cited}
-use denote.Triple.Walked.{says, Stays, stay-dropped, gave-slice, walkOf, AllGo, goes-dropped, goes-gave-slice, Walks, ends-at, walked, walk-meets}
+use denote.Triple.Walked.{says, Stays, stay-dropped, gave-slice, walkOf, AllGo, goes-dropped, goes-gave-slice, Walks}
+use denote.Triple.Walked.{ends-at, walked, walk-meets}
 use denote.Exit.{yes}
 use denote.Signature.{plain, shrSliceOf}
 use Rattle.words.specs.Answers.{Answer, count-of, lent-after}
@@ -60,7 +66,8 @@ use Rattle.network.proofs.Network.Laws as N′
 use Rattle.findings.specs.declared.Finding.{Finding}
 use Rattle.findings.specs.Findings.{finding}
 use Rattle.findings.specs.FindingsTable.{findings-answer, table-meaning}
-use Rattle.findings.proofs.FindingsLaws.{Accepted, table-accepted, table-refused, filled, filled-none, filled-next, filled-length, filled-all}
+use Rattle.findings.proofs.FindingsLaws.{Accepted, table-accepted, table-refused, filled, filled-none}
+use Rattle.findings.proofs.FindingsLaws.{filled-next, filled-length, filled-all}
 use Rattle.findings.proofs.Finding as T
 use Rattle.findings.proofs.Finding.Laws as T′
 use Rattle.findings.proofs.table_refusal as refusal
@@ -93,11 +100,24 @@ Says net xs ys c zs =
     (table-meaning net c ≡ count-of (findings-answer net xs (length ys)))
     ∷ (zs ≡ lent-after (findings-answer net xs (length ys)) ys) ∷ []
 
-says-refused : (net : Network) (xs : List ℕ) (ys : List Finding) (r : ℕ) → table-meaning net r ≡ count-of (findings-answer net xs (length ys)) → (r ≡ 0 → ⊥) → All (Says net xs ys r (filled net xs 0 ys))
-says-refused net xs ys r e n = (e, sym (filled-none net xs ys) ∙ owed-refused (findings-answer net xs (length ys)) r ys (table-refused net xs (length ys) r n e) .1)
+says-refused : (net : Network) (xs : List ℕ) (ys : List Finding) (r : ℕ)
+    → table-meaning net r ≡ count-of (findings-answer net xs (length ys)) → (r ≡ 0 → ⊥)
+    → All (Says net xs ys r (filled net xs 0 ys))
+says-refused net xs ys r e n = (
+  e,
+  sym (filled-none net xs ys)
+      ∙ owed-refused (findings-answer net xs (length ys)) r ys (table-refused net xs (length ys) r n e) .1,
+)
 
-says-filled : (net : Network) (xs : List ℕ) (ys : List Finding) (i : ℕ) → table-meaning net 0 ≡ count-of (findings-answer net xs (length ys)) → i ≡ length xs → All (Says net xs ys 0 (filled net xs i ys))
-says-filled net xs ys i e all = (e, filled-all net xs ys i all ∙ ap (λ (a : Answer (List Finding)). lent-after a ys) (sym (table-accepted net xs (length ys) 0 refl e .answer)))
+says-filled : (net : Network) (xs : List ℕ) (ys : List Finding) (i : ℕ)
+    → table-meaning net 0 ≡ count-of (findings-answer net xs (length ys)) → i ≡ length xs
+    → All (Says net xs ys 0 (filled net xs i ys))
+says-filled net xs ys i e all = (
+  e,
+  filled-all net xs ys i all
+      ∙ ap (λ (a : Answer (List Finding)). lent-after a ys)
+      (sym (table-accepted net xs (length ys) 0 refl e .answer)),
+)
 
 nonzero : (r : ℕ) → Holds (not (eqb r 0)) → r ≡ 0 → ⊥
 nonzero r h e = T-not (eqb r 0) h (subst (λ (k : ℕ). Holds (eqb k 0)) (sym e) (eqb-refl 0))
@@ -117,7 +137,10 @@ abbrev of-table : Ty
 of-table = sliceTy (tyRef (named 1) mut (pointee (R .written)))
 
 abbrev stayed : Stays (F.ended .signature .params) (F.ended .kept)
-stayed = (stay-dropped (plain (λ _. N.the-row)) yes, (stay-dropped (shrSliceOf (0 ∷ []) tt (plain (λ _. u64))) yes, (gave-slice (1 ∷ []) tt (plain (λ _. R)), tt)))
+stayed = (
+  stay-dropped (plain (λ _. N.the-row)) yes,
+  (stay-dropped (shrSliceOf (0 ∷ []) tt (plain (λ _. u64))) yes, (gave-slice (1 ∷ []) tt (plain (λ _. R)), tt)),
+)
 
 -- ---- the contracts that the proof cites
 module _ {M : Type 1} (𝓤 : URA M) (H : Heap 𝓤) (A : Atoms 𝓤) (at-mem : Memory → SProp 𝓤) (run : Routine → Fun 𝓤) where
@@ -127,7 +150,10 @@ module _ {M : Type 1} (𝓤 : URA M) (H : Heap 𝓤) (A : Atoms 𝓤) (at-mem : 
   abbrev Find : Contract 𝓤
   Find = tripleOf 𝓤 H A find.signature (find.spec 𝓤 H A at-mem run)
 
-module _ {M : Type 1} (𝓤 : URA M) (H : Heap 𝓤) (A : Atoms 𝓤) (W : Given 𝓤 H A) (at-mem : Memory → SProp 𝓤) (run : Routine → Fun 𝓤) (κ κ′ : Lft) (q q′ : Share) (net : Network) (net-is : Is N.the-row net (nmach net ∷ [])) (b o : ℕ) (γ : GName) (xs : List ℕ) (b′ o′ : ℕ) (γ′ : GName) (ys : List Finding) (room-s : Room u64 (length xs)) (room-t : Room R (length ys)) where
+module _ {M : Type 1} (𝓤 : URA M) (H : Heap 𝓤) (A : Atoms 𝓤) (W : Given 𝓤 H A) (at-mem : Memory → SProp 𝓤)
+    (run : Routine → Fun 𝓤) (κ κ′ : Lft) (q q′ : Share) (net : Network) (net-is : Is N.the-row net (nmach net ∷ []))
+    (b o : ℕ) (γ : GName) (xs : List ℕ) (b′ o′ : ℕ) (γ′ : GName) (ys : List Finding) (room-s : Room u64 (length xs))
+    (room-t : Room R (length ys)) where
   -- the two borrows, and their machine values
   abbrev x : RefT (List ℕ)
   x = record { ptr = (b, o); name = γ; now = xs }
@@ -161,39 +187,68 @@ module _ {M : Type 1} (𝓤 : URA M) (H : Heap 𝓤) (A : Atoms 𝓤) (W : Given
   abbrev to-admit : Admit 𝓤 H A at-mem run .Ghost
   to-admit = (((κ, tt), (q, tt), tt, (net, (x, (length ys, tt))), (nmach net ∷ [], (s ∷ [], (vint w64 (length ys) ∷ [], tt)))), tt)
 
-  goes-admit : ent 𝓤 (sep 𝓤 (sep 𝓤 (A .lft κ q) (sem 𝓤 H A ftrue)) (sem 𝓤 H A Own)) (sep 𝓤 (Admit 𝓤 H A at-mem run .pre to-admit) (sem 𝓤 H A Own))
+  goes-admit : ent 𝓤 (sep 𝓤 (sep 𝓤 (A .lft κ q) (sem 𝓤 H A ftrue)) (sem 𝓤 H A Own))
+      (sep 𝓤 (Admit 𝓤 H A at-mem run .pre to-admit) (sem 𝓤 H A Own))
   goes-admit =
-      qed W ((‵ (flft κ q) ⊛ ‵ ftrue) ∷ ‵ Own ∷ []) ∵ move ! (1 ∷ []) $ use1 W (‵ Own ⊛ ‵ Own) (shr-slice-copy 𝓤 H A W (named 0) κ u64 .twice x (s ∷ [])) $ split ! $
-      nothing ! $ owned ! usize (Is usize) (uint-makes 𝓤 H A W w64) (length ys) _ (refl, room-t .0) $ fjoin ! $ move ! (1 ∷ 0 ∷ []) $ fjoin ! $ owned ! N.the-row (Is N.the-row) (LL.makes N.the-type N′.the-plain 𝓤 H A) net _ net-is $ fjoin ! $
+      qed W ((‵ (flft κ q) ⊛ ‵ ftrue) ∷ ‵ Own ∷ []) ∵ move ! (1 ∷ []) $
+      use1 W (‵ Own ⊛ ‵ Own) (shr-slice-copy 𝓤 H A W (named 0) κ u64 .twice x (s ∷ [])) $ split ! $
+      nothing ! $ owned ! usize (Is usize) (uint-makes 𝓤 H A W w64) (length ys) _ (refl, room-t .0) $ fjoin ! $
+      move ! (1 ∷ 0 ∷ []) $ fjoin ! $
+      owned ! N.the-row (Is N.the-row) (LL.makes N.the-type N′.the-plain 𝓤 H A) net _ net-is $ fjoin ! $
       -- [what the callee is passed; Own; the token]
-      move ! (2 ∷ 0 ∷ []) $ use2 W (raw (Admit 𝓤 H A at-mem run .pre to-admit)) (qed W ((‵ (flft κ q) ⊛ ‵ ftrue) ∷ ‵ (owns (N.the-row ∷ ShrSlice (named 0) κ u64 ∷ usize ∷ []) (net, (x, (length ys, tt))) (nmach net ∷ [], (s ∷ [], (vint w64 (length ys) ∷ [], tt)))) ∷ []) ∵ join ! $ frame ! $ done !) $ frame ! $ done !
+      move ! (2 ∷ 0 ∷ []) $ use2 W (raw (Admit 𝓤 H A at-mem run .pre to-admit))
+      (qed W ((‵ (flft κ q) ⊛ ‵ ftrue)
+      ∷ ‵ (owns (N.the-row ∷ ShrSlice (named 0) κ u64 ∷ usize ∷ []) (net, (x, (length ys, tt)))
+      (nmach net ∷ [], (s ∷ [], (vint w64 (length ys) ∷ [], tt)))) ∷ []) ∵ join ! $ frame ! $ done !) $
+      frame ! $ done !
 
-  admit-said : (r : ℕ) → ent 𝓤 (ensured 𝓤 H A refusal.ended (refusal.clauses 𝓤 H A at-mem run) (κ, tt) (net, (x, (length ys, tt))) tt r) (fact 𝓤 (table-meaning net r ≡ count-of (findings-answer net xs (length ys))))
-  admit-said r = exE 𝓤 _ (λ ws. snd∗ 𝓤 (sem 𝓤 H A (lasts refusal.ended (κ, tt) (net, (x, (length ys, tt))) ws)) (fact 𝓤 (table-meaning net r ≡ count-of (findings-answer net xs (length ys)))))
+  admit-said : (r : ℕ) → ent 𝓤
+      (ensured 𝓤 H A refusal.ended (refusal.clauses 𝓤 H A at-mem run) (κ, tt) (net, (x, (length ys, tt))) tt r)
+      (fact 𝓤 (table-meaning net r ≡ count-of (findings-answer net xs (length ys))))
+  admit-said r = exE 𝓤 _ (λ ws. snd∗ 𝓤 (sem 𝓤 H A (lasts refusal.ended (κ, tt) (net, (x, (length ys, tt))) ws))
+      (fact 𝓤 (table-meaning net r ≡ count-of (findings-answer net xs (length ys)))))
 
   abbrev to-find : ℕ → Find 𝓤 H A at-mem run .Ghost
   to-find k = (((κ, tt), (q, tt), tt, (net, (x, (k, tt))), (nmach net ∷ [], (s ∷ [], (vint w64 k ∷ [], tt)))), tt)
 
-  goes-find : (k : ℕ) → k < 2 ^ 64 → (net .nets ≤ 48) × (k < net .nets) × State net (net .nets) xs → ent 𝓤 (sep 𝓤 (sep 𝓤 (A .lft κ q) (sem 𝓤 H A ftrue)) (sem 𝓤 H A Own)) (sep 𝓤 (Find 𝓤 H A at-mem run .pre (to-find k)) (sem 𝓤 H A Own))
+  goes-find : (k : ℕ) → k < 2 ^ 64 → (net .nets ≤ 48) × (k < net .nets) × State net (net .nets) xs
+      → ent 𝓤 (sep 𝓤 (sep 𝓤 (A .lft κ q) (sem 𝓤 H A ftrue)) (sem 𝓤 H A Own))
+      (sep 𝓤 (Find 𝓤 H A at-mem run .pre (to-find k)) (sem 𝓤 H A Own))
   goes-find k fits asked =
-      qed W ((‵ (flft κ q) ⊛ ‵ ftrue) ∷ ‵ Own ∷ []) ∵ move ! (1 ∷ []) $ use1 W (‵ Own ⊛ ‵ Own) (shr-slice-copy 𝓤 H A W (named 0) κ u64 .twice x (s ∷ [])) $ split ! $
-      nothing ! $ owned ! usize (Is usize) (uint-makes 𝓤 H A W w64) k _ (refl, fits) $ fjoin ! $ move ! (1 ∷ 0 ∷ []) $ fjoin ! $ owned ! N.the-row (Is N.the-row) (LL.makes N.the-type N′.the-plain 𝓤 H A) net _ net-is $ fjoin ! $
-      move ! (2 ∷ 0 ∷ []) $ use2 W (raw (Find 𝓤 H A at-mem run .pre (to-find k))) (qed W ((‵ (flft κ q) ⊛ ‵ ftrue) ∷ ‵ (owns (N.the-row ∷ ShrSlice (named 0) κ u64 ∷ usize ∷ []) (net, (x, (k, tt))) (nmach net ∷ [], (s ∷ [], (vint w64 k ∷ [], tt)))) ∷ []) ∵ says ! asked $ frame ! $ done !) $ frame ! $ done !
+      qed W ((‵ (flft κ q) ⊛ ‵ ftrue) ∷ ‵ Own ∷ []) ∵ move ! (1 ∷ []) $
+      use1 W (‵ Own ⊛ ‵ Own) (shr-slice-copy 𝓤 H A W (named 0) κ u64 .twice x (s ∷ [])) $ split ! $
+      nothing ! $ owned ! usize (Is usize) (uint-makes 𝓤 H A W w64) k _ (refl, fits) $ fjoin ! $ move ! (1 ∷ 0 ∷ []) $
+      fjoin ! $ owned ! N.the-row (Is N.the-row) (LL.makes N.the-type N′.the-plain 𝓤 H A) net _ net-is $
+      fjoin ! $
+      move ! (2 ∷ 0 ∷ []) $ use2 W (raw (Find 𝓤 H A at-mem run .pre (to-find k)))
+      (qed W ((‵ (flft κ q) ⊛ ‵ ftrue)
+      ∷ ‵ (owns (N.the-row ∷ ShrSlice (named 0) κ u64 ∷ usize ∷ []) (net, (x, (k, tt)))
+      (nmach net ∷ [], (s ∷ [], (vint w64 k ∷ [], tt)))) ∷ []) ∵ says ! asked $ frame ! $ done !) $ frame ! $
+      done !
 
-  find-said : (k : ℕ) (f : Finding) → ent 𝓤 (ensured 𝓤 H A find.ended (find.clauses 𝓤 H A at-mem run) (κ, tt) (net, (x, (k, tt))) tt f) (fact 𝓤 (f ≡ finding net xs k))
+  find-said : (k : ℕ) (f : Finding)
+      → ent 𝓤 (ensured 𝓤 H A find.ended (find.clauses 𝓤 H A at-mem run) (κ, tt) (net, (x, (k, tt))) tt f)
+      (fact 𝓤 (f ≡ finding net xs k))
   find-said k f = exE 𝓤 _ (λ ws. snd∗ 𝓤 (sem 𝓤 H A (lasts find.ended (κ, tt) (net, (x, (k, tt))) ws)) (fact 𝓤 (f ≡ finding net xs k)))
 
   -- from what is had at either return, with the result c and the table at zs
-  exits : (c : ℕ) (zs : List Finding) → c < 2 ^ 64 → length zs ≡ length ys → All (Says net xs ys c zs) → ent 𝓤 (⋆ 𝓤 H A (‵ (fobs γ′ (codedHoleys R .code (heres R zs))) ∷ ‵ (flft κ′ q′) ∷ (‵ (flft κ q) ⊛ ‵ ftrue) ∷ [])) (Post (vint w64 c))
+  exits : (c : ℕ) (zs : List Finding) → c < 2 ^ 64 → length zs ≡ length ys → All (Says net xs ys c zs)
+      → ent 𝓤 (⋆ 𝓤 H A (‵ (fobs γ′ (codedHoleys R .code (heres R zs))) ∷ ‵ (flft κ′ q′) ∷ (‵ (flft κ q) ⊛ ‵ ftrue)
+      ∷ [])) (Post (vint w64 c))
   exits c zs fits size e =
       qed W (‵ (fobs γ′ (codedHoleys R .code (heres R zs))) ∷ ‵ (flft κ′ q′) ∷ (‵ (flft κ q) ⊛ ‵ ftrue) ∷ []) ∵
-      suffices ! _ (ends-at 𝓤 H A F.ended stayed (F.clauses 𝓤 H A at-mem run) W (((κ, (κ′, tt)), (q, (q′, tt)), tt, a, vals), tt) (vint w64 c) c (tt, (tt, (zs, tt))) (tt, (tt, (size, tt)))) $ says-all ! (Says net xs ys c zs) e $
+      suffices ! _ (ends-at 𝓤 H A F.ended stayed (F.clauses 𝓤 H A at-mem run) W
+      (((κ, (κ′, tt)), (q, (q′, tt)), tt, a, vals), tt) (vint w64 c) c (tt, (tt, (zs, tt)))
+      (tt, (tt, (size, tt)))) $ says-all ! (Says net xs ys c zs) e $
       move ! (2 ∷ []) $ split ! $ move ! (3 ∷ 1 ∷ []) $ join ! $ move ! (1 ∷ 0 ∷ []) $ join ! $ frame ! $
       use1 W (‵ (fres γ′ (codedHoleys R .code (heres R zs)))) (W .names .obs-res γ′ (codedHoleys R .code (heres R zs))) $
       use1 W (‵ (finally R γ′ zs)) (res-finally 𝓤 H A W (named 1) κ′ R γ′ zs) $
-      nothing ! $ move ! (1 ∷ 0 ∷ []) $ fjoin ! $ nothing ! $ fjoin ! $ nothing ! $ fjoin ! $ owned ! u64 (Is u64) (uint-makes 𝓤 H A W w64) c _ (refl, fits) $ move ! (1 ∷ 0 ∷ []) $ done !
+      nothing ! $ move ! (1 ∷ 0 ∷ []) $ fjoin ! $ nothing ! $ fjoin ! $ nothing ! $ fjoin ! $
+      owned ! u64 (Is u64) (uint-makes 𝓤 H A W w64) c _ (refl, fits) $ move ! (1 ∷ 0 ∷ []) $ done !
 
-  module _ (𝓣 : Tables 𝓤 H) (known : Triple 𝓤 (𝓣 .C #findings·finding-of) (Find 𝓤 H A at-mem run)) (r : ℕ) (r-fits : r < 2 ^ 64) (e : table-meaning net r ≡ count-of (findings-answer net xs (length ys))) (l₀ l₁ l₂ l₃ l₄ l₅ l₆ l₇ l₈ l₉ l₁₀ l₁₁ : ℕ) where
+  module _ (𝓣 : Tables 𝓤 H) (known : Triple 𝓤 (𝓣 .C #findings·finding-of) (Find 𝓤 H A at-mem run)) (r : ℕ)
+      (r-fits : r < 2 ^ 64) (e : table-meaning net r ≡ count-of (findings-answer net xs (length ys)))
+      (l₀ l₁ l₂ l₃ l₄ l₅ l₆ l₇ l₈ l₉ l₁₀ l₁₁ : ℕ) where
     abbrev C : Calls 𝓤 H
     C = 𝓣 .C
 
@@ -201,17 +256,24 @@ module _ {M : Type 1} (𝓤 : URA M) (H : Heap 𝓤) (A : Atoms 𝓤) (W : Given
     Λ = 𝓣 .Λ
 
     abbrev En : Env 𝓤 H
-    En = (word, l₀) ∷ (N′.mir, l₁) ∷ (of-state, l₂) ∷ (of-table, l₃) ∷ (word, l₄) ∷ (word, l₅) ∷ (word, l₆) ∷ (tyBool, l₇) ∷ (word, l₈) ∷ (tyBool, l₉) ∷ (T′.mir, l₁₀) ∷ (tyPtr, l₁₁) ∷ []
+    En = (word, l₀) ∷ (N′.mir, l₁) ∷ (of-state, l₂) ∷ (of-table, l₃) ∷ (word, l₄) ∷ (word, l₅) ∷ (word, l₆)
+        ∷ (tyBool, l₇) ∷ (word, l₈) ∷ (tyBool, l₉) ∷ (T′.mir, l₁₀) ∷ (tyPtr, l₁₁) ∷ []
 
     -- what stands in the locals that the loop leaves alone
     abbrev Low : List (Item 𝓤)
-    Low = ‵ (fat fullShare word l₄ 0 (vint w64 r)) ∷ ‵ (fdies word l₄) ∷ ‵ (fat fullShare of-table l₃ 0 t) ∷ ‵ (fdies of-table l₃) ∷ ‵ (fat fullShare of-state l₂ 0 s) ∷ ‵ (fdies of-state l₂) ∷ ‵ (fat fullShare N′.mir l₁ 0 (nmach net)) ∷ ‵ (fdies N′.mir l₁) ∷ ‵ (froom word l₀ 0) ∷ ‵ (fdies word l₀) ∷ []
+    Low = ‵ (fat fullShare word l₄ 0 (vint w64 r)) ∷ ‵ (fdies word l₄) ∷ ‵ (fat fullShare of-table l₃ 0 t)
+        ∷ ‵ (fdies of-table l₃) ∷ ‵ (fat fullShare of-state l₂ 0 s) ∷ ‵ (fdies of-state l₂)
+        ∷ ‵ (fat fullShare N′.mir l₁ 0 (nmach net)) ∷ ‵ (fdies N′.mir l₁) ∷ ‵ (froom word l₀ 0) ∷ ‵ (fdies word l₀)
+        ∷ []
 
     -- the context, with the table at zs, and _7 and _5 as they are said to be
     abbrev Cx : List Finding → Item 𝓤 → Item 𝓤 → List (Item 𝓤)
-    Cx zs seven five = ‵ (fobs γ′ (codedHoleys R .code (heres R zs))) ∷ ‵ (fbor κ′ (Held R (length zs) b′ o′ γ′)) ∷ ‵ (flft κ′ q′) ∷ (‵ (flft κ q) ⊛ ‵ ftrue) ∷ ‵ Own
-        ∷ ‵ (froom tyPtr l₁₁ 0) ∷ ‵ (fdies tyPtr l₁₁) ∷ ‵ (froom T′.mir l₁₀ 0) ∷ ‵ (fdies T′.mir l₁₀) ∷ ‵ (froom tyBool l₉ 0) ∷ ‵ (fdies tyBool l₉) ∷ ‵ (froom word l₈ 0) ∷ ‵ (fdies word l₈)
-        ∷ seven ∷ ‵ (fdies tyBool l₇) ∷ ‵ (fat fullShare word l₆ 0 (vint w64 (length ys))) ∷ ‵ (fdies word l₆) ∷ five ∷ ‵ (fdies word l₅) ∷ Low
+    Cx zs seven five = ‵ (fobs γ′ (codedHoleys R .code (heres R zs))) ∷ ‵ (fbor κ′ (Held R (length zs) b′ o′ γ′))
+        ∷ ‵ (flft κ′ q′) ∷ (‵ (flft κ q) ⊛ ‵ ftrue) ∷ ‵ Own
+        ∷ ‵ (froom tyPtr l₁₁ 0) ∷ ‵ (fdies tyPtr l₁₁) ∷ ‵ (froom T′.mir l₁₀ 0) ∷ ‵ (fdies T′.mir l₁₀)
+        ∷ ‵ (froom tyBool l₉ 0) ∷ ‵ (fdies tyBool l₉) ∷ ‵ (froom word l₈ 0) ∷ ‵ (fdies word l₈)
+        ∷ seven ∷ ‵ (fdies tyBool l₇) ∷ ‵ (fat fullShare word l₆ 0 (vint w64 (length ys))) ∷ ‵ (fdies word l₆) ∷ five
+        ∷ ‵ (fdies word l₅) ∷ Low
 
     -- ---- the loop, where the state is taken
     module _ (z : r ≡ 0) where
@@ -232,35 +294,59 @@ module _ {M : Type 1} (𝓤 : URA M) (H : Heap 𝓤) (A : Atoms 𝓤) (W : Given
 
       -- a turn's postcondition: it ends nearer to the end, or the loop is left and the rest of the body runs
       abbrev Turned : Upto → Out → SProp 𝓤
-      Turned i = afterTurn 𝓤 H (Below 𝓤 H A Nearer At i) (afterBlock 𝓤 H (afterSeq 𝓤 H (Wp 𝓤 H C Λ En mirs.t-7 (atReturn 𝓤 H En Post)) (atReturn 𝓤 H En Post)))
+      Turned i = afterTurn 𝓤 H (Below 𝓤 H A Nearer At i)
+          (afterBlock 𝓤 H (afterSeq 𝓤 H (Wp 𝓤 H C Λ En mirs.t-7 (atReturn 𝓤 H En Post)) (atReturn 𝓤 H En Post)))
 
       more : (i : Upto) → i .0 < length xs → Sq W (At i) (runs C Λ En mirs.turn-1 (anyQ (Turned i)))
       unfolding afterTurn
       more i less =
-          assigns ! (of-opd ! (load ! (from ! (fld ! refl (stop !))) (look-in ! 23 (sub ! 1 refl (whole !))))) (from ! (stop !)) (init ! 11 refl (tt, record { fits = room-s .0 })) $
-          assigns ! (bin ! (load ! (from ! (stop !)) (look ! 17 refl)) (load ! (from ! (stop !)) (look ! 11 refl)) tt) (from ! (stop !)) (init ! 9 refl (tt, tt)) $
-          rewrite ! 9 (λ (y : Bool). ‵ (fat fullShare tyBool l₉ 0 (vbool y))) (lt-ltb k (length xs) less) refl $ stays ! (load ! (from ! (stop !)) (look ! 9 refl)) $
+          assigns ! (of-opd ! (load ! (from ! (fld ! refl (stop !))) (look-in ! 23 (sub ! 1 refl (whole !)))))
+          (from ! (stop !)) (init ! 11 refl (tt, record { fits = room-s .0 })) $
+          assigns ! (bin ! (load ! (from ! (stop !)) (look ! 17 refl)) (load ! (from ! (stop !)) (look ! 11 refl)) tt)
+          (from ! (stop !)) (init ! 9 refl (tt, tt)) $
+          rewrite ! 9 (λ (y : Bool). ‵ (fat fullShare tyBool l₉ 0 (vbool y))) (lt-ltb k (length xs) less) refl $
+          stays ! (load ! (from ! (stop !)) (look ! 9 refl)) $
           -- the call
           move ! (3 ∷ 4 ∷ []) $ use2 W (raw (Find 𝓤 H A at-mem run .pre (to-find k)) ⊛ ‵ Own) (goes-find k k-fits asked) $ split ! $
           -- [what the callee asks; Own; obs; the borrow; its token; _11; …]
-          calls-at ! (fmOf 𝓤 H (W .laws) 𝓣) (Find 𝓤 H A at-mem run) known (to-find k) (and-then ! (load ! (from ! (stop !)) (look ! 25 refl)) (and-then ! (load ! (from ! (stop !)) (look ! 23 refl)) (and-then ! (load ! (from ! (stop !)) (look ! 17 refl)) (no-more !)))) (λ w.
-          use1 W (later (some (λ (f : Finding). ((‵ (flft κ q) ⊛ ‵ ftrue) ⊛ ‵ (R .own f (w ∷ []))) ⊛ raw (ensured 𝓤 H A find.ended (find.clauses 𝓤 H A at-mem run) (κ, tt) (net, (x, (k, tt))) tt f)))) (id⊢ 𝓤 _) $ await ! tt $ pick ! (λ f.
-          split ! $ move ! (1 ∷ []) $ use1 W (raw (fact 𝓤 (f ≡ finding net xs k))) (find-said k f) $ heard ! (f ≡ finding net xs k) (λ e′. split ! $ rewrite ! 1 (λ (h : Finding). ‵ (R .own h (w ∷ []))) e′ refl $
+          calls-at ! (fmOf 𝓤 H (W .laws) 𝓣) (Find 𝓤 H A at-mem run) known (to-find k)
+          (and-then ! (load ! (from ! (stop !)) (look ! 25 refl))
+          (and-then ! (load ! (from ! (stop !)) (look ! 23 refl))
+          (and-then ! (load ! (from ! (stop !)) (look ! 17 refl)) (no-more !)))) (λ w.
+          use1 W (later (some (λ (f : Finding). ((‵ (flft κ q) ⊛ ‵ ftrue) ⊛ ‵ (R .own f (w ∷ [])))
+          ⊛ raw (ensured 𝓤 H A find.ended (find.clauses 𝓤 H A at-mem run) (κ, tt) (net, (x, (k, tt))) tt f))))
+          (id⊢ 𝓤 _) $ await ! tt $ pick ! (λ f.
+          split ! $ move ! (1 ∷ []) $ use1 W (raw (fact 𝓤 (f ≡ finding net xs k))) (find-said k f) $
+          heard ! (f ≡ finding net xs k)
+          (λ e′. split ! $ rewrite ! 1 (λ (h : Finding). ‵ (R .own h (w ∷ []))) e′ refl $
           move ! (1 ∷ []) $ peeks ! R (Is R) (shows 𝓤 H A R) (finding net xs k) (w ∷ []) (λ is.
-          -- [the result; the state's token; Own; obs; the borrow; its token; _11; …; and so down to _1; …; room for _0; …]
+          -- [the result; the state's token; Own; obs; the borrow; its token; _11; …; and so down to _1; …; room for _0;
+          -- …]
           land ! (from ! (stop !)) (init ! 8 refl (LL.lawful T.the-type T′.the-laws 𝓤 H A W .typed (finding net xs k) _ is .0)) $
-          assigns ! (bin ! (load ! (from ! (stop !)) (look ! 18 refl)) (lit ! tt) (record { fits = place-fits })) (from ! (stop !)) (store ! 12 refl (tt, record { fits = place-fits })) $
-          assigns ! (bin ! (load ! (from ! (fld ! refl (stop !))) (look-in ! 22 (sub ! 0 refl (whole !)))) (load ! (from ! (stop !)) (look ! 12 refl)) tt) (from ! (stop !)) (init ! 6 refl (tt, tt)) $
+          assigns ! (bin ! (load ! (from ! (stop !)) (look ! 18 refl)) (lit ! tt) (record { fits = place-fits }))
+          (from ! (stop !)) (store ! 12 refl (tt, record { fits = place-fits })) $
+          assigns ! (bin ! (load ! (from ! (fld ! refl (stop !))) (look-in ! 22 (sub ! 0 refl (whole !))))
+          (load ! (from ! (stop !)) (look ! 12 refl)) tt) (from ! (stop !)) (init ! 6 refl (tt, tt)) $
           rewrite ! 6 (λ (p : ℕ). ‵ (fat fullShare tyPtr l₁₁ 0 (vptr b′ p))) (sym (place-is 24 o′ k)) refl $
           -- the table's borrow is opened, the record is stored at its place, and the borrow is closed
-          move ! (3 ∷ 4 ∷ 5 ∷ []) $ opens-slice ! tt R (filled net xs k ys) b′ o′ $ elem-out ! R (Is R) (shows 𝓤 H A R) (LL.vals T.the-type T′.the-laws) (LL.tells T.the-type T′.the-laws) fullShare (filled net xs k ys) k (finding net xs k) b′ o′ there (λ _.
-          assigns ! (of-opd ! (load ! (from ! (stop !)) (look ! 11 refl))) (from ! (hop ! (look ! 9 refl) (stop !))) (store-raw ! 0 refl (LL.lawful T.the-type T′.the-laws 𝓤 H A W .typed (finding net xs k) _ is .0)) $
+          move ! (3 ∷ 4 ∷ 5 ∷ []) $ opens-slice ! tt R (filled net xs k ys) b′ o′ $
+          elem-out ! R (Is R) (shows 𝓤 H A R) (LL.vals T.the-type T′.the-laws)
+          (LL.tells T.the-type T′.the-laws) fullShare (filled net xs k ys) k (finding net xs k) b′ o′ there
+          (λ _.
+          assigns ! (of-opd ! (load ! (from ! (stop !)) (look ! 11 refl))) (from ! (hop ! (look ! 9 refl) (stop !)))
+          (store-raw ! 0 refl (LL.lawful T.the-type T′.the-laws 𝓤 H A W .typed (finding net xs k) _ is .0)) $
           move ! (0 ∷ 6 ∷ 2 ∷ []) $ elem-put ! R fullShare (filled net xs k ys) k (finding net xs k) (w ∷ []) b′ o′ there $
-          move ! (0 ∷ 2 ∷ 3 ∷ 4 ∷ []) $ closes-slice ! tt R (filled net xs k ys) (set (filled net xs k ys) k (finding net xs k)) (length-set (filled net xs k ys) k (finding net xs k)) b′ o′ $
+          move ! (0 ∷ 2 ∷ 3 ∷ 4 ∷ []) $
+          closes-slice ! tt R (filled net xs k ys) (set (filled net xs k ys) k (finding net xs k))
+          (length-set (filled net xs k ys) k (finding net xs k)) b′ o′ $
           move ! (3 ∷ []) $ drop ! $
-          assigns-last ! (bin ! (load ! (from ! (stop !)) (look ! 17 refl)) (lit ! tt) (record { fits = next-fits })) (from ! (stop !)) (store ! 17 refl (tt, record { fits = next-fits })) $
+          assigns-last ! (bin ! (load ! (from ! (stop !)) (look ! 17 refl)) (lit ! tt) (record { fits = next-fits }))
+          (from ! (stop !)) (store ! 17 refl (tt, record { fits = next-fits })) $
           forget ! 5 refl $ forget ! 7 refl $ forget ! 9 refl $ forget ! 11 refl $
-          rewrite ! 0 (λ (l : List Finding). ‵ (fobs γ′ (codedHoleys R .code (heres R l)))) (filled-next net xs ys k less here) refl $ rewrite ! 1 (λ (l : List Finding). ‵ (fbor κ′ (Held R (length l) b′ o′ γ′))) (filled-next net xs ys k less here) refl $
+          rewrite ! 0 (λ (l : List Finding). ‵ (fobs γ′ (codedHoleys R .code (heres R l))))
+          (filled-next net xs ys k less here) refl $
+          rewrite ! 1 (λ (l : List Finding). ‵ (fbor κ′ (Held R (length l) b′ o′ γ′)))
+          (filled-next net xs ys k less here) refl $
           again ! Nearer At i (k + 1, next-le) nearer)))))
         where
           k : ℕ
@@ -293,13 +379,24 @@ module _ {M : Type 1} (𝓤 : URA M) (H : Heap 𝓤) (A : Atoms 𝓤) (W : Given
       ends : (i : Upto) → length xs ≤ i .0 → Sq W (At i) (runs C Λ En mirs.turn-1 (anyQ (Turned i)))
       unfolding afterTurn
       ends i over =
-          assigns ! (of-opd ! (load ! (from ! (fld ! refl (stop !))) (look-in ! 23 (sub ! 1 refl (whole !))))) (from ! (stop !)) (init ! 11 refl (tt, record { fits = room-s .0 })) $
-          assigns ! (bin ! (load ! (from ! (stop !)) (look ! 17 refl)) (load ! (from ! (stop !)) (look ! 11 refl)) tt) (from ! (stop !)) (init ! 9 refl (tt, tt)) $
-          rewrite ! 9 (λ (y : Bool). ‵ (fat fullShare tyBool l₉ 0 (vbool y))) (le-ltb (i .0) (length xs) over) refl $ leaves-loop ! (load ! (from ! (stop !)) (look ! 9 refl)) $ exec ! C Λ En mirs.t-7 (atRet En Post) $
+          assigns ! (of-opd ! (load ! (from ! (fld ! refl (stop !))) (look-in ! 23 (sub ! 1 refl (whole !)))))
+          (from ! (stop !)) (init ! 11 refl (tt, record { fits = room-s .0 })) $
+          assigns ! (bin ! (load ! (from ! (stop !)) (look ! 17 refl)) (load ! (from ! (stop !)) (look ! 11 refl)) tt)
+          (from ! (stop !)) (init ! 9 refl (tt, tt)) $
+          rewrite ! 9 (λ (y : Bool). ‵ (fat fullShare tyBool l₉ 0 (vbool y))) (le-ltb (i .0) (length xs) over) refl $
+          leaves-loop ! (load ! (from ! (stop !)) (look ! 9 refl)) $ exec ! C Λ En mirs.t-7 (atRet En Post) $
           assigns ! (of-opd ! (lit ! tt)) (from ! (stop !)) (init ! 27 refl (tt, record { fits = lit< tt })) $
-          returns ! (look ! 27 refl) $ forget ! 9 refl $ forget ! 11 refl $ forget ! 15 refl $ forget ! 17 refl $ forget ! 19 refl $ forget ! 21 refl $ forget ! 23 refl $ forget ! 25 refl $ forget ! 27 refl $
-          move ! (27 ∷ 28 ∷ []) $ free1 ! $ move ! (25 ∷ 26 ∷ []) $ free1 ! $ move ! (23 ∷ 24 ∷ []) $ free1 ! $ move ! (21 ∷ 22 ∷ []) $ free1 ! $ move ! (19 ∷ 20 ∷ []) $ free1 ! $ move ! (17 ∷ 18 ∷ []) $ free1 ! $ move ! (15 ∷ 16 ∷ []) $ free1 ! $ move ! (13 ∷ 14 ∷ []) $ free1 ! $ move ! (11 ∷ 12 ∷ []) $ free1 ! $ move ! (9 ∷ 10 ∷ []) $ free1 ! $ move ! (7 ∷ 8 ∷ []) $ free1 ! $ move ! (5 ∷ 6 ∷ []) $ free1 ! $ free0 ! $
-          keep ! (0 ∷ 2 ∷ 3 ∷ []) $ by ! (exits 0 (filled net xs (i .0) ys) (lit< tt) (filled-length net xs ys (i .0) (i .1) fits) (says-filled net xs ys (i .0) (subst (λ (c : ℕ). table-meaning net c ≡ count-of (findings-answer net xs (length ys))) z e) all-of))
+          returns ! (look ! 27 refl) $ forget ! 9 refl $ forget ! 11 refl $ forget ! 15 refl $ forget ! 17 refl $
+          forget ! 19 refl $ forget ! 21 refl $ forget ! 23 refl $ forget ! 25 refl $ forget ! 27 refl $
+          move ! (27 ∷ 28 ∷ []) $ free1 ! $ move ! (25 ∷ 26 ∷ []) $ free1 ! $ move ! (23 ∷ 24 ∷ []) $ free1 ! $
+          move ! (21 ∷ 22 ∷ []) $ free1 ! $ move ! (19 ∷ 20 ∷ []) $ free1 ! $ move ! (17 ∷ 18 ∷ []) $ free1 ! $
+          move ! (15 ∷ 16 ∷ []) $ free1 ! $ move ! (13 ∷ 14 ∷ []) $ free1 ! $ move ! (11 ∷ 12 ∷ []) $ free1 ! $
+          move ! (9 ∷ 10 ∷ []) $ free1 ! $ move ! (7 ∷ 8 ∷ []) $ free1 ! $ move ! (5 ∷ 6 ∷ []) $ free1 ! $
+          free0 ! $
+          keep ! (0 ∷ 2 ∷ 3 ∷ []) $
+          by ! (exits 0 (filled net xs (i .0) ys) (lit< tt) (filled-length net xs ys (i .0) (i .1) fits)
+          (says-filled net xs ys (i .0)
+          (subst (λ (c : ℕ). table-meaning net c ≡ count-of (findings-answer net xs (length ys))) z e) all-of))
         where
           all-of : i .0 ≡ length xs
           all-of = omega (arith, over, i .1)
@@ -319,50 +416,102 @@ module _ {M : Type 1} (𝓤 : URA M) (H : Heap 𝓤) (A : Atoms 𝓤) (W : Given
       from-loop = first ! $ blocks ! $ loops ! 𝓣 Nearer Nearer-wf At turns (0, zero-le)
 
     -- ---- the branch: the early return, and the loop
-    from-test : Sq W (Cx (filled net xs 0 ys) (‵ (fat fullShare tyBool l₇ 0 (vbool (not (eqb r 0))))) (‵ (froom word l₅ 0))) (runs C Λ En mirs.t-4 (atRet En Post))
+    from-test : Sq W (Cx (filled net xs 0 ys) (‵ (fat fullShare tyBool l₇ 0 (vbool (not (eqb r 0)))))
+        (‵ (froom word l₅ 0))) (runs C Λ En mirs.t-4 (atRet En Post))
     from-test =
         first ! $ branches ! (load ! (from ! (stop !)) (look ! 13 refl))
-        (λ ne. assigns ! (of-opd ! (load ! (from ! (stop !)) (look ! 19 refl))) (from ! (stop !)) (init ! 27 refl (tt, record { fits = r-fits })) $
-        returns-within ! Post refl (look ! 27 refl) $ forget ! 13 refl $ forget ! 15 refl $ forget ! 19 refl $ forget ! 21 refl $ forget ! 23 refl $ forget ! 25 refl $ forget ! 27 refl $
-        move ! (27 ∷ 28 ∷ []) $ free1 ! $ move ! (25 ∷ 26 ∷ []) $ free1 ! $ move ! (23 ∷ 24 ∷ []) $ free1 ! $ move ! (21 ∷ 22 ∷ []) $ free1 ! $ move ! (19 ∷ 20 ∷ []) $ free1 ! $ move ! (17 ∷ 18 ∷ []) $ free1 ! $ move ! (15 ∷ 16 ∷ []) $ free1 ! $ move ! (13 ∷ 14 ∷ []) $ free1 ! $ move ! (11 ∷ 12 ∷ []) $ free1 ! $ move ! (9 ∷ 10 ∷ []) $ free1 ! $ move ! (7 ∷ 8 ∷ []) $ free1 ! $ move ! (5 ∷ 6 ∷ []) $ free1 ! $ free0 ! $
-        keep ! (0 ∷ 2 ∷ 3 ∷ []) $ by ! (exits r (filled net xs 0 ys) r-fits (filled-length net xs ys 0 zero-le zero-le) (says-refused net xs ys r e (nonzero r ne))))
-        (λ eq. skips ! $ exec ! C Λ En mirs.t-5 (atRet En Post) $ assigns ! (of-opd ! (lit ! tt)) (from ! (stop !)) (init ! 17 refl (tt, record { fits = lit< tt })) $ forget ! 13 refl $
+        (λ ne. assigns ! (of-opd ! (load ! (from ! (stop !)) (look ! 19 refl))) (from ! (stop !))
+        (init ! 27 refl (tt, record { fits = r-fits })) $
+        returns-within ! Post refl (look ! 27 refl) $ forget ! 13 refl $ forget ! 15 refl $ forget ! 19 refl $
+        forget ! 21 refl $ forget ! 23 refl $ forget ! 25 refl $ forget ! 27 refl $
+        move ! (27 ∷ 28 ∷ []) $ free1 ! $ move ! (25 ∷ 26 ∷ []) $ free1 ! $ move ! (23 ∷ 24 ∷ []) $ free1 ! $
+        move ! (21 ∷ 22 ∷ []) $ free1 ! $ move ! (19 ∷ 20 ∷ []) $ free1 ! $ move ! (17 ∷ 18 ∷ []) $ free1 ! $
+        move ! (15 ∷ 16 ∷ []) $ free1 ! $ move ! (13 ∷ 14 ∷ []) $ free1 ! $ move ! (11 ∷ 12 ∷ []) $ free1 ! $
+        move ! (9 ∷ 10 ∷ []) $ free1 ! $ move ! (7 ∷ 8 ∷ []) $ free1 ! $ move ! (5 ∷ 6 ∷ []) $ free1 ! $
+        free0 ! $
+        keep ! (0 ∷ 2 ∷ 3 ∷ []) $
+        by ! (exits r (filled net xs 0 ys) r-fits (filled-length net xs ys 0 zero-le zero-le)
+        (says-refused net xs ys r e (nonzero r ne))))
+        (λ eq. skips ! $ exec ! C Λ En mirs.t-5 (atRet En Post) $
+        assigns ! (of-opd ! (lit ! tt)) (from ! (stop !)) (init ! 17 refl (tt, record { fits = lit< tt })) $
+        forget ! 13 refl $
         from-loop (eqb→eq r 0 (twice-not (eqb r 0) eq)))
 
-  module _ (𝓣 : Tables 𝓤 H) (known-admit : Triple 𝓤 (𝓣 .C #findings·table-refusal) (Admit 𝓤 H A at-mem run)) (known-find : Triple 𝓤 (𝓣 .C #findings·finding-of) (Find 𝓤 H A at-mem run)) where
-    walk : ent 𝓤 (onEntry 𝓤 H A F.signature (κ, (κ′, tt)) (q, (q′, tt)) a vals) (WpFn 𝓤 H (𝓣 .C) (𝓣 .Λ) code.function (nmach net ∷ s ∷ t ∷ []) Post)
+  module _ (𝓣 : Tables 𝓤 H) (known-admit : Triple 𝓤 (𝓣 .C #findings·table-refusal) (Admit 𝓤 H A at-mem run))
+      (known-find : Triple 𝓤 (𝓣 .C #findings·finding-of) (Find 𝓤 H A at-mem run)) where
+    walk : ent 𝓤 (onEntry 𝓤 H A F.signature (κ, (κ′, tt)) (q, (q′, tt)) a vals)
+        (WpFn 𝓤 H (𝓣 .C) (𝓣 .Λ) code.function (nmach net ∷ s ∷ t ∷ []) Post)
     walk =
-        qed W ((‵ (flft κ q) ⊛ ‵ (flft κ′ q′) ⊛ ‵ ftrue) ∷ ‵ (owns (N.the-row ∷ ShrSlice (named 0) κ u64 ∷ MutSlice (named 1) κ′ R ∷ []) a vals) ∷ []) ∵ enter ! (𝓣 .C) (𝓣 .Λ) code.function (nmach net ∷ s ∷ t ∷ []) _ $
-        alloc1 ! (λ l₀. alloc1 ! (λ l₁. alloc1 ! (λ l₂. alloc1 ! (λ l₃. alloc1 ! (λ l₄. alloc1 ! (λ l₅. alloc1 ! (λ l₆. alloc1 ! (λ l₇. alloc1 ! (λ l₈. alloc1 ! (λ l₉. alloc1 ! (λ l₁₀. alloc1 ! (λ l₁₁. alloc0 ! $ params1 ! $
-        pass1 ! (init ! 20 refl (LL.lawful N.the-type N′.the-laws 𝓤 H A W .typed net _ net-is .0)) $ pass1 ! (init ! 18 refl (tt, (tt, (record { fits = room-s .0 }, tt)))) $ pass1 ! (init ! 16 refl (tt, (tt, (record { fits = room-t .0 }, tt)))) $ pass0 ! $
-        assigns ! (of-opd ! (load ! (from ! (fld ! refl (stop !))) (look-in ! 16 (sub ! 1 refl (whole !))))) (from ! (stop !)) (init ! 10 refl (tt, record { fits = room-t .0 })) $
+        qed W ((‵ (flft κ q) ⊛ ‵ (flft κ′ q′) ⊛ ‵ ftrue)
+        ∷ ‵ (owns (N.the-row ∷ ShrSlice (named 0) κ u64 ∷ MutSlice (named 1) κ′ R ∷ []) a vals) ∷ []) ∵ enter !
+        (𝓣 .C) (𝓣 .Λ) code.function (nmach net ∷ s ∷ t ∷ []) _ $
+        alloc1 ! (λ l₀. alloc1 ! (λ l₁. alloc1 !
+        (λ l₂. alloc1 ! (λ l₃. alloc1 !
+        (λ l₄. alloc1 ! (λ l₅. alloc1 !
+        (λ l₆. alloc1 ! (λ l₇. alloc1 !
+        (λ l₈. alloc1 ! (λ l₉. alloc1 ! (λ l₁₀. alloc1 ! (λ l₁₁. alloc0 ! $ params1 ! $
+        pass1 ! (init ! 20 refl (LL.lawful N.the-type N′.the-laws 𝓤 H A W .typed net _ net-is .0)) $
+        pass1 ! (init ! 18 refl (tt, (tt, (record { fits = room-s .0 }, tt)))) $
+        pass1 ! (init ! 16 refl (tt, (tt, (record { fits = room-t .0 }, tt)))) $ pass0 ! $
+        assigns ! (of-opd ! (load ! (from ! (fld ! refl (stop !))) (look-in ! 16 (sub ! 1 refl (whole !)))))
+        (from ! (stop !)) (init ! 10 refl (tt, record { fits = room-t .0 })) $
         -- what the parameters own is taken apart, and the tokens are
         move ! (25 ∷ []) $ fsplit ! $ drop ! $ fsplit ! $ move ! (1 ∷ []) $ fsplit ! $ fsplit ! $ drop ! $ fsplit ! $
         move ! (28 ∷ []) $ split ! $ move ! (1 ∷ []) $ split ! $ move ! (2 ∷ 1 ∷ []) $ join ! $
         -- [the state's token; the table's; obs; the borrow; true; Own; _11; …]
         move ! (0 ∷ 5 ∷ []) $ use2 W (raw (Admit 𝓤 H A at-mem run .pre to-admit) ⊛ ‵ Own) goes-admit $ split ! $
-        calls-at ! (fmOf 𝓤 H (W .laws) 𝓣) (Admit 𝓤 H A at-mem run) known-admit to-admit (and-then ! (load ! (from ! (stop !)) (look ! 26 refl)) (and-then ! (load ! (from ! (stop !)) (look ! 24 refl)) (and-then ! (load ! (from ! (stop !)) (look ! 16 refl)) (no-more !)))) (λ w.
-        use1 W (later (some (λ (r : ℕ). ((‵ (flft κ q) ⊛ ‵ ftrue) ⊛ ‵ (u64 .own r (w ∷ []))) ⊛ raw (ensured 𝓤 H A refusal.ended (refusal.clauses 𝓤 H A at-mem run) (κ, tt) (net, (x, (length ys, tt))) tt r)))) (id⊢ 𝓤 _) $ await ! tt $ pick ! (λ r.
-        split ! $ move ! (1 ∷ []) $ use1 W (raw (fact 𝓤 (table-meaning net r ≡ count-of (findings-answer net xs (length ys))))) (admit-said r) $ heard ! (table-meaning net r ≡ count-of (findings-answer net xs (length ys))) (λ e. split ! $ move ! (1 ∷ []) $
+        calls-at ! (fmOf 𝓤 H (W .laws) 𝓣) (Admit 𝓤 H A at-mem run) known-admit to-admit
+        (and-then ! (load ! (from ! (stop !)) (look ! 26 refl))
+        (and-then ! (load ! (from ! (stop !)) (look ! 24 refl))
+        (and-then ! (load ! (from ! (stop !)) (look ! 16 refl)) (no-more !)))) (λ w.
+        use1 W (later (some (λ (r : ℕ). ((‵ (flft κ q) ⊛ ‵ ftrue) ⊛ ‵ (u64 .own r (w ∷ [])))
+        ⊛ raw (ensured 𝓤 H A refusal.ended (refusal.clauses 𝓤 H A at-mem run) (κ, tt)
+        (net, (x, (length ys, tt))) tt r)))) (id⊢ 𝓤 _) $ await ! tt $ pick ! (λ r.
+        split ! $ move ! (1 ∷ []) $
+        use1 W (raw (fact 𝓤 (table-meaning net r ≡ count-of (findings-answer net xs (length ys)))))
+        (admit-said r) $ heard ! (table-meaning net r ≡ count-of (findings-answer net xs (length ys)))
+        (λ e. split ! $ move ! (1 ∷ []) $
         peeks ! u64 (Is u64) (shows 𝓤 H A u64) r (w ∷ []) (λ is.
-        -- [the result; the state's token; Own; the table's token; obs; the borrow; true; _11; …; and so down to _1; …; room for _0; …]
-        land ! (from ! (stop !)) (init ! 21 refl (uint-lawful 𝓤 H A W w64 .typed r _ is .0)) $ rewrite ! 21 (λ (u : Val). ‵ (fat fullShare word l₄ 0 u)) (ap only (is .0)) refl $
+        -- [the result; the state's token; Own; the table's token; obs; the borrow; true; _11; …; and so down to _1; …;
+        -- room for _0; …]
+        land ! (from ! (stop !)) (init ! 21 refl (uint-lawful 𝓤 H A W w64 .typed r _ is .0)) $
+        rewrite ! 21 (λ (u : Val). ‵ (fat fullShare word l₄ 0 u)) (ap only (is .0)) refl $
         assigns ! (bin ! (load ! (from ! (stop !)) (look ! 21 refl)) (lit ! tt) tt) (from ! (stop !)) (init ! 15 refl (tt, tt)) $
-        keep ! (4 ∷ 5 ∷ 3 ∷ 1 ∷ 2 ∷ 7 ∷ 8 ∷ 9 ∷ 10 ∷ 11 ∷ 12 ∷ 13 ∷ 14 ∷ 15 ∷ 16 ∷ 17 ∷ 18 ∷ 19 ∷ 20 ∷ 21 ∷ 22 ∷ 23 ∷ 24 ∷ 25 ∷ 26 ∷ 27 ∷ 28 ∷ 29 ∷ 30 ∷ []) $
-        rewrite ! 0 (λ (l : List Finding). ‵ (fobs γ′ (codedHoleys R .code (heres R l)))) (filled-none net xs ys) refl $ rewrite ! 1 (λ (l : List Finding). ‵ (fbor κ′ (Held R (length l) b′ o′ γ′))) (filled-none net xs ys) refl $
+        keep ! (4 ∷ 5 ∷ 3 ∷ 1 ∷ 2 ∷ 7 ∷ 8 ∷ 9 ∷ 10 ∷ 11 ∷ 12 ∷ 13 ∷ 14 ∷ 15 ∷ 16 ∷ 17 ∷ 18 ∷ 19 ∷ 20 ∷ 21 ∷ 22 ∷ 23 ∷ 24
+        ∷ 25 ∷ 26 ∷ 27 ∷ 28 ∷ 29 ∷ 30 ∷ []) $
+        rewrite ! 0 (λ (l : List Finding). ‵ (fobs γ′ (codedHoleys R .code (heres R l)))) (filled-none net xs ys) refl $
+        rewrite ! 1 (λ (l : List Finding). ‵ (fbor κ′ (Held R (length l) b′ o′ γ′)))
+        (filled-none net xs ys) refl $
         from-test 𝓣 known-find r (is .1) e l₀ l₁ l₂ l₃ l₄ l₅ l₆ l₇ l₈ l₉ l₁₀ l₁₁))))))))))))))))
 
 module _ {M : Type 1} (𝓤 : URA M) (H : Heap 𝓤) (A : Atoms 𝓤) (W : Given 𝓤 H A) (at-mem : Memory → SProp 𝓤) (run : Routine → Fun 𝓤) where
-  walks : (𝓣 : Tables 𝓤 H) → Triple 𝓤 (𝓣 .C #findings·table-refusal) (Admit 𝓤 H A at-mem run) → Triple 𝓤 (𝓣 .C #findings·finding-of) (Find 𝓤 H A at-mem run) → Walks 𝓤 H A F.ended stayed (WpFn 𝓤 H (𝓣 .C) (𝓣 .Λ) code.function) (F.clauses 𝓤 H A at-mem run)
+  walks : (𝓣 : Tables 𝓤 H) → Triple 𝓤 (𝓣 .C #findings·table-refusal) (Admit 𝓤 H A at-mem run)
+      → Triple 𝓤 (𝓣 .C #findings·finding-of) (Find 𝓤 H A at-mem run)
+      → Walks 𝓤 H A F.ended stayed (WpFn 𝓤 H (𝓣 .C) (𝓣 .Λ) code.function) (F.clauses 𝓤 H A at-mem run)
   walks 𝓣 known-admit known-find = walked 𝓤 H A F.ended stayed (F.clauses 𝓤 H A at-mem run) (WpFn 𝓤 H (𝓣 .C) (𝓣 .Λ) code.function)
-      (λ κs. (LL.vals N.the-type N′.the-laws, (slice-vals, (slice-vals, tt)))) (λ κs. (LL.tells N.the-type N′.the-laws, (shr-slice-tells (named 0) (κs .0) u64, (mut-slice-tells (named 1) (κs .1 .0) R, tt))))
+      (λ κs. (LL.vals N.the-type N′.the-laws, (slice-vals, (slice-vals, tt))))
+      (λ κs. (
+        LL.tells N.the-type N′.the-laws,
+        (shr-slice-tells (named 0) (κs .0) u64, (mut-slice-tells (named 1) (κs .1 .0) R, tt)),
+      ))
       (λ κs qs bounds a g are. via 𝓤 _ (fst∗ 𝓤 _ (emp 𝓤))
-      (walk 𝓤 H A W at-mem run (κs .0) (κs .1 .0) (qs .0) (qs .1 .0) (a .0) (are .0) (a .1 .0 .ptr .0) (a .1 .0 .ptr .1) (a .1 .0 .name) (a .1 .0 .now) (a .1 .1 .0 .ptr .0) (a .1 .1 .0 .ptr .1) (a .1 .1 .0 .name) (a .1 .1 .0 .now) (are .1 .0 .0 .1) (are .1 .1 .0 .0 .1) 𝓣 known-admit known-find))
+      (walk 𝓤 H A W at-mem run (κs .0) (κs .1 .0) (qs .0) (qs .1 .0) (a .0) (are .0) (a .1 .0 .ptr .0) (a .1 .0 .ptr .1)
+      (a .1 .0 .name) (a .1 .0 .now) (a .1 .1 .0 .ptr .0) (a .1 .1 .0 .ptr .1) (a .1 .1 .0 .name)
+      (a .1 .1 .0 .now) (are .1 .0 .0 .1) (are .1 .1 .0 .0 .1) 𝓣 known-admit known-find))
 
   all-go : AllGo 𝓤 H A W 2 (F.signature .params) (F.ended .kept) stayed
-  all-go = (goes-dropped 𝓤 H A W 2 (plain (λ _. N.the-row)) yes (λ κs x f. refl), (goes-dropped 𝓤 H A W 2 (shrSliceOf (0 ∷ []) tt (plain (λ _. u64))) yes (λ κs x f. refl), (goes-gave-slice 𝓤 H A W 2 1 tt (plain (λ _. R)), tt)))
+  all-go = (
+    goes-dropped 𝓤 H A W 2 (plain (λ _. N.the-row)) yes (λ κs x f. refl),
+    (
+      goes-dropped 𝓤 H A W 2 (shrSliceOf (0 ∷ []) tt (plain (λ _. u64))) yes (λ κs x f. refl),
+      (goes-gave-slice 𝓤 H A W 2 1 tt (plain (λ _. R)), tt),
+    ),
+  )
 
-findings-meets : {M : Type 1} (𝓤 : URA M) (H : Heap 𝓤) (A : Atoms 𝓤) → Given 𝓤 H A → (at-mem : Memory → SProp 𝓤) (run : Routine → Fun 𝓤) (𝓣 : Tables 𝓤 H) → Triple 𝓤 (𝓣 .C #findings·table-refusal) (Admit 𝓤 H A at-mem run) → Triple 𝓤 (𝓣 .C #findings·finding-of) (Find 𝓤 H A at-mem run)
+findings-meets : {M : Type 1} (𝓤 : URA M) (H : Heap 𝓤) (A : Atoms 𝓤) → Given 𝓤 H A
+    → (at-mem : Memory → SProp 𝓤) (run : Routine → Fun 𝓤) (𝓣 : Tables 𝓤 H)
+    → Triple 𝓤 (𝓣 .C #findings·table-refusal) (Admit 𝓤 H A at-mem run)
+    → Triple 𝓤 (𝓣 .C #findings·finding-of) (Find 𝓤 H A at-mem run)
     → Meets 𝓤 H A F.signature (WpFn 𝓤 H (𝓣 .C) (𝓣 .Λ) code.function) (F.spec 𝓤 H A at-mem run)
 findings-meets 𝓤 H A W at-mem run 𝓣 known-admit known-find =
     walk-meets 𝓤 H A F.ended stayed W (all-go 𝓤 H A W at-mem run) (F.clauses 𝓤 H A at-mem run)
@@ -374,5 +523,9 @@ findings-spec 𝓤 H 𝓜 𝓖 𝓡 =
     entered 𝓤 H (tripleOf 𝓤 H (𝓖 .A) F.signature (F.spec 𝓤 H (𝓖 .A) (𝓜 .mem) (𝓡 .run)))
     (tables 𝓤 H 𝓜 𝓡 code.env .C) (tables 𝓤 H 𝓜 𝓡 code.env .Λ) #findings·findings code.function (code.unfolded 𝓤 H 𝓜 𝓡)
     (findings-meets 𝓤 H (𝓖 .A) (givenOf 𝓤 H 𝓜 𝓖) (𝓜 .mem) (𝓡 .run) (tablesOf 𝓤 H 𝓜 (tables 𝓤 H 𝓜 𝓡 code.env))
-    (cited 𝓤 H (Admit 𝓤 H (𝓖 .A) (𝓜 .mem) (𝓡 .run)) 𝓜 𝓡 code.env #findings·table-refusal refusal-def.routine code.calls-findings·table-refusal (refusal-thm.met 𝓤 H 𝓜 𝓖 𝓡))
-    (cited 𝓤 H (Find 𝓤 H (𝓖 .A) (𝓜 .mem) (𝓡 .run)) 𝓜 𝓡 code.env #findings·finding-of find-def.routine code.calls-findings·finding-of (find-thm.met 𝓤 H 𝓜 𝓖 𝓡)))
+    (cited 𝓤 H (Admit 𝓤 H (𝓖 .A) (𝓜 .mem)
+    (𝓡 .run)) 𝓜 𝓡 code.env #findings·table-refusal refusal-def.routine code.calls-findings·table-refusal
+    (refusal-thm.met 𝓤 H 𝓜 𝓖 𝓡))
+    (cited 𝓤 H (Find 𝓤 H (𝓖 .A) (𝓜 .mem)
+    (𝓡 .run)) 𝓜 𝓡 code.env #findings·finding-of find-def.routine code.calls-findings·finding-of
+    (find-thm.met 𝓤 H 𝓜 𝓖 𝓡)))

@@ -24,7 +24,8 @@ unfolding is-partner
 partner-at net state i j b l e = rw (tabulate-at (net .nets) (λ x. x) j l, e)
 
 abbrev Inv-loop : tie.InvT-loop
-Inv-loop net state i own partners₀ j₀ partners j = (j ≤ net .nets) × (partners ≡ word (map (is-partner net state i) (take j (tabulate (net .nets) (λ x. x)))))
+Inv-loop net state i own partners₀ j₀ partners j =
+    (j ≤ net .nets) × (partners ≡ word (map (is-partner net state i) (take j (tabulate (net .nets) (λ x. x)))))
 
 abbrev μ-loop : tie.MeasureT-loop
 μ-loop net state i own partners₀ j₀ partners j = net .nets - j
@@ -71,8 +72,10 @@ loop-again c =
     partner-at (a .net) (a .state .now) (a .i) (l .j) (m .meets .result) (omega arith) (m .meets .ensures) in (
       omega arith,
       ⊎-elim
-          (λ w. w .1 ∙ word-set (is-partner (a .net) (a .state .now) (a .i)) xs (l .j) (l .partners) (l .inv .1) (omega arith) (omega arith) (here ∙ w .0 .taken))
-          (λ w. w .1 ∙ word-keep (is-partner (a .net) (a .state .now) (a .i)) xs (l .j) (l .partners) (l .inv .1) (omega arith) (here ∙ w .0 .left))
+          (λ w. w .1 ∙ word-set (is-partner (a .net) (a .state .now) (a .i)) xs (l .j) (l .partners) (l .inv .1)
+          (omega arith) (omega arith) (here ∙ w .0 .taken))
+          (λ w. w .1 ∙ word-keep (is-partner (a .net) (a .state .now) (a .i)) xs (l .j) (l .partners) (l .inv .1)
+          (omega arith) (here ∙ w .0 .left))
           (c .if2 .came),
     )
 

@@ -57,7 +57,8 @@ returns-2 c =
 no-room-requires : tie.Need-no-room-requires
 no-room-requires c κs = search needs
 
-eleven : (c : tie.Else2) → let a = c .before .before .before .before .before .args in not-a-state (a .net) (a .net .nets) (a .state .now) ≡ false
+eleven : (c : tie.Else2) → let a = c .before .before .before .before .before .args in
+    not-a-state (a .net) (a .net .nets) (a .state .now) ≡ false
 eleven c = sym (c .before .not-a-state .ensures) ∙ c .if2 .left
 
 returns-3 : tie.Need-returns-3

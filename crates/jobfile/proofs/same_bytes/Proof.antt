@@ -54,7 +54,8 @@ returns-3 : tie.Need-returns-3 Inv-loop μ-loop
 returns-3 c =
     let g = c .before in
     let a = g .before .before .args in
-    sym (same-if-equal (a .left .now) (a .right .now) (ext-getD 0 (a .left .now) (a .right .now) (g .before .if1 .left) (λ z l. g .loop .inv .1 z (omega arith))))
+    sym (same-if-equal (a .left .now) (a .right .now)
+    (ext-getD 0 (a .left .now) (a .right .now) (g .before .if1 .left) (λ z l. g .loop .inv .1 z (omega arith))))
 
 pub same-bytes-spec : {M : Type 1} → statement M
 same-bytes-spec =

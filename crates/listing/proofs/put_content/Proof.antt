@@ -34,7 +34,8 @@ module _ (c : tie.After-slice-known2) where
   start = c .before .before .before .before .before .before .before .before
 
   abbrev line : List ℕ
-  line = verdict-line (start .args .net) (start .args .class) (length (start .args .vectors .now)) (verdict (start .args .net) (start .args .class) (start .args .vectors .now))
+  line = verdict-line (start .args .net) (start .args .class) (length (start .args .vectors .now))
+      (verdict (start .args .net) (start .args .class) (start .args .vectors .now))
 
   abbrev text-then : List ℕ
   text-then = c .before .before .put-verdict .last .0
@@ -43,14 +44,17 @@ module _ (c : tie.After-slice-known2) where
   line-end =
       let a = start .args in
       let p = c .before .before .put-verdict in
-      let same = ap (λ (v : Verdict). length (verdict-line (a .net) (a .class) (length (a .vectors .now)) v)) (c .before .before .before .before .verdict-of .ensures) in
+      let same = ap (λ (v : Verdict). length (verdict-line (a .net) (a .class) (length (a .vectors .now)) v))
+      (c .before .before .before .before .verdict-of .ensures) in
       omega (arith, p .ensures .0, same)
 
   line-put : text-then ≡ written (start .args .text .now) 0 line
   line-put =
       let a = start .args in
       let p = c .before .before .put-verdict in
-      p .ensures .1 ∙ ap (λ (v : Verdict). written (a .text .now) 0 (verdict-line (a .net) (a .class) (length (a .vectors .now)) v)) (c .before .before .before .before .verdict-of .ensures)
+      p .ensures .1 ∙ ap (λ (v : Verdict). written (a .text .now) 0
+      (verdict-line (a .net) (a .class) (length (a .vectors .now)) v))
+      (c .before .before .before .before .verdict-of .ensures)
 
   line-most : length line ≤ 110
   line-most = verdict-most (start .args .net) (start .args .class) (length (start .args .vectors .now)) _
@@ -61,7 +65,9 @@ returns c =
     let d = c .before in
     let a = start d .args in
     let whole : line d ++ responses-text (a .net) (a .class) (a .vectors .now) (a .responses .now) ≡ line d =
-    ap (λ (rest : List ℕ). line d ++ rest) (nothing-follows (a .net) (a .class) (a .vectors .now) (a .responses .now) (c .if1 .taken)) ∙ append-nil (line d) in
+    ap (λ (rest : List ℕ). line d ++ rest)
+    (nothing-follows (a .net) (a .class) (a .vectors .now) (a .responses .now) (c .if1 .taken))
+    ∙ append-nil (line d) in
     (line-end d ∙ ap length (sym whole), line-put d ∙ ap (written (a .text .now) 0) (sym whole))
 
 put-diagnosis-requires : tie.Need-put-diagnosis-requires
@@ -87,10 +93,12 @@ returns-2 c =
     let found = diagnosis-text (a .net) (diagnosis-answer (a .net) (a .class) (a .vectors .now) (a .responses .now) 48) in
     let rest : responses-text (a .net) (a .class) (a .vectors .now) (a .responses .now) ≡ found =
     diagnosis-follows (a .net) (a .class) (a .vectors .now) (a .responses .now) (e .if1 .left) in
-    let whole : line d ++ found ≡ line d ++ responses-text (a .net) (a .class) (a .vectors .now) (a .responses .now) = ap (λ (l : List ℕ). line d ++ l) (sym rest) in
+    let whole : line d ++ found ≡ line d ++ responses-text (a .net) (a .class) (a .vectors .now) (a .responses .now) =
+    ap (λ (l : List ℕ). line d ++ l) (sym rest) in
     let size = length-append (line d) found in (
       p .put-diagnosis .ensures .0 ∙ omega (arith, size, line-end d) ∙ ap length whole,
-      written-next (a .text .now) (text-then d) (p .put-diagnosis .last .0) 0 (d .before .before .put-verdict .result) (line d) found (line-put d)
+      written-next (a .text .now) (text-then d) (p .put-diagnosis .last .0) 0 (d .before .before .put-verdict .result)
+          (line d) found (line-put d)
           (p .put-diagnosis .ensures .1) (omega (arith, line-end d)) (omega arith)
           ∙ ap (written (a .text .now) 0) whole,
     )

@@ -41,12 +41,14 @@ module _ (c : tie.After-enum-told) where
   abbrev list : List ℕ
   list = c .before .before .before .diagnose .last .1 .1 .1 .1 .0
 
-  wrote : (diagnosis-answer (start .args .net) (start .args .class) (start .args .vectors .now) (start .args .responses .now) 48 ≡ full (take (start .args .net .nets) list))
+  wrote : (diagnosis-answer (start .args .net) (start .args .class) (start .args .vectors .now)
+      (start .args .responses .now) 48 ≡ full (take (start .args .net .nets) list))
       × NoneHolds (FindingsRows (start .args .net) (take (start .args .net .nets) list) 48)
   wrote =
       let a = start .args in
       let d = c .before .before .before .diagnose in
-      diagnosis-wrote (a .net) (a .class) (a .vectors .now) (a .responses .now) (replicate 48 0) list (d .result) (c .enum-told .given .0 .0) (d .ensures .0) (d .ensures .1) (c .enum-told .given .1)
+      diagnosis-wrote (a .net) (a .class) (a .vectors .now) (a .responses .now) (replicate 48 0) list (d .result)
+      (c .enum-told .given .0 .0) (d .ensures .0) (d .ensures .1) (c .enum-told .given .1)
 
 slice-aggregate-put-nets : tie.Need-slice-aggregate-put-nets
 slice-aggregate-put-nets c =
@@ -76,7 +78,8 @@ returns c =
     let d = r .before .before .before .diagnose in
     let number = r .answer .given .0 .0 in
     put-for (a .net) (a .at) (p .put-refused .result) (a .text .now) (p .put-refused .last .0) _ (refused number)
-    (diagnosis-refused (a .net) (a .class) (a .vectors .now) (a .responses .now) (replicate 48 0) (d .last .1 .1 .1 .1 .0) (d .result) number (d .ensures .0) (r .answer .given .1))
+    (diagnosis-refused (a .net) (a .class) (a .vectors .now) (a .responses .now) (replicate 48 0)
+    (d .last .1 .1 .1 .1 .0) (d .result) number (d .ensures .0) (r .answer .given .1))
     (p .put-refused .ensures)
 
 same-length-2 : tie.Need-same-length-2
@@ -87,7 +90,8 @@ returns-2 c =
     let p = c .before .before in
     let d = p .before .before .before in
     let a = start d .args in
-    put-for (a .net) (a .at) (p .put-nets .result) (a .text .now) (p .put-nets .last .0) _ (full (take (a .net .nets) (list d))) (wrote d .0) (p .put-nets .ensures)
+    put-for (a .net) (a .at) (p .put-nets .result) (a .text .now) (p .put-nets .last .0) _
+    (full (take (a .net .nets) (list d))) (wrote d .0) (p .put-nets .ensures)
 
 pub put-diagnosis-spec : {M : Type 1} → statement M
 put-diagnosis-spec =

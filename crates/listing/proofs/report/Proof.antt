@@ -60,13 +60,15 @@ array-share-prefix-vectors : tie.Need-array-share-prefix-vectors
 array-share-prefix-vectors c = was-read (c .before .before) .vectors-room
 
 slice-aggregate-put-content-2 : tie.Need-slice-aggregate-put-content-2
-slice-aggregate-put-content-2 c = let d = c .before .before .before in sym (length-take-le (job d .vectors) (vectors d) (was-read d .vectors-room))
+slice-aggregate-put-content-2 c = let d = c .before .before .before in
+    sym (length-take-le (job d .vectors) (vectors d) (was-read d .vectors-room))
 
 array-share-prefix-responses : tie.Need-array-share-prefix-responses
 array-share-prefix-responses c = was-read (c .before .before .before) .responses-room
 
 slice-aggregate-put-content-3 : tie.Need-slice-aggregate-put-content-3
-slice-aggregate-put-content-3 c = let d = c .before .before .before .before in sym (length-take-le (job d .responses) (responses d) (was-read d .responses-room))
+slice-aggregate-put-content-3 c = let d = c .before .before .before .before in
+    sym (length-take-le (job d .responses) (responses d) (was-read d .responses-room))
 
 put-content-requires : tie.Need-put-content-requires
 put-content-requires c κs = let d = c .before .before .before .before in (was-read d .admitted, refl)
@@ -74,7 +76,11 @@ put-content-requires c κs = let d = c .before .before .before .before in (was-r
 -- a text put into zeros
 put-whole : (file text bytes : List ℕ) (count : ℕ) → report file ≡ text → count ≡ length text → bytes ≡ written (replicate 4142 0) 0 text
     → (count ≡ length (report file)) × (bytes ≡ lent-after (full (report file)) (replicate 4142 0))
-put-whole file text bytes count e n b = (n ∙ ap length (sym e), b ∙ written-front (replicate 4142 0) text ∙ ap (λ (t : List ℕ). lent-after (full t) (replicate 4142 0)) (sym e))
+put-whole file text bytes count e n b = (
+  n ∙ ap length (sym e),
+  b ∙ written-front (replicate 4142 0) text
+      ∙ ap (λ (t : List ℕ). lent-after (full t) (replicate 4142 0)) (sym e),
+)
 
 returns : tie.Need-returns
 returns c =
@@ -90,7 +96,8 @@ returns-2 : tie.Need-returns-2
 returns-2 c =
     let p = c .before .put-content in
     let d = c .before .before .before .before .before .before in
-    put-whole (file d) (content-text (job d .network) (job d .class) (take (job d .vectors) (vectors d)) (take (job d .responses) (responses d))) (p .last .0) (p .result) (was-read d .text)
+    put-whole (file d) (content-text (job d .network) (job d .class) (take (job d .vectors) (vectors d))
+    (take (job d .responses) (responses d))) (p .last .0) (p .result) (was-read d .text)
     (p .ensures .0) (p .ensures .1)
 
 pub report-spec : {M : Type 1} → statement M

@@ -27,11 +27,13 @@ module _ (net : Network) (k : ℕ) (vectors state lent : List ℕ) where
 
   -- and where they admit the test set: rows 11 and 12, then the response
   by-own : set-admission net k vectors ≡ full tt
-      → response-answer net k vectors state (length lent) ≡ by-tests (own-tests net k vectors state (length lent)) (response net state vectors)
+      → response-answer net k vectors state (length lent)
+      ≡ by-tests (own-tests net k vectors state (length lent)) (response net state vectors)
   unfolding response-answer
   by-own e = set-admits net k vectors (own-tests net k vectors state (length lent)) (response net state vectors) e
 
-  by-row-11 : set-admission net k vectors ≡ full tt → not-a-state net k state ≡ true → response-answer net k vectors state (length lent) ≡ refused 11
+  by-row-11 : set-admission net k vectors ≡ full tt → not-a-state net k state ≡ true
+      → response-answer net k vectors state (length lent) ≡ refused 11
   unfolding by-tests
   by-row-11 e f = by-own e ∙ rw f
 
@@ -67,7 +69,9 @@ enum-told c = search needs
 
 -- rows 5 to 8 have admitted the test set
 admitted : (c : tie.After-enum-told)
-    → set-admission (c .before .before .before .before .before .before .args .net) (c .before .before .before .before .before .before .args .class) (c .before .before .before .before .before .before .args .vectors .now)
+    → set-admission (c .before .before .before .before .before .before .args .net)
+    (c .before .before .before .before .before .before .args .class)
+    (c .before .before .before .before .before .before .args .vectors .now)
     ≡ full tt
 admitted c = sym (c .before .before .admit-set .ensures) ∙ ap admission (c .enum-told .given .1)
 
@@ -81,14 +85,17 @@ returns-2 : tie.Need-returns-2
 returns-2 c =
     let a = c .before .before .before .before .before .before .before .before .args in
     owed-refused _ 11 (a .out .now)
-    (by-row-11 (a .net) (a .class) (a .vectors .now) (a .state .now) (a .out .now) (admitted (c .before .before)) (sym (c .before .not-a-state .ensures) ∙ c .if1 .taken))
+    (by-row-11 (a .net) (a .class) (a .vectors .now) (a .state .now) (a .out .now) (admitted (c .before .before))
+    (sym (c .before .not-a-state .ensures) ∙ c .if1 .taken))
 
 no-room-requires : tie.Need-no-room-requires
 no-room-requires c κs = search needs
 
 -- row 11 does not hold
 is-state : (c : tie.Else1)
-    → not-a-state (c .before .before .before .before .before .before .before .before .args .net) (c .before .before .before .before .before .before .before .before .args .class) (c .before .before .before .before .before .before .before .before .args .state .now)
+    → not-a-state (c .before .before .before .before .before .before .before .before .args .net)
+    (c .before .before .before .before .before .before .before .before .args .class)
+    (c .before .before .before .before .before .before .before .before .args .state .now)
     ≡ false
 is-state c = sym (c .before .not-a-state .ensures) ∙ c .if1 .left
 
@@ -96,7 +103,8 @@ returns-3 : tie.Need-returns-3
 returns-3 c =
     let a = c .before .before .before .before .before .before .before .before .before .before .args in
     owed-refused _ 12 (a .out .now)
-    (by-row-12 (a .net) (a .class) (a .vectors .now) (a .state .now) (a .out .now) (admitted (c .before .before .before .before)) (is-state (c .before .before))
+    (by-row-12 (a .net) (a .class) (a .vectors .now) (a .state .now) (a .out .now)
+    (admitted (c .before .before .before .before)) (is-state (c .before .before))
     (sym (c .before .no-room .ensures) ∙ c .if2 .taken))
 
 fill-response-requires : tie.Need-fill-response-requires
@@ -105,8 +113,12 @@ fill-response-requires c κs =
     let a = c .before .before .before .before .before .before .before .before .before .before .before .args in
     let s = set-admitted (a .net) (a .class) (a .vectors .now) (admitted (d .before .before)) in
     let state = test→state (a .net) (a .class) (a .state .now) (is-state d) in
-    let size = state .size in
-    (omega (arith, s .most, size), λ i l. state .reach i l .inside, ltb-false _ _ (sym (c .before .before .no-room .ensures) ∙ c .before .if2 .left))
+    let size = state .size in (
+      omega (arith, s .most, size),
+      λ i l. state .reach i l .inside,
+      ltb-false _ _
+          (sym (c .before .before .no-room .ensures) ∙ c .before .if2 .left),
+    )
 
 same-length : tie.Need-same-length
 same-length c = search needs

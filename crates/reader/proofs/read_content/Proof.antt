@@ -14,12 +14,14 @@ use Rattle.network.specs.Rows.{admission, no-room}
 use Rattle.jobfile.specs.Layout.{file-network, file-class, body-words, file-responses}
 use Rattle.jobfile.proofs.FileRows.{two-entries}
 use Rattle.reader.specs.declared.Job.{Job}
-use Rattle.reader.proofs.ReaderAnswers.{file-admission, content-same, file-no-room, by-rows-5-to-10, by-row-12, by-none, owed-refused-both, owed-content}
+use Rattle.reader.proofs.ReaderAnswers.{file-admission, content-same, file-no-room, by-rows-5-to-10, by-row-12}
+use Rattle.reader.proofs.ReaderAnswers.{by-none, owed-refused-both, owed-content}
 use Rattle.reader.proofs.read_content.Statement.{statement}
 use Rattle.reader.proofs.read_content.Tie as tie
 
 job-same : (net net′ : Network) (k k′ v v′ r r′ : ℕ) → net ≡ net′ → k ≡ k′ → v ≡ v′ → r ≡ r′
-    → _≡_ {A = Job} (record { network = net; class = k; vectors = v; responses = r }) (record { network = net′; class = k′; vectors = v′; responses = r′ })
+    → _≡_ {A = Job} (record { network = net; class = k; vectors = v; responses = r })
+    (record { network = net′; class = k′; vectors = v′; responses = r′ })
 job-same net net′ k k′ v v′ r r′ a b c d = rw (a, b, c, d)
 
 file-network-requires : tie.Need-file-network-requires
@@ -80,7 +82,8 @@ module _ (c : tie.After-response-count) where
       ∙ c .before .before .before .body-words .ensures .1
 
   came-is : came ≡ file-responses file
-  came-is = ap (λ (n : ℕ). take n (c .before .response-words .result)) (c .response-count .ensures .0) ∙ c .before .response-words .ensures .1
+  came-is = ap (λ (n : ℕ). take n (c .before .response-words .result)) (c .response-count .ensures .0)
+      ∙ c .before .response-words .ensures .1
 
 slice-aggregate-admit-job : tie.Need-slice-aggregate-admit-job
 slice-aggregate-admit-job c = sym (sent-size (c .before))
@@ -106,7 +109,8 @@ module _ (c : tie.After-admit-job) where
   told =
       let f = read .before .before .before .before in
       sym (c .admit-job .ensures
-      ∙ content-same (file read) (f .before .before .file-network .result) (f .before .file-class .result) (sent read) (came read) (f .has-responses .result)
+      ∙ content-same (file read) (f .before .before .file-network .result) (f .before .file-class .result) (sent read)
+      (came read) (f .has-responses .result)
       (f .before .before .file-network .ensures) (f .before .file-class .ensures) (sent-is read) (came-is read) (f .has-responses .ensures))
 
 returns : tie.Need-returns
@@ -117,7 +121,8 @@ returns c =
     let vectors = s .args .vectors .now in
     let responses = s .args .responses .now in
     owed-refused-both _ number vectors responses
-    (by-rows-5-to-10 (file (read d)) (length vectors) (length responses) (s .pre .0) (s .pre .1) (s .pre .2) number (told d ∙ ap admission (c .before .admission .given .1)))
+    (by-rows-5-to-10 (file (read d)) (length vectors) (length responses) (s .pre .0) (s .pre .1) (s .pre .2) number
+    (told d ∙ ap admission (c .before .admission .given .1)))
 
 enum-told : tie.Need-enum-told
 enum-told c = search needs
@@ -144,7 +149,8 @@ module _ (c : tie.After-no-room) where
       let vectors-room = length (begun .args .vectors .now) in
       let responses-room = length (begun .args .responses .now) in
       sym (c .no-room .ensures
-      ∙ ap₂ (λ (x y : ℕ). no-room x vectors-room || no-room y responses-room) (read asked .before .before .word-count .ensures .0) (read asked .response-count .ensures .0))
+      ∙ ap₂ (λ (x y : ℕ). no-room x vectors-room || no-room y responses-room)
+      (read asked .before .before .word-count .ensures .0) (read asked .response-count .ensures .0))
 
 returns-2 : tie.Need-returns-2
 returns-2 c =
@@ -217,7 +223,8 @@ returns-3 c =
     } in
     owed-content (whole d) _ job vectors responses _ _
     (by-none (whole d) (length vectors) (length responses) (s .pre .0) (s .pre .1) (s .pre .2) (admitted d) (twelve d ∙ e .if1 .left))
-    (job-same _ _ _ _ _ _ _ _ (f .before .before .file-network .ensures) (f .before .file-class .ensures) (kept e .before .before .word-count .ensures .0) (kept e .response-count .ensures .0))
+    (job-same _ _ _ _ _ _ _ _ (f .before .before .file-network .ensures) (f .before .file-class .ensures)
+    (kept e .before .before .word-count .ensures .0) (kept e .response-count .ensures .0))
     (first .copy-words .ensures ∙ ap (λ (l : List ℕ). lent-after (full l) vectors) (sent-is (kept e)))
     (second .copy-words2 .ensures ∙ ap (λ (l : List ℕ). lent-after (full l) responses) (came-is (kept e)))
 

@@ -31,7 +31,8 @@ returns-2 c =
     let e = c .before .before in
     let a = e .before .before .before .before .before .args in
     owed-refused-both _ 2 (a .vectors .now) (a .responses .now)
-    (by-row-2 (a .file .now) (length (a .vectors .now)) (length (a .responses .now)) (mark e) (sym (c .before .bad-layout .ensures) ∙ c .if2 .taken))
+    (by-row-2 (a .file .now) (length (a .vectors .now)) (length (a .responses .now)) (mark e)
+    (sym (c .before .bad-layout .ensures) ∙ c .if2 .taken))
 
 bad-bodies-requires : tie.Need-bad-bodies-requires
 bad-bodies-requires c κs = layout c
@@ -42,7 +43,8 @@ returns-3 c =
     let e = f .before .before in
     let a = e .before .before .before .before .before .args in
     owed-refused-both _ 3 (a .vectors .now) (a .responses .now)
-    (by-row-3 (a .file .now) (length (a .vectors .now)) (length (a .responses .now)) (mark e) (layout f) (sym (c .before .bad-bodies .ensures) ∙ c .if3 .taken))
+    (by-row-3 (a .file .now) (length (a .vectors .now)) (length (a .responses .now)) (mark e) (layout f)
+    (sym (c .before .bad-bodies .ensures) ∙ c .if3 .taken))
 
 read-content-requires : tie.Need-read-content-requires
 read-content-requires c κs =

@@ -22,7 +22,8 @@ enum-known-input : tie.Need-enum-known-input
 enum-known-input c = search needs
 
 -- what was read is within the buffer, whichever outcome tells it
-read-room : (input outcome : Input) (count : ℕ) (last : List ℕ) → Within input deciding-bytes → input ≡ outcome → (Within outcome deciding-bytes → count ≤ deciding-bytes)
+read-room : (input outcome : Input) (count : ℕ) (last : List ℕ) → Within input deciding-bytes → input ≡ outcome
+    → (Within outcome deciding-bytes → count ≤ deciding-bytes)
     → length last ≡ deciding-bytes → count ≤ length last
 read-room input outcome count last within e most size =
     let fits = most (subst (λ (i : Input). Within i deciding-bytes) e within) in
@@ -38,7 +39,8 @@ full-room : (c : tie.After-input2) → c .input2 .given .0 .0 ≤ length (c .bef
 full-room c =
     let r = c .before .before .before .read-input in
     let n = c .input2 .given .0 .0 in
-    read-room (r .result) (Full n) n (r .last .0) (r .ensures) (c .input2 .given .1) (λ e. omega (arith, e)) (c .before .before .file2 .given)
+    read-room (r .result) (Full n) n (r .last .0) (r .ensures) (c .input2 .given .1) (λ e. omega (arith, e))
+    (c .before .before .file2 .given)
 
 array-share-prefix-file : tie.Need-array-share-prefix-file
 array-share-prefix-file c = ended-room (c .before)

@@ -14,7 +14,8 @@ report-requires : tie.Need-report-requires
 report-requires c κs = search needs
 
 -- the text is within its array
-text-room : (text bytes : List ℕ) (count : ℕ) → count ≡ length text → bytes ≡ lent-after (full text) (replicate 4142 0) → count ≤ length bytes
+text-room : (text bytes : List ℕ) (count : ℕ) → count ≡ length text → bytes ≡ lent-after (full text) (replicate 4142 0)
+    → count ≤ length bytes
 text-room text bytes count n b = let fits = written-fits text (replicate 4142 0) in let size = ap length b in omega (arith, n, fits, size)
 
 array-share-prefix-bytes : tie.Need-array-share-prefix-bytes
@@ -23,7 +24,8 @@ array-share-prefix-bytes c = let r = c .before .report in text-room _ (r .result
 slice-aggregate-write-all : tie.Need-slice-aggregate-write-all
 slice-aggregate-write-all c =
     let r = c .before .before .report in
-    sym (length-take-le (r .result .count) (r .result .bytes) (text-room _ (r .result .bytes) (r .result .count) (r .ensures .0) (r .ensures .1)))
+    sym (length-take-le (r .result .count) (r .result .bytes)
+    (text-room _ (r .result .bytes) (r .result .count) (r .ensures .0) (r .ensures .1)))
 
 write-all-requires : tie.Need-write-all-requires
 write-all-requires c κs = search needs

@@ -41,7 +41,8 @@ returns : tie.Need-returns
 returns c =
     let d = c .before in
     let a = d .before .before .before .args in
-    step-refused (begin-answer (a .net) (length (a .list .now))) (awaiting-first (a .net)) (a .session) 5 (c .refused .result) (a .list .now) (c .refused .ensures)
+    step-refused (begin-answer (a .net) (length (a .list .now))) (awaiting-first (a .net)) (a .session) 5
+    (c .refused .result) (a .list .now) (c .refused .ensures)
     (row-5 (a .net) (length (a .list .now)) (sym (d .before .bad-net-count .ensures) ∙ d .if1 .taken))
 
 -- ---- row 5 does not hold
@@ -63,7 +64,8 @@ no-room-requires : tie.Need-no-room-requires
 no-room-requires c κs = search needs
 
 -- the test of row 12
-room-test : (c : tie.After-no-room) → let a = start (c .before .before) .args in no-room (word-length (a .net)) (length (a .list .now)) ≡ c .no-room .result
+room-test : (c : tie.After-no-room) → let a = start (c .before .before) .args in
+    no-room (word-length (a .net)) (length (a .list .now)) ≡ c .no-room .result
 room-test c =
     let a = start (c .before .before) .args in
     ap (λ (p : ℕ). no-room p (length (a .list .now))) (sym (c .before .word-length .ensures)) ∙ sym (c .no-room .ensures)
@@ -76,7 +78,8 @@ returns-2 c =
     let d = c .before in
     let e = d .before .before .before in
     let a = start e .args in
-    step-refused (begin-answer (a .net) (length (a .list .now))) (awaiting-first (a .net)) (a .session) 12 (c .refused2 .result) (a .list .now) (c .refused2 .ensures)
+    step-refused (begin-answer (a .net) (length (a .list .now))) (awaiting-first (a .net)) (a .session) 12
+    (c .refused2 .result) (a .list .now) (c .refused2 .ensures)
     (row-12 (a .net) (length (a .list .now)) (nets-good e) (room-test (d .before) ∙ d .if2 .taken))
 
 first-vectors-requires : tie.Need-first-vectors-requires
@@ -98,8 +101,10 @@ returns-3 c =
     let d = f .before .before in
     let e = d .before .before .before in
     let a = start e .args in
-    step-full (begin-answer (a .net) (length (a .list .now))) (awaiting-first (a .net)) (a .session) (c .awaiting-first .result) (first-vectors (a .net)) (a .list .now) _
-    (accepted (a .net) (length (a .list .now)) (nets-good e) (room-test (d .before) ∙ d .if2 .left)) (c .awaiting-first .ensures) (f .first-vectors .ensures)
+    step-full (begin-answer (a .net) (length (a .list .now))) (awaiting-first (a .net)) (a .session)
+    (c .awaiting-first .result) (first-vectors (a .net)) (a .list .now) _
+    (accepted (a .net) (length (a .list .now)) (nets-good e) (room-test (d .before) ∙ d .if2 .left))
+    (c .awaiting-first .ensures) (f .first-vectors .ensures)
 
 pub begin-step-spec : {M : Type 1} → statement M
 begin-step-spec =

@@ -43,7 +43,8 @@ module _ (session : Session) (answers : List ℕ) (room : ℕ) where
         unfolding first-answer by-tests
         row-12 e = rw (waits, first-size (session .network), nine, ten, e)
 
-        accepted : no-room (length (second-vectors (session .network) answers)) room ≡ false → first-answer session answers room ≡ full (second-vectors (session .network) answers)
+        accepted : no-room (length (second-vectors (session .network) answers)) room ≡ false
+            → first-answer session answers room ≡ full (second-vectors (session .network) answers)
         unfolding first-answer by-tests
         accepted e = rw (waits, first-size (session .network), nine, ten, e)
 
@@ -61,8 +62,10 @@ returns : tie.Need-returns
 returns c =
     let d = c .before in
     let a = d .before .before .before .before .args in
-    step-refused (first-answer (a .session) (a .answers .now) (length (a .list .now))) (new-record (a .session) (a .answers .now)) (a .session) 4 (c .refused .result) (a .list .now)
-    (c .refused .ensures) (row-4 (a .session) (a .answers .now) (length (a .list .now)) (sym (d .before .awaits-first .ensures) ∙ not-true _ (d .if1 .taken)))
+    step-refused (first-answer (a .session) (a .answers .now) (length (a .list .now)))
+    (new-record (a .session) (a .answers .now)) (a .session) 4 (c .refused .result) (a .list .now)
+    (c .refused .ensures) (row-4 (a .session) (a .answers .now) (length (a .list .now))
+    (sym (d .before .awaits-first .ensures) ∙ not-true _ (d .if1 .taken)))
 
 -- ---- row 4 does not hold
 
@@ -86,10 +89,13 @@ bad-response-count-requires c κs = search needs
 
 -- the test of row 9
 count-test : (c : tie.After-bad-response-count)
-    → let a = start (c .before .before .before) .args in bad-response-count (word-length (a .session .network)) (length (a .answers .now)) ≡ c .bad-response-count .result
+    → let a = start (c .before .before .before) .args in
+    bad-response-count (word-length (a .session .network)) (length (a .answers .now))
+    ≡ c .bad-response-count .result
 count-test c =
     let a = start (c .before .before .before) .args in
-    ap (λ (p : ℕ). bad-response-count p (length (a .answers .now))) (sym (c .before .word-length .ensures)) ∙ sym (c .bad-response-count .ensures)
+    ap (λ (p : ℕ). bad-response-count p (length (a .answers .now))) (sym (c .before .word-length .ensures))
+    ∙ sym (c .bad-response-count .ensures)
 
 refused-requires-2 : tie.Need-refused-requires-2
 refused-requires-2 c κs = search needs
@@ -99,7 +105,8 @@ returns-2 c =
     let d = c .before in
     let e = d .before .before .before .before in
     let a = start e .args in
-    step-refused (first-answer (a .session) (a .answers .now) (length (a .list .now))) (new-record (a .session) (a .answers .now)) (a .session) 9 (c .refused2 .result) (a .list .now)
+    step-refused (first-answer (a .session) (a .answers .now) (length (a .list .now)))
+    (new-record (a .session) (a .answers .now)) (a .session) 9 (c .refused2 .result) (a .list .now)
     (c .refused2 .ensures) (row-9 (a .session) (a .answers .now) (length (a .list .now)) (waits e) (count-test (d .before) ∙ d .if2 .taken))
 
 -- ---- row 9 does not hold
@@ -131,9 +138,11 @@ returns-3 c =
     let d = c .before in
     let f = d .before .before in
     let a = start (waiting f) .args in
-    step-refused (first-answer (a .session) (a .answers .now) (length (a .list .now))) (new-record (a .session) (a .answers .now)) (a .session) 10 (c .refused3 .result) (a .list .now)
+    step-refused (first-answer (a .session) (a .answers .now) (length (a .list .now)))
+    (new-record (a .session) (a .answers .now)) (a .session) 10 (c .refused3 .result) (a .list .now)
     (c .refused3 .ensures)
-    (row-10 (a .session) (a .answers .now) (length (a .list .now)) (waits (waiting f)) (nine f) (sym (d .before .has-high-bit .ensures) ∙ d .if3 .taken))
+    (row-10 (a .session) (a .answers .now) (length (a .list .now)) (waits (waiting f)) (nine f)
+    (sym (d .before .has-high-bit .ensures) ∙ d .if3 .taken))
 
 -- ---- row 10 does not hold
 
@@ -156,16 +165,20 @@ module _ (c : tie.After-no-room) where
   ten : has-high-bit (given .args .session .network) (given .args .answers .now) ≡ false
   ten = sym (c .before .before .before .before .has-high-bit .ensures) ∙ c .before .before .before .if3 .left
 
-  front-size : c .before .before .second-vectors .result .count ≡ length (take (c .before .before .second-vectors .result .count) (c .before .before .second-vectors .result .words))
+  front-size : c .before .before .second-vectors .result .count
+      ≡ length (take (c .before .before .second-vectors .result .count)
+      (c .before .before .second-vectors .result .words))
   front-size =
       let r = c .before .before .second-vectors in
       sym (length-take-le (r .result .count) (r .result .words) (omega (arith, r .ensures .0, r .ensures .1)))
 
-  vectors-size : c .before .before .second-vectors .result .count ≡ length (second-vectors (given .args .session .network) (given .args .answers .now))
+  vectors-size : c .before .before .second-vectors .result .count
+      ≡ length (second-vectors (given .args .session .network) (given .args .answers .now))
   vectors-size = front-size ∙ ap length (c .before .before .second-vectors .ensures .2)
 
   -- the test of row 12
-  room-test : no-room (length (second-vectors (given .args .session .network) (given .args .answers .now))) (length (given .args .list .now)) ≡ c .no-room .result
+  room-test : no-room (length (second-vectors (given .args .session .network) (given .args .answers .now)))
+      (length (given .args .list .now)) ≡ c .no-room .result
   room-test = ap (λ (count : ℕ). no-room count (length (given .args .list .now))) (sym vectors-size) ∙ sym (c .no-room .ensures)
 
 refused-requires-4 : tie.Need-refused-requires-4
@@ -176,9 +189,11 @@ returns-4 c =
     let d = c .before in
     let r = d .before in
     let a = given r .args in
-    step-refused (first-answer (a .session) (a .answers .now) (length (a .list .now))) (new-record (a .session) (a .answers .now)) (a .session) 12 (c .refused4 .result) (a .list .now)
+    step-refused (first-answer (a .session) (a .answers .now) (length (a .list .now)))
+    (new-record (a .session) (a .answers .now)) (a .session) 12 (c .refused4 .result) (a .list .now)
     (c .refused4 .ensures)
-    (row-12 (a .session) (a .answers .now) (length (a .list .now)) (waits (waiting (counted r))) (nine (counted r)) (ten r) (room-test r ∙ d .if4 .taken))
+    (row-12 (a .session) (a .answers .now) (length (a .list .now)) (waits (waiting (counted r))) (nine (counted r))
+    (ten r) (room-test r ∙ d .if4 .taken))
 
 -- ---- no row holds
 
@@ -208,11 +223,14 @@ returns-5 c =
     let d = f .before .before .before in
     let r = d .before in
     let a = given r .args in
-    step-full (first-answer (a .session) (a .answers .now) (length (a .list .now))) (new-record (a .session) (a .answers .now)) (a .session) (c .answered .result)
+    step-full (first-answer (a .session) (a .answers .now) (length (a .list .now)))
+    (new-record (a .session) (a .answers .now)) (a .session) (c .answered .result)
     (second-vectors (a .session .network) (a .answers .now)) (a .list .now) _
-    (accepted (a .session) (a .answers .now) (length (a .list .now)) (waits (waiting (counted r))) (nine (counted r)) (ten r) (room-test r ∙ d .if4 .left))
+    (accepted (a .session) (a .answers .now) (length (a .list .now)) (waits (waiting (counted r))) (nine (counted r))
+    (ten r) (room-test r ∙ d .if4 .left))
     (c .answered .ensures)
-    (f .copy-words .ensures ∙ ap (λ (words : List ℕ). lent-after (full words) (a .list .now)) (r .before .before .second-vectors .ensures .2))
+    (f .copy-words .ensures ∙ ap (λ (words : List ℕ). lent-after (full words) (a .list .now))
+    (r .before .before .second-vectors .ensures .2))
 
 pub first-step-spec : {M : Type 1} → statement M
 first-step-spec =

@@ -62,7 +62,9 @@ module _ (session : Session) (answers : List ℕ) where
   owed : (number : ℕ) (done : Stepped) → (done .code ≡ number) × (done .session ≡ session) → second-answer session answers ≡ refused number
       → (done .session ≡ second-answered session answers .session) × (done .code ≡ second-answered session answers .code)
   owed number done r e =
-      let o = step-refused (second-answer session answers) (finished (session .network) (state-read session answers) (length (vectors-driven session))) session number done [] r e in
+      let o = step-refused (second-answer session answers)
+      (finished (session .network) (state-read session answers)
+      (length (vectors-driven session))) session number done [] r e in
       (o .0, o .1 .0)
 
 -- a list to which nothing is written
@@ -157,7 +159,8 @@ count-test : (c : tie.After-bad-response-count)
     bad-response-count (length (asked (session w))) (length (start (waiting w) .args .answers .now)) ≡ c .bad-response-count .result
 count-test c =
     let v = c .before .before in
-    ap (λ (count : ℕ). bad-response-count count (length (start (waiting (counted v)) .args .answers .now))) (sym (vectors-size v)) ∙ sym (c .bad-response-count .ensures)
+    ap (λ (count : ℕ). bad-response-count count (length (start (waiting (counted v)) .args .answers .now)))
+    (sym (vectors-size v)) ∙ sym (c .bad-response-count .ensures)
 
 refused-requires-2 : tie.Need-refused-requires-2
 refused-requires-2 c κs = search needs
@@ -230,7 +233,8 @@ settled-requires c κs =
       held-size w ∙ w .word-length .ensures,
       v .second-vectors .ensures .2,
       eqb-true _ _ (not-false _ (nine f)) ∙ ap length (sym (vectors-are v)),
-      subst (λ (held : List ℕ). ¬ (HighBit net held)) (sym (held-is w)) (decides-high-bit net (held-answers (session w)) .1 (t .no-high-bit)),
+      subst (λ (held : List ℕ). ¬ (HighBit net held)) (sym (held-is w))
+          (decides-high-bit net (held-answers (session w)) .1 (t .no-high-bit)),
       decides-high-bit net (answers f) .1 (ten e),
     )
 
@@ -249,12 +253,17 @@ module _ (c : tie.After-settled) where
   fits-is : c .settled .result .fits ≡ not (none-fits (session started) given)
   fits-is =
       let net = session started .network in
-      c .settled .ensures .1 ∙ ap (λ (held : List ℕ). not (no-state-fits net (net .nets) (session-vectors net held) (held ++ given))) (held-is started)
+      c .settled .ensures .1 ∙ ap
+      (λ (held : List ℕ). not (no-state-fits net (net .nets) (session-vectors net held) (held ++ given)))
+      (held-is started)
 
-  state-is : c .settled .result .fits ≡ true → take (session started .network .nets) (c .settled .result .state) ≡ state-read (session started) given
+  state-is : c .settled .result .fits ≡ true
+      → take (session started .network .nets) (c .settled .result .state) ≡ state-read (session started) given
   state-is e =
       let net = session started .network in
-      c .settled .ensures .2 e ∙ ap (λ (held : List ℕ). read-back net (net .nets) (session-vectors net held) (held ++ given)) (held-is started)
+      c .settled .ensures .2 e ∙ ap
+      (λ (held : List ℕ). read-back net (net .nets) (session-vectors net held) (held ++ given))
+      (held-is started)
 
   state-room : session started .network .nets ≤ length (c .settled .result .state)
   state-room = omega (arith, nets-bounds (waiting started) .1, c .settled .ensures .0)
@@ -262,7 +271,8 @@ module _ (c : tie.After-settled) where
   state-size : length (take (session started .network .nets) (c .settled .result .state)) ≡ session started .network .nets
   state-size = length-take-le (session started .network .nets) (c .settled .result .state) state-room
 
-  spent-is : started .word-length .result + vectored (passed unrefused) .second-vectors .result .count ≡ length (vectors-driven (session started))
+  spent-is : started .word-length .result + vectored (passed unrefused) .second-vectors .result .count
+      ≡ length (vectors-driven (session started))
   spent-is =
       let net = session started .network in
       let a : started .word-length .result ≡ length (first-vectors net) = started .word-length .ensures ∙ sym (first-size net) in
@@ -279,7 +289,8 @@ returns-4 c =
     let e = unrefused z in
     let w = started z in
     owed (session w) (given z) 14 (c .refused4 .result) (c .refused4 .ensures)
-    (row-14 (session w) (given z) (waits (waiting w)) (nine (passed e)) (ten e) (not-false _ (sym (fits-is z) ∙ not-true _ (d .if4 .taken))))
+    (row-14 (session w) (given z) (waits (waiting w)) (nine (passed e)) (ten e)
+    (not-false _ (sym (fits-is z) ∙ not-true _ (d .if4 .taken))))
 
 array-share-prefix-state : tie.Need-array-share-prefix-state
 array-share-prefix-state c = state-room (c .before .before .before)
@@ -305,7 +316,9 @@ returns-5 c =
     let w = started z in
     let fits : z .settled .result .fits ≡ true = not-false _ (d .if4 .left) in
     let o =
-    step-full (second-answer (session w) (given z)) (finished (session w .network) (state-read (session w) (given z)) (length (vectors-driven (session w)))) (session w)
+    step-full (second-answer (session w) (given z))
+    (finished (session w .network) (state-read (session w) (given z)) (length (vectors-driven (session w))))
+    (session w)
     (c .finished .result) [] [] []
     (accepted (session w) (given z) (waits (waiting w)) (nine (passed e)) (ten e) (not-true _ (sym (fits-is z) ∙ fits)))
     (c .finished .ensures ∙ ap₂ (finished (session w .network)) (state-is z fits) (spent-is z)) (sym (nothing [])) in

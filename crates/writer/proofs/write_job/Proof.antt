@@ -26,7 +26,8 @@ module _ (net : Network) (k : ℕ) (vectors responses lent : List ℕ) where
 
   -- and where they admit the test set: rows 9, 10 and 12, then the file
   by-own : set-admission net k vectors ≡ full tt
-      → write-answer net k vectors responses (length lent) ≡ by-tests (own-tests net k vectors responses (length lent)) (file-of net k vectors responses)
+      → write-answer net k vectors responses (length lent)
+      ≡ by-tests (own-tests net k vectors responses (length lent)) (file-of net k vectors responses)
   unfolding write-answer
   by-own e = set-admits net k vectors (own-tests net k vectors responses (length lent)) (file-of net k vectors responses) e
 
@@ -81,11 +82,18 @@ enum-told : tie.Need-enum-told
 enum-told c = search needs
 
 -- rows 5 to 8 have admitted the test set
-admitted : (c : tie.After-enum-told) → set-admission (c .before .before .before .before .before .before .args .net) (c .before .before .before .before .before .before .args .class) (c .before .before .before .before .before .before .args .vectors .now) ≡ full tt
+admitted : (c : tie.After-enum-told)
+    → set-admission (c .before .before .before .before .before .before .args .net)
+    (c .before .before .before .before .before .before .args .class)
+    (c .before .before .before .before .before .before .args .vectors .now) ≡ full tt
 admitted c = sym (c .before .before .admit-set .ensures) ∙ ap admission (c .enum-told .given .1)
 
-set-of : (c : tie.After-enum-told) → AdmittedSet (c .before .before .before .before .before .before .args .net) (c .before .before .before .before .before .before .args .class) (c .before .before .before .before .before .before .args .vectors .now)
-set-of c = let a = c .before .before .before .before .before .before .args in set-admitted (a .net) (a .class) (a .vectors .now) (admitted c)
+set-of : (c : tie.After-enum-told)
+    → AdmittedSet (c .before .before .before .before .before .before .args .net)
+    (c .before .before .before .before .before .before .args .class)
+    (c .before .before .before .before .before .before .args .vectors .now)
+set-of c = let a = c .before .before .before .before .before .before .args in
+    set-admitted (a .net) (a .class) (a .vectors .now) (admitted c)
 
 bad-response-count-requires : tie.Need-bad-response-count-requires
 bad-response-count-requires c κs = search needs
@@ -94,12 +102,18 @@ returns-2 : tie.Need-returns-2
 returns-2 c =
     let d = c .before .before in
     let a = d .before .before .before .before .before .before .args in
-    owed-refused _ 9 (a .file .now) (by-row-9 (a .net) (a .class) (a .vectors .now) (a .responses .now) (a .file .now) (admitted d) (asked (a .responses .now) _ _ (c .before .bad-response-count .ensures) ∙ c .if1 .taken))
+    owed-refused _ 9 (a .file .now)
+    (by-row-9 (a .net) (a .class) (a .vectors .now) (a .responses .now) (a .file .now) (admitted d)
+    (asked (a .responses .now) _ _ (c .before .bad-response-count .ensures) ∙ c .if1 .taken))
 
 -- row 9 does not hold
 same-count : (c : tie.Else1)
-    → given (c .before .before .before .before .before .before .before .before .args .responses .now) && bad-response-count (length (c .before .before .before .before .before .before .before .before .args .vectors .now)) (length (c .before .before .before .before .before .before .before .before .args .responses .now)) ≡ false
-same-count c = let a = c .before .before .before .before .before .before .before .before .args in asked (a .responses .now) _ _ (c .before .bad-response-count .ensures) ∙ c .if1 .left
+    → given (c .before .before .before .before .before .before .before .before .args .responses .now)
+    && bad-response-count (length
+    (c .before .before .before .before .before .before .before .before .args .vectors .now))
+    (length (c .before .before .before .before .before .before .before .before .args .responses .now)) ≡ false
+same-count c = let a = c .before .before .before .before .before .before .before .before .args in
+    asked (a .responses .now) _ _ (c .before .bad-response-count .ensures) ∙ c .if1 .left
 
 has-high-bit-requires : tie.Need-has-high-bit-requires
 has-high-bit-requires c κs = set-of (c .before .before) .most
@@ -109,11 +123,18 @@ returns-3 c =
     let d = c .before .before in
     let e = d .before .before in
     let a = e .before .before .before .before .before .before .args in
-    owed-refused _ 10 (a .file .now) (by-row-10 (a .net) (a .class) (a .vectors .now) (a .responses .now) (a .file .now) (admitted e) (same-count d) (asked (a .responses .now) _ _ (c .before .has-high-bit .ensures) ∙ c .if2 .taken))
+    owed-refused _ 10 (a .file .now)
+    (by-row-10 (a .net) (a .class) (a .vectors .now) (a .responses .now) (a .file .now) (admitted e)
+    (same-count d) (asked (a .responses .now) _ _ (c .before .has-high-bit .ensures) ∙ c .if2 .taken))
 
 -- nor row 10
-narrow : (c : tie.Else2) → given (c .before .before .before .before .before .before .before .before .before .before .args .responses .now) && has-high-bit (c .before .before .before .before .before .before .before .before .before .before .args .net) (c .before .before .before .before .before .before .before .before .before .before .args .responses .now) ≡ false
-narrow c = let a = c .before .before .before .before .before .before .before .before .before .before .args in asked (a .responses .now) _ _ (c .before .has-high-bit .ensures) ∙ c .if2 .left
+narrow : (c : tie.Else2) → given
+    (c .before .before .before .before .before .before .before .before .before .before .args .responses .now)
+    && has-high-bit (c .before .before .before .before .before .before .before .before .before .before .args .net)
+    (c .before .before .before .before .before .before .before .before .before .before .args .responses .now)
+    ≡ false
+narrow c = let a = c .before .before .before .before .before .before .before .before .before .before .args in
+    asked (a .responses .now) _ _ (c .before .has-high-bit .ensures) ∙ c .if2 .left
 
 file-size-requires : tie.Need-file-size-requires
 file-size-requires c κs =
@@ -129,7 +150,13 @@ no-room-requires c κs = search needs
 
 -- the test of row 12
 room : (c : tie.After-no-room)
-    → no-room (length (file-of (c .before .before .before .before .before .before .before .before .before .before .before .before .args .net) (c .before .before .before .before .before .before .before .before .before .before .before .before .args .class) (c .before .before .before .before .before .before .before .before .before .before .before .before .args .vectors .now) (c .before .before .before .before .before .before .before .before .before .before .before .before .args .responses .now))) (length (c .before .before .before .before .before .before .before .before .before .before .before .before .args .file .now)) ≡ c .no-room .result
+    → no-room (length (file-of
+    (c .before .before .before .before .before .before .before .before .before .before .before .before .args .net)
+    (c .before .before .before .before .before .before .before .before .before .before .before .before .args .class)
+    (c .before .before .before .before .before .before .before .before .before .before .before .before .args .vectors .now)
+    (c .before .before .before .before .before .before .before .before .before .before .before .before .args .responses .now)))
+    (length (c .before .before .before .before .before .before .before .before .before .before .before .before .args .file .now))
+    ≡ c .no-room .result
 room c =
     let a = c .before .before .before .before .before .before .before .before .before .before .before .before .args in
     ap (λ (n : ℕ). no-room n (length (a .file .now))) (sym (c .before .file-size .ensures (a .net) (a .class))) ∙ sym (c .no-room .ensures)
@@ -140,7 +167,8 @@ returns-4 c =
     let e = d .before .before in
     let a = e .before .before .before .before .before .before .before .before .args in
     owed-refused _ 12 (a .file .now)
-    (by-row-12 (a .net) (a .class) (a .vectors .now) (a .responses .now) (a .file .now) (admitted (e .before .before)) (same-count e) (narrow d) (room (c .before) ∙ c .if3 .taken))
+    (by-row-12 (a .net) (a .class) (a .vectors .now) (a .responses .now) (a .file .now) (admitted (e .before .before))
+    (same-count e) (narrow d) (room (c .before) ∙ c .if3 .taken))
 
 put-file-requires : tie.Need-put-file-requires
 put-file-requires c κs =
@@ -149,7 +177,9 @@ put-file-requires c κs =
     let a = e .before .before .before .before .before .before .before .before .args in
     let s = set-of (e .before .before) in
     let fits = fit-bytes (a .net) (a .class) (a .vectors .now) s in
-    let space = ltb-false (length (a .file .now)) (length (file-of (a .net) (a .class) (a .vectors .now) (a .responses .now))) (room r ∙ c .before .if3 .left) in
+    let space = ltb-false (length (a .file .now))
+    (length (file-of (a .net) (a .class) (a .vectors .now) (a .responses .now)))
+    (room r ∙ c .before .if3 .left) in
     (fits .0, fits .1, s .vectors-most, space)
 
 same-length : tie.Need-same-length
@@ -164,7 +194,8 @@ returns-5 c =
     let e = d .before .before in
     let a = e .before .before .before .before .before .before .before .before .args in
     owed-full _ (r .before .file-size .result) (file-of (a .net) (a .class) (a .vectors .now) (a .responses .now)) (a .file .now) _
-    (by-none (a .net) (a .class) (a .vectors .now) (a .responses .now) (a .file .now) (admitted (e .before .before)) (same-count e) (narrow d) (room r ∙ t .if3 .left))
+    (by-none (a .net) (a .class) (a .vectors .now) (a .responses .now) (a .file .now) (admitted (e .before .before))
+    (same-count e) (narrow d) (room r ∙ t .if3 .left))
     (r .before .file-size .ensures (a .net) (a .class)) (p .put-file .ensures)
 
 pub write-job-spec : {M : Type 1} → statement M

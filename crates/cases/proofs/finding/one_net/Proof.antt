@@ -30,7 +30,12 @@ in-table c =
     let e = d .before .before in
     let f = e .before .before in
     let a = f .before .before .args in
-    omega (arith, d .if2 .left, table-accepted (a .net) (a .state .now) 48 (f .by-value .result .code) (e .if1 .left) (f .by-value .ensures .0) .few)
+    omega (
+      arith,
+      d .if2 .left,
+      table-accepted (a .net) (a .state .now) 48 (f .by-value .result .code) (e .if1 .left)
+          (f .by-value .ensures .0) .few,
+    )
 
 mul-finding : tie.Need-mul-finding
 mul-finding c = omega (arith, in-table c)

@@ -25,8 +25,12 @@ bit-word-requires c κs = search needs
 
 loop-holds : tie.Need-loop-holds Inv-loop μ-loop
 loop-holds c =
-    let a = c .before .before .args in
-    (length-replicate {A = ℕ} 18473 0, length-replicate {A = ℕ} 18473 0, stored-first (a .net) (a .class) (a .vectors .now) (replicate 18473 0) (replicate 18473 0))
+    let a = c .before .before .args in (
+      length-replicate {A = ℕ} 18473 0,
+      length-replicate {A = ℕ} 18473 0,
+      stored-first (a .net) (a .class)
+          (a .vectors .now) (replicate 18473 0) (replicate 18473 0),
+    )
 
 module _ (c : tie.In-loop Inv-loop μ-loop) where
   -- the set is one of the network's
@@ -37,7 +41,8 @@ module _ (c : tie.In-loop Inv-loop μ-loop) where
   room =
       let l = c .before .loop in
       let a = c .before .before .before .before .args in
-      stored-room (a .net) (a .class) (a .vectors .now) (l .sets) (l .responses) (l .count) (l .set) (l .inv .2) (omega arith) (omega arith) inside
+      stored-room (a .net) (a .class) (a .vectors .now) (l .sets) (l .responses) (l .count) (l .set) (l .inv .2)
+      (omega arith) (omega arith) inside
 
 sequential-response-requires : tie.Need-sequential-response-requires Inv-loop μ-loop
 sequential-response-requires c κs = (search needs, inside c)
@@ -55,7 +60,8 @@ position-requires : tie.Need-position-requires Inv-loop μ-loop
 position-requires c κs = search needs
 
 -- what was looked up: the set's sequential word among those stored
-looked-up : (c : tie.After-position Inv-loop μ-loop) → let l = c .before .before .before .before .loop in let a = c .before .before .before .before .before .before .before .args in
+looked-up : (c : tie.After-position Inv-loop μ-loop) → let l = c .before .before .before .before .loop in
+    let a = c .before .before .before .before .before .before .before .args in
     c .position .result ≡ position (sequential-response (a .net) (a .vectors .now) (l .set)) (take (l .count) (l .responses))
 looked-up c =
     let l = c .before .before .before .before .loop in
@@ -65,12 +71,14 @@ enum-known-found : tie.Need-enum-known-found Inv-loop μ-loop
 enum-known-found c = search needs
 
 -- it was found among them
-found-inside : (c : tie.After-known-told Inv-loop μ-loop) → c .before .found .given .0 .0 < c .before .before .before .before .before .before .before .loop .count
+found-inside : (c : tie.After-known-told Inv-loop μ-loop)
+    → c .before .found .given .0 .0 < c .before .before .before .before .before .before .before .loop .count
 found-inside c =
     let d = c .before .before .before in
     let l = d .before .before .before .before .loop in
     let a = d .before .before .before .before .before .before .before .args in
-    stored-inside (a .net) (a .class) (a .vectors .now) (l .sets) (l .responses) (l .count) (l .set) (l .inv .2) (c .before .found .given .0 .0)
+    stored-inside (a .net) (a .class) (a .vectors .now) (l .sets) (l .responses) (l .count) (l .set) (l .inv .2)
+    (c .before .found .given .0 .0)
     (sym (looked-up d) ∙ c .before .found .given .1)
 
 mul-t16 : tie.Need-mul-t16 Inv-loop μ-loop
@@ -84,7 +92,8 @@ returns c =
     let d = c .before .before .before in
     let l = d .before .before .before .before .loop in
     let a = d .before .before .before .before .before .before .before .args in
-    sym (stored-pair (a .net) (a .class) (a .vectors .now) (l .sets) (l .responses) (l .count) (l .set) (l .inv .2) (c .before .found .given .0 .0)
+    sym (stored-pair (a .net) (a .class) (a .vectors .now) (l .sets) (l .responses) (l .count) (l .set) (l .inv .2)
+    (c .before .found .given .0 .0)
     (inside (d .before .before .before)) (sym (looked-up d) ∙ c .before .found .given .1))
 
 enum-told : tie.Need-enum-told Inv-loop μ-loop
@@ -128,10 +137,13 @@ loop-again c =
       length-set (l .sets) (l .count) (l .set) ∙ l .inv .0,
       length-set (l .responses) (l .count) _ ∙ l .inv .1,
       subst
-          (λ (w : ℕ). Stored (a .net) (a .class) (a .vectors .now) (ListN.set (l .sets) (l .count) (l .set)) (ListN.set (l .responses) (l .count) w) (l .count + 1) (c .next-in-class .result))
+          (λ (w : ℕ). Stored (a .net) (a .class) (a .vectors .now) (ListN.set (l .sets) (l .count) (l .set))
+          (ListN.set (l .responses) (l .count) w) (l .count + 1) (c .next-in-class .result))
           (sym (d .before .before .sequential-response .ensures))
-          (stored-next (a .net) (a .class) (a .vectors .now) (l .sets) (l .responses) (l .count) (l .set) (l .inv .2) (c .next-in-class .result) (inside g)
-          (omega (arith, l .inv .0)) (omega (arith, l .inv .1)) (sym (looked-up d) ∙ c .before .enum-told .given .1) (c .next-in-class .ensures)),
+          (stored-next (a .net) (a .class) (a .vectors .now) (l .sets) (l .responses) (l .count) (l .set) (l .inv .2)
+          (c .next-in-class .result) (inside g)
+          (omega (arith, l .inv .0)) (omega (arith, l .inv .1)) (sym (looked-up d) ∙ c .before .enum-told .given .1)
+          (c .next-in-class .ensures)),
     )
 
 returns-2 : tie.Need-returns-2 Inv-loop μ-loop

@@ -34,10 +34,13 @@ returns c =
     let a = d .before .before .before .args in
     ap (Pair 0) (d .before .all-drivers .ensures)
     ∙ sym (no-extra (a .net) (a .vectors .now)
-    (ap (λ (x : ℕ). among x (a .vectors .now)) (sym (d .extra-vector .ensures)) ∙ sym (c .before .among .ensures) ∙ not-true _ (c .if1 .taken)))
+    (ap (λ (x : ℕ). among x (a .vectors .now)) (sym (d .extra-vector .ensures)) ∙ sym (c .before .among .ensures)
+    ∙ not-true _ (c .if1 .taken)))
 
 -- the extra vector is there
-extra-there : (c : tie.Else1 Inv-loop μ-loop) → among (extra-vector (c .before .before .before .before .before .args .net)) (c .before .before .before .before .before .args .vectors .now) ≡ true
+extra-there : (c : tie.Else1 Inv-loop μ-loop)
+    → among (extra-vector (c .before .before .before .before .before .args .net))
+    (c .before .before .before .before .before .args .vectors .now) ≡ true
 extra-there c =
     ap (λ (x : ℕ). among x (c .before .before .before .before .before .args .vectors .now)) (sym (c .before .before .extra-vector .ensures))
     ∙ sym (c .before .among .ensures) ∙ not-false _ (c .if1 .left)
@@ -61,7 +64,8 @@ returns-2 c =
     let a = g .before .before .before .before .before .before .args in
     ap₂ Pair (c .all-but .ensures) (g .before .before .before .before .all-drivers .ensures)
     ∙ sym (no-walking (a .net) (a .vectors .now) (g .loop .i) (omega arith) (extra-there (g .before)) (g .loop .inv .2)
-    (ap (λ (x : ℕ). among x (a .vectors .now)) (sym (d .before .before .walking-vector .ensures)) ∙ sym (d .before .among2 .ensures) ∙ not-true _ (d .if2 .taken)))
+    (ap (λ (x : ℕ). among x (a .vectors .now)) (sym (d .before .before .walking-vector .ensures))
+    ∙ sym (d .before .among2 .ensures) ∙ not-true _ (d .if2 .taken)))
 
 add-i : tie.Need-add-i Inv-loop μ-loop
 add-i c = search needs
@@ -76,7 +80,8 @@ loop-again c =
       search needs,
       search needs,
       below-more (λ z. not (among (walking-vector (a .net) z) (a .vectors .now)) ≡ false) (g .loop .i) (g .loop .inv .2)
-          (ap (λ (x : ℕ). not (among x (a .vectors .now))) (sym (c .before .before .walking-vector .ensures)) ∙ ap not (sym (c .before .among2 .ensures)) ∙ c .if2 .left),
+          (ap (λ (x : ℕ). not (among x (a .vectors .now))) (sym (c .before .before .walking-vector .ensures))
+          ∙ ap not (sym (c .before .among2 .ensures)) ∙ c .if2 .left),
     )
 
 returns-3 : tie.Need-returns-3 Inv-loop μ-loop

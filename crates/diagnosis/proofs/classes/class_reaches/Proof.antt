@@ -64,17 +64,22 @@ loop-again c =
     let same = l .inv .0 in (
       search needs,
       noted-next (a .net) (a .class) (a .vectors .now) (a .answers .now) (l .reaches) _ (l .set) (c .next-in-class .result)
-          (passed-sets-apart (a .net) (a .class) (a .vectors .now) (g .before .before .before .before .before .pre .2)) (l .inv .1) (inside g) (c .next-in-class .ensures)
+          (passed-sets-apart (a .net) (a .class) (a .vectors .now) (g .before .before .before .before .before .pre .2))
+          (l .inv .1) (inside g) (c .next-in-class .ensures)
           (λ i m. c .before .before .note .ensures i (omega (arith, same))
-          ∙ ap (λ (w : ℕ). cond (eqb (at (a .answers .now) i) w) (l .set) (at (l .reaches) i)) (c .before .before .before .before .sequential-response .ensures)),
+          ∙ ap (λ (w : ℕ). cond (eqb (at (a .answers .now) i) w) (l .set) (at (l .reaches) i))
+          (c .before .before .before .before .sequential-response .ensures)),
     )
 
 returns : tie.Need-returns Inv-loop μ-loop
 returns c =
     let a = c .before .before .before .before .before .args in
     let s = admitted (c .before .before .before .before .before) in
-    let past : 2 ^ (a .net .nets) ≤ c .before .loop .set = omega (arith, c .before .before .bit-word .ensures) in
-    (c .before .loop .inv .0, λ i l. noted-last (a .net) (a .class) (a .vectors .now) (a .answers .now) (c .before .loop .reaches) (c .before .loop .set) (c .before .loop .inv .1) past i (omega (arith, s .most)))
+    let past : 2 ^ (a .net .nets) ≤ c .before .loop .set = omega (arith, c .before .before .bit-word .ensures) in (
+      c .before .loop .inv .0,
+      λ i l. noted-last (a .net) (a .class) (a .vectors .now) (a .answers .now)
+          (c .before .loop .reaches) (c .before .loop .set) (c .before .loop .inv .1) past i (omega (arith, s .most)),
+    )
 
 pub class-reaches-spec : {M : Type 1} → statement M
 class-reaches-spec =

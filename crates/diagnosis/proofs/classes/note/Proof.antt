@@ -30,7 +30,8 @@ Inv-loop set response answers reaches₀ i₀ reaches i = Noted set response ans
 abbrev μ-loop : tie.MeasureT-loop
 μ-loop set response answers reaches₀ i₀ reaches i = length reaches₀ - i
 
-module _ (set response : ℕ) (answers before now : List ℕ) (i : ℕ) (next : List ℕ) (inv : Noted set response answers before now i) (l : i < length before) where
+module _ (set response : ℕ) (answers before now : List ℕ) (i : ℕ) (next : List ℕ)
+    (inv : Noted set response answers before now i) (l : i < length before) where
   -- a turn that stores the set, and one that does not
   stored-at : next ≡ ListN.set now i set → at answers i ≡ response → Noted set response answers before next (i + 1)
   stored-at e hit =
@@ -39,7 +40,8 @@ module _ (set response : ℕ) (answers before now : List ℕ) (i : ℕ) (next : 
         omega arith,
         λ z m. ⊎-elim (λ b. ap (λ (ws : List ℕ). at ws z) e ∙ getD-set-other now i z set 0 (λ q. omega arith) ∙ inv .2 z b)
             (λ b. let q : z ≡ i = omega arith in
-            rw q (ap (λ (ws : List ℕ). at ws i) e ∙ getD-set-same now i set 0 room ∙ sym (rw (eq-eqb (at answers i) response hit)))) (less-or-not z i),
+            rw q (ap (λ (ws : List ℕ). at ws i) e ∙ getD-set-same now i set 0 room
+            ∙ sym (rw (eq-eqb (at answers i) response hit)))) (less-or-not z i),
         λ z m. ap (λ (ws : List ℕ). at ws z) e ∙ getD-set-other now i z set 0 (λ q. omega arith) ∙ inv .3 z (omega arith),
       )
 
@@ -48,7 +50,8 @@ module _ (set response : ℕ) (answers before now : List ℕ) (i : ℕ) (next : 
     ap length e ∙ inv .0,
     omega arith,
     λ z m. ap (λ (ws : List ℕ). at ws z) e ∙ ⊎-elim (inv .2 z)
-        (λ b. let q : z ≡ i = omega arith in rw q (inv .3 i (le-refl i) ∙ sym (rw (ne-eqb (at answers i) response miss)))) (less-or-not z i),
+        (λ b. let q : z ≡ i = omega arith in
+        rw q (inv .3 i (le-refl i) ∙ sym (rw (ne-eqb (at answers i) response miss)))) (less-or-not z i),
     λ z m. ap (λ (ws : List ℕ). at ws z) e ∙ inv .3 z (omega arith),
   )
 
@@ -79,8 +82,10 @@ loop-again c =
     let a = g .before .args in
     let l = g .loop in
     ⊎-elim
-    (λ w. stored-at (a .set) (a .response) (a .answers .now) (a .reaches .now) (l .reaches) (l .i) (c .if1 .reaches) (l .inv) (omega arith) (w .1) (w .0 .taken))
-    (λ w. kept-at (a .set) (a .response) (a .answers .now) (a .reaches .now) (l .reaches) (l .i) (c .if1 .reaches) (l .inv) (omega arith) (w .1) (w .0 .left))
+    (λ w. stored-at (a .set) (a .response) (a .answers .now) (a .reaches .now) (l .reaches) (l .i) (c .if1 .reaches)
+    (l .inv) (omega arith) (w .1) (w .0 .taken))
+    (λ w. kept-at (a .set) (a .response) (a .answers .now) (a .reaches .now) (l .reaches) (l .i) (c .if1 .reaches)
+    (l .inv) (omega arith) (w .1) (w .0 .left))
     (c .if1 .came)
 
 same-length : tie.Need-same-length Inv-loop μ-loop

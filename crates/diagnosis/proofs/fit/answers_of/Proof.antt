@@ -12,7 +12,8 @@ use Rattle.diagnosis.proofs.fit.answers_of.Statement.{statement}
 use Rattle.diagnosis.proofs.fit.answers_of.Tie as tie
 
 abbrev Inv-loop : tie.InvT-loop
-Inv-loop net responses answers₀ i₀ answers i = (i ≤ net .nets) × (length answers ≡ 48) × ((z : ℕ) → z < i → at answers z ≡ column responses z)
+Inv-loop net responses answers₀ i₀ answers i =
+    (i ≤ net .nets) × (length answers ≡ 48) × ((z : ℕ) → z < i → at answers z ≡ column responses z)
 
 abbrev μ-loop : tie.MeasureT-loop
 μ-loop net responses answers₀ i₀ answers i = net .nets - i

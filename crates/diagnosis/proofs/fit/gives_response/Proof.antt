@@ -16,12 +16,14 @@ use Rattle.network.proofs.Reading.{response-is}
 use Rattle.diagnosis.proofs.fit.gives_response.Statement.{statement}
 use Rattle.diagnosis.proofs.fit.gives_response.Tie as tie
 
-at-vector : (net : Network) (state vectors : List ℕ) (t : ℕ) → t < length vectors → at (response net state vectors) t ≡ response-word net state (at vectors t)
+at-vector : (net : Network) (state vectors : List ℕ) (t : ℕ) → t < length vectors
+    → at (response net state vectors) t ≡ response-word net state (at vectors t)
 unfolding response
 at-vector net state vectors t l = map-at (response-word net state) 0 vectors t l
 
 abbrev Inv-loop : tie.InvT-loop
-Inv-loop net vectors state responses t₀ t = (t ≤ length vectors) × ((z : ℕ) → z < t → response-word net state (at vectors z) ≡ at responses z)
+Inv-loop net vectors state responses t₀ t =
+    (t ≤ length vectors) × ((z : ℕ) → z < t → response-word net state (at vectors z) ≡ at responses z)
 
 abbrev μ-loop : tie.MeasureT-loop
 μ-loop net vectors state responses t₀ t = length vectors - t
@@ -51,7 +53,8 @@ returns c =
     let l = w .before .before .before .loop in
     let a = w .before .before .before .before .before .before .before .args in (
       λ e. absurd (false≢true e),
-      λ e same. c .if1 .taken (w .response-word .ensures ∙ sym (at-vector (a .net) (a .state .now) (a .vectors .now) (l .t) (w .before .before .loop-test .taken))
+      λ e same. c .if1 .taken (w .response-word .ensures
+          ∙ sym (at-vector (a .net) (a .state .now) (a .vectors .now) (l .t) (w .before .before .loop-test .taken))
           ∙ ap (λ (ws : List ℕ). at ws (l .t)) same),
     )
 

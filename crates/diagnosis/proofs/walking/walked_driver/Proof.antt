@@ -15,7 +15,8 @@ returns : tie.Need-returns
 returns c =
     let a = c .before .before .before .args in
     names-none (a .net) (a .vector)
-    (λ i l e. let name : c .before .before .lowest-net .result ≡ i = c .before .before .lowest-net .ensures ∙ walking-names (a .net) (a .vector) i (omega arith) l e in omega arith)
+    (λ i l e. let name : c .before .before .lowest-net .result ≡ i = c .before .before .lowest-net .ensures
+    ∙ walking-names (a .net) (a .vector) i (omega arith) l e in omega arith)
 
 walking-vector-requires : tie.Need-walking-vector-requires
 walking-vector-requires c κs = search needs
@@ -26,7 +27,9 @@ returns-2 c =
     let a = d .before .args in
     names-none (a .net) (a .vector)
     (λ i l e. c .if2 .taken
-    (e ∙ ap (walking-vector (a .net)) (sym (d .lowest-net .ensures ∙ walking-names (a .net) (a .vector) i (omega arith) l e)) ∙ sym (c .before .before .walking-vector .ensures)))
+    (e ∙ ap (walking-vector (a .net))
+    (sym (d .lowest-net .ensures ∙ walking-names (a .net) (a .vector) i (omega arith) l e))
+    ∙ sym (c .before .before .walking-vector .ensures)))
 
 bit-word-requires : tie.Need-bit-word-requires
 bit-word-requires c κs = search needs
@@ -37,7 +40,8 @@ returns-3 c =
     let d = e .before .before .before .before .before in
     let a = d .before .args in
     subst (λ (x : ℕ). Names (a .net) (a .vector) x) (sym (c .bit-word .ensures))
-    (names-one (a .net) (a .vector) (d .lowest-net .result) (omega arith) (omega arith) (sym (d .lowest-net .ensures)) (e .if2 .left ∙ e .before .before .walking-vector .ensures)
+    (names-one (a .net) (a .vector) (d .lowest-net .result) (omega arith) (omega arith) (sym (d .lowest-net .ensures))
+    (e .if2 .left ∙ e .before .before .walking-vector .ensures)
     (pow-lt {i = d .lowest-net .result} {j = a .net .nets} (omega arith)))
 
 pub walked-driver-spec : {M : Type 1} → statement M

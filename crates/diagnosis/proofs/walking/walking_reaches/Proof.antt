@@ -71,7 +71,9 @@ loop-again c =
           (λ b. let q : z ≡ l .i = omega arith in
           rw q (subst (λ (x : ℕ). OnlyAnswer (a .net) (a .net .nets) (a .vectors .now) (at (a .answers .now) (l .i)) x)
           (sym (getD-set-same (l .reaches) (l .i) _ 0 room))
-          (walked-only (a .net) (a .vectors .now) (at (a .answers .now) (l .i)) _ (full-of-rule (a .net) (a .vectors .now) (g .before .before .before .pre .1 .1)) (c .walking-reach .ensures)))) (less-or-not z (l .i)),
+          (walked-only (a .net) (a .vectors .now) (at (a .answers .now) (l .i)) _
+          (full-of-rule (a .net) (a .vectors .now) (g .before .before .before .pre .1 .1))
+          (c .walking-reach .ensures)))) (less-or-not z (l .i)),
     )
 
 returns : tie.Need-returns Inv-loop μ-loop

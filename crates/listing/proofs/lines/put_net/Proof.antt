@@ -40,7 +40,8 @@ returns c =
     let line = numbers-end (a .found .kind ∷ a .found .reach ∷ a .found .partners ∷ []) in
     let whole = length-append front line in (
       n .put-numbers .ensures .0 ∙ omega (arith, whole, d .put-decimal .ensures .0),
-      written-next (a .text .now) (d .put-decimal .last .0) (n .put-numbers .last .0) (a .at) (d .put-decimal .result) front line (d .put-decimal .ensures .1)
+      written-next (a .text .now) (d .put-decimal .last .0) (n .put-numbers .last .0) (a .at)
+          (d .put-decimal .result) front line (d .put-decimal .ensures .1)
           (n .put-numbers .ensures .1) (d .put-decimal .ensures .0) (omega (arith, s .pre)),
     )
 

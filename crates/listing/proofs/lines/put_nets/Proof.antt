@@ -58,9 +58,11 @@ loop-again c =
     let s = v .before .before .before in
     let a = s .args in
     let l = g .loop in
-    let found = record-written (a .net) (a .state .now) blank-table (v .by-value .result .table) (accepted s) (v .by-value .ensures .1) (l .i) (h .if1 .taken)
+    let found = record-written (a .net) (a .state .now) blank-table (v .by-value .result .table) (accepted s)
+    (v .by-value .ensures .1) (l .i) (h .if1 .taken)
     blank in
-    nets-one (a .text .now) (a .at) (a .net) (a .state .now) (l .text) (l .end) (l .i) (l .inv) (s .pre .1) (n .last .0) (n .result) (h .if1 .taken)
+    nets-one (a .text .now) (a .at) (a .net) (a .state .now) (l .text) (l .end) (l .i) (l .inv) (s .pre .1) (n .last .0)
+    (n .result) (h .if1 .taken)
     (n .ensures .0 ∙ ap (λ (x : Finding). l .end + length (net-line (l .i) x)) found)
     (n .ensures .1 ∙ ap (λ (x : Finding). written (l .text) (l .end) (net-line (l .i) x)) found)
 
@@ -72,7 +74,8 @@ returns c =
     let g = c .before .before in
     let s = g .before .before .before .before .before in
     let a = s .args in
-    nets-all (a .text .now) (a .at) (a .net) (a .state .now) (g .loop .text) (g .loop .end) (g .loop .i) (g .loop .inv) (s .pre .1) (c .if1 .left)
+    nets-all (a .text .now) (a .at) (a .net) (a .state .now) (g .loop .text) (g .loop .end) (g .loop .i) (g .loop .inv)
+    (s .pre .1) (c .if1 .left)
 
 pub put-nets-spec : {M : Type 1} → statement M
 put-nets-spec =

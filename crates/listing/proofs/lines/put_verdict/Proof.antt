@@ -61,7 +61,8 @@ returns c =
     let t = c .before .before .before .before .before .before in
     let s = t .before .before .before in
     let a = s .args in
-    pass-put (a .net) (a .class) (a .count) (a .at) (n .result) (a .text .now) (n .last .0) (a .verdict) (t .enum-told .given .1) (n .ensures)
+    pass-put (a .net) (a .class) (a .count) (a .at) (n .result) (a .text .now) (n .last .0) (a .verdict)
+    (t .enum-told .given .1) (n .ensures)
 
 same-length-2 : tie.Need-same-length-2
 same-length-2 c = search needs
@@ -72,7 +73,8 @@ returns-2 c =
     let t = c .before .before .before .before .before .before .before in
     let s = t .before .before .before in
     let a = s .args in
-    pair-put (a .net) (a .class) (a .count) (a .at) (n .result) (a .text .now) (n .last .0) (a .verdict) (t .verdict .given .0 .0) (t .verdict .given .0 .1 .0) (t .verdict .given .1) (n .ensures)
+    pair-put (a .net) (a .class) (a .count) (a .at) (n .result) (a .text .now) (n .last .0) (a .verdict)
+    (t .verdict .given .0 .0) (t .verdict .given .0 .1 .0) (t .verdict .given .1) (n .ensures)
 
 pub put-verdict-spec : {M : Type 1} → statement M
 put-verdict-spec =

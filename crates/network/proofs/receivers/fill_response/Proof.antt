@@ -12,7 +12,8 @@ use Rattle.network.proofs.receivers.fill_response.Tie as tie
 
 abbrev Inv-loop : tie.InvT-loop
 Inv-loop net vectors state out₀ written₀ out written =
-    (written ≤ length vectors) × (length out ≡ length out₀) × (out ≡ map (response-word net state) (take written vectors) ++ drop written out₀)
+    (written ≤ length vectors) × (length out ≡ length out₀)
+    × (out ≡ map (response-word net state) (take written vectors) ++ drop written out₀)
 
 abbrev μ-loop : tie.MeasureT-loop
 μ-loop net vectors state out₀ written₀ out written = length vectors - written
@@ -59,7 +60,8 @@ unfolding response lent-after
 returns c =
     let a = c .before .before .before .before .before .args in
     let l = c .before .loop in
-    l .inv .2 ∙ map-filled (response-word (a .net) (a .state .now)) (a .vectors .now) (a .out .now) (l .written) (l .inv .0) (c .loop-test .left)
+    l .inv .2 ∙ map-filled (response-word (a .net) (a .state .now)) (a .vectors .now) (a .out .now) (l .written)
+    (l .inv .0) (c .loop-test .left)
 
 pub fill-response-spec : {M : Type 1} → statement M
 fill-response-spec =

@@ -45,8 +45,10 @@ loop-again c =
     let l = c .before .before .before .before .loop in (
       omega arith,
       ⊎-elim
-          (λ w. w .1 ∙ word-set (λ reach. reads (a .net) reach (a .vector .0)) (a .state .now) (l .i) (l .w) (l .inv .1) (omega arith) (omega arith) (sym (c .before .reads .ensures) ∙ w .0 .taken))
-          (λ w. w .1 ∙ word-keep (λ reach. reads (a .net) reach (a .vector .0)) (a .state .now) (l .i) (l .w) (l .inv .1) (omega arith) (sym (c .before .reads .ensures) ∙ w .0 .left))
+          (λ w. w .1 ∙ word-set (λ reach. reads (a .net) reach (a .vector .0)) (a .state .now) (l .i) (l .w) (l .inv .1)
+          (omega arith) (omega arith) (sym (c .before .reads .ensures) ∙ w .0 .taken))
+          (λ w. w .1 ∙ word-keep (λ reach. reads (a .net) reach (a .vector .0)) (a .state .now) (l .i) (l .w)
+          (l .inv .1) (omega arith) (sym (c .before .reads .ensures) ∙ w .0 .left))
           (c .if1 .came),
     )
 
@@ -54,7 +56,8 @@ returns : tie.Need-returns Inv-loop μ-loop
 unfolding response-word
 returns c =
     let a = c .before .before .before .args in
-    c .before .loop .inv .1 ∙ word-whole (λ reach. reads (a .net) reach (a .vector .0)) (a .state .now) (c .before .loop .i) (c .loop-test .left)
+    c .before .loop .inv .1 ∙ word-whole (λ reach. reads (a .net) reach (a .vector .0)) (a .state .now)
+    (c .before .loop .i) (c .loop-test .left)
 
 pub response-word-spec : {M : Type 1} → statement M
 response-word-spec =

@@ -45,8 +45,10 @@ loop-again c =
     let l = c .before .before .before .before .loop in (
       omega arith,
       ⊎-elim
-          (λ w. w .1 ∙ word-set (reads (a .net) (a .reach)) (a .vectors .now) (l .t) (l .w) (l .inv .1) (omega arith) (omega arith) (sym (c .before .reads .ensures) ∙ w .0 .taken))
-          (λ w. w .1 ∙ word-keep (reads (a .net) (a .reach)) (a .vectors .now) (l .t) (l .w) (l .inv .1) (omega arith) (sym (c .before .reads .ensures) ∙ w .0 .left))
+          (λ w. w .1 ∙ word-set (reads (a .net) (a .reach)) (a .vectors .now) (l .t) (l .w) (l .inv .1) (omega arith)
+          (omega arith) (sym (c .before .reads .ensures) ∙ w .0 .taken))
+          (λ w. w .1 ∙ word-keep (reads (a .net) (a .reach)) (a .vectors .now) (l .t) (l .w) (l .inv .1) (omega arith)
+          (sym (c .before .reads .ensures) ∙ w .0 .left))
           (c .if1 .came),
     )
 

@@ -11,7 +11,9 @@ use Rattle.network.proofs.refusals.admit_set.Tie as tie
 row-5-passed : (c : tie.Else1) → bad-net-count (c .before .before .before .args .net) ≡ false
 row-5-passed c = sym (c .before .bad-net-count .ensures) ∙ c .if1 .left
 
-row-6-passed : (c : tie.Else2) → bad-class (c .before .before .before .before .before .args .net) (c .before .before .before .before .before .args .class) ≡ false
+row-6-passed : (c : tie.Else2)
+    → bad-class (c .before .before .before .before .before .args .net)
+    (c .before .before .before .before .before .args .class) ≡ false
 row-6-passed c = sym (c .before .bad-class .ensures) ∙ c .if2 .left
 
 row-7-passed : (c : tie.Else3) → bad-vector-count (c .before .before .before .before .before .before .before .args .vectors .now) ≡ false
@@ -37,7 +39,12 @@ bad-vector-count-requires c κs = search needs
 returns-3 : tie.Need-returns-3
 unfolding by-tests
 returns-3 c =
-    rw (row-5-passed (c .before .before .before .before), row-6-passed (c .before .before), sym (c .before .bad-vector-count .ensures) ∙ c .if3 .taken)
+    rw (
+      row-5-passed (c .before .before .before .before),
+      row-6-passed (c .before .before),
+      sym
+          (c .before .bad-vector-count .ensures) ∙ c .if3 .taken,
+    )
 
 has-high-bit-requires : tie.Need-has-high-bit-requires
 has-high-bit-requires c κs =

@@ -37,7 +37,8 @@ returns c =
     let g = c .before .before .before .before in
     let a = g .before .before .args in
     let other = at (a .state .now) (g .loop .j) in
-    sym (any-at (λ z. meet-and-differ (a .net) (a .reach) (at (a .state .now) z)) (length (a .state .now)) (g .loop .j) (c .before .before .before .loop-test .taken)
+    sym (any-at (λ z. meet-and-differ (a .net) (a .reach) (at (a .state .now) z)) (length (a .state .now)) (g .loop .j)
+    (c .before .before .before .loop-test .taken)
     (ap (λ (b : Bool). b && not (eqb (a .reach) other)) (sym (c .before .meets .ensures)) ∙ c .if1 .taken))
 
 add-j : tie.Need-add-j Inv-loop μ-loop
@@ -62,7 +63,8 @@ unfolding conflicts
 returns-2 c =
     let g = c .before in
     let a = g .before .before .args in
-    sym (any-none (λ z. meet-and-differ (a .net) (a .reach) (at (a .state .now) z)) (length (a .state .now)) (λ z l. g .loop .inv .1 z (omega arith)))
+    sym (any-none (λ z. meet-and-differ (a .net) (a .reach) (at (a .state .now) z)) (length (a .state .now))
+    (λ z l. g .loop .inv .1 z (omega arith)))
 
 pub conflicts-spec : {M : Type 1} → statement M
 conflicts-spec =

@@ -37,7 +37,8 @@ unfolding has-conflict
 returns c =
     let g = c .before .before .before .before in
     let a = g .before .before .args in
-    sym (any-at (λ z. conflicts (a .net) (a .state .now) (at (a .state .now) z)) (length (a .state .now)) (g .loop .i) (c .before .before .before .loop-test .taken)
+    sym (any-at (λ z. conflicts (a .net) (a .state .now) (at (a .state .now) z)) (length (a .state .now)) (g .loop .i)
+    (c .before .before .before .loop-test .taken)
     (sym (c .before .conflicts .ensures) ∙ c .if1 .taken))
 
 add-i : tie.Need-add-i Inv-loop μ-loop
@@ -60,7 +61,8 @@ unfolding has-conflict
 returns-2 c =
     let g = c .before in
     let a = g .before .before .args in
-    sym (any-none (λ z. conflicts (a .net) (a .state .now) (at (a .state .now) z)) (length (a .state .now)) (λ z l. g .loop .inv .1 z (omega arith)))
+    sym (any-none (λ z. conflicts (a .net) (a .state .now) (at (a .state .now) z)) (length (a .state .now))
+    (λ z l. g .loop .inv .1 z (omega arith)))
 
 pub has-conflict-spec : {M : Type 1} → statement M
 has-conflict-spec =

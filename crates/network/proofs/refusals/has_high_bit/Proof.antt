@@ -40,7 +40,8 @@ returns c =
     let b = g .before .bit-word in
     let words = g .before .before .before .args .words .now in
     sym (ap (λ (x : ℕ). any (length words) (λ t. leb x (at words t))) (sym (b .ensures))
-    ∙ any-at (λ t. leb (b .result) (at words t)) (length words) (g .loop .t) (c .before .before .loop-test .taken) (le-leb _ _ (c .if1 .taken)))
+    ∙ any-at (λ t. leb (b .result) (at words t)) (length words) (g .loop .t) (c .before .before .loop-test .taken)
+    (le-leb _ _ (c .if1 .taken)))
 
 add-t : tie.Need-add-t Inv-loop μ-loop
 add-t c = search needs

@@ -43,7 +43,8 @@ returns c =
     let a = g .before .before .before .args in
     let reach = at (a .state .now) (g .loop .i) in
     let high : 2 ^ (a .net .nets) ≤ reach = omega (arith, g .before .bit-word .ensures, c .if1 .taken) in
-    sym (any-at (λ z. wrong (a .net) (a .class) (at (a .state .now) z)) (length (a .state .now)) (g .loop .i) (c .before .before .loop-test .taken)
+    sym (any-at (λ z. wrong (a .net) (a .class) (at (a .state .now) z)) (length (a .state .now)) (g .loop .i)
+    (c .before .before .loop-test .taken)
     (rw (le-ltb reach (2 ^ (a .net .nets)) high)))
 
 few-drivers-requires : tie.Need-few-drivers-requires Inv-loop μ-loop
@@ -57,7 +58,8 @@ returns-2 c =
     let reach = at (a .state .now) (g .loop .i) in
     let low : reach < 2 ^ (a .net .nets) = omega (arith, g .before .bit-word .ensures, c .before .before .if1 .left) in
     let many : few-drivers (a .net) (a .class) reach ≡ false = sym (c .before .few-drivers .ensures) ∙ not-true _ (c .if2 .taken) in
-    sym (any-at (λ z. wrong (a .net) (a .class) (at (a .state .now) z)) (length (a .state .now)) (g .loop .i) (c .before .before .before .before .loop-test .taken)
+    sym (any-at (λ z. wrong (a .net) (a .class) (at (a .state .now) z)) (length (a .state .now)) (g .loop .i)
+    (c .before .before .before .before .loop-test .taken)
     (rw (lt-ltb reach (2 ^ (a .net .nets)) low, many)))
 
 add-i : tie.Need-add-i Inv-loop μ-loop

@@ -33,7 +33,9 @@ has-conflict-requires : tie.Need-has-conflict-requires
 unfolding has-wrong-reach
 has-conflict-requires c κs = λ i l.
     let a = c .before .before .before .before .before .args in
-    let wrong : ℕ → Bool = λ z. not (ltb (at (a .state .now) z) (2 ^ (a .net .nets)) && few-drivers (a .net) (a .class) (at (a .state .now) z)) in
+    let wrong : ℕ → Bool = λ z. not
+    (ltb (at (a .state .now) z) (2 ^ (a .net .nets))
+    && few-drivers (a .net) (a .class) (at (a .state .now) z)) in
     let right = any-false wrong (length (a .state .now)) i l (sym (c .before .has-wrong-reach .ensures) ∙ c .if2 .left) in
     few→set (a .net) (a .class) (at (a .state .now) i) (not-false _ right) .inside
 
@@ -42,7 +44,8 @@ unfolding not-a-state
 returns-3 c =
     let s = c .before .before .before in
     let a = s .before .before .before .args in
-    let right : has-wrong-reach (a .net) (a .class) (a .state .now) ≡ false = sym (c .before .before .has-wrong-reach .ensures) ∙ c .before .if2 .left in
+    let right : has-wrong-reach (a .net) (a .class) (a .state .now) ≡ false =
+    sym (c .before .before .has-wrong-reach .ensures) ∙ c .before .if2 .left in
     rw (eq-eqb (length (a .state .now)) (a .net .nets) (s .if1 .left), right) (c .has-conflict .ensures)
 
 pub not-a-state-spec : {M : Type 1} → statement M

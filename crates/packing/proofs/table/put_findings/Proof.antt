@@ -59,7 +59,9 @@ loop-again c =
     let size = first-records s in (
       search needs,
       search needs,
-      findings-turn (take (a .count) (a .t1)) (l .i) (l .table) _ blank _ (sym (getD-take (a .count) (a .t1) (l .i) _ (omega arith))) (p .put-at .ensures) (omega arith) (omega arith) ∙ l .inv .2,
+      findings-turn (take (a .count) (a .t1)) (l .i) (l .table) _ blank _
+          (sym (getD-take (a .count) (a .t1) (l .i) _ (omega arith))) (p .put-at .ensures) (omega arith)
+          (omega arith) ∙ l .inv .2,
     )
 
 same-length : tie.Need-same-length Inv-loop μ-loop
@@ -71,7 +73,8 @@ returns c =
     let s = c .before .before .before in
     let a = s .args in
     let size = first-records s in
-    sym (findings-end (take (a .count) (a .t1)) (l .i) (l .table) (omega arith)) ∙ l .inv .2 ∙ written-front (a .table .now) (finding-words (take (a .count) (a .t1)))
+    sym (findings-end (take (a .count) (a .t1)) (l .i) (l .table) (omega arith)) ∙ l .inv .2
+    ∙ written-front (a .table .now) (finding-words (take (a .count) (a .t1)))
 
 pub put-findings-spec : {M : Type 1} → statement M
 put-findings-spec =

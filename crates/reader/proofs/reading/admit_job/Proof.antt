@@ -54,7 +54,8 @@ enum-told : tie.Need-enum-told
 enum-told c = search needs
 
 -- rows 5 to 8 have admitted the test set
-admitted : (c : tie.After-enum-told) → let a = c .before .before .before .before .before .args in set-admission (a .network) (a .class) (a .vectors .now) ≡ full tt
+admitted : (c : tie.After-enum-told) → let a = c .before .before .before .before .before .args in
+    set-admission (a .network) (a .class) (a .vectors .now) ≡ full tt
 admitted c = sym (c .before .before .admit-set .ensures) ∙ ap admission (c .enum-told .given .1)
 
 bad-response-count-requires : tie.Need-bad-response-count-requires
@@ -75,7 +76,8 @@ has-high-bit-requires c κs =
     s .most
 
 -- row 9 does not hold
-nine-fails : (c : tie.Else1) → let a = c .before .before .before .before .before .before .before .args in nine (a .network) (a .class) (a .vectors .now) (a .responses .now) (a .given) ≡ false
+nine-fails : (c : tie.Else1) → let a = c .before .before .before .before .before .before .before .args in
+    nine (a .network) (a .class) (a .vectors .now) (a .responses .now) (a .given) ≡ false
 nine-fails c =
     let a = c .before .before .before .before .before .before .before .args in
     ap (λ (b : Bool). a .given && b) (sym (c .before .bad-response-count .ensures)) ∙ c .if1 .left

@@ -49,7 +49,8 @@ loop-holds c =
 
 -- the nets body has 2 bytes
 nets-body : (c : tie.After-entry-count Inv-loop μ-loop) → eqb (body-length (c .before .before .before .before .args .file .now) 0) 2 ≡ true
-nets-body c = eq-eqb (body-length (c .before .before .before .before .args .file .now) 0) 2 (sym (c .before .before .body-length .ensures .0) ∙ c .before .if1 .left)
+nets-body c = eq-eqb (body-length (c .before .before .before .before .args .file .now) 0) 2
+    (sym (c .before .before .body-length .ensures .0) ∙ c .before .if1 .left)
 
 body-length-requires-2 : tie.Need-body-length-requires-2 Inv-loop μ-loop
 body-length-requires-2 c κs =
@@ -65,7 +66,8 @@ returns-2 c =
     let file = e .before .before .before .before .args .file .now in
     let broken : bad-words file (l .loop .i) ≡ true =
     and-both (lt-ltb 0 (l .loop .i) (l .loop .inv .1))
-    (ap not (ne-eqb (body-length file (l .loop .i) % 8) 0 (λ q. c .if2 .taken (ap (λ (n : ℕ). n % 8) (c .before .body-length2 .ensures .0) ∙ q)))) in
+    (ap not (ne-eqb (body-length file (l .loop .i) % 8) 0
+    (λ q. c .if2 .taken (ap (λ (n : ℕ). n % 8) (c .before .body-length2 .ensures .0) ∙ q)))) in
     rw (nets-body e) (sym (any-at (bad-words file) (entry-count file) (l .loop .i) (omega (arith, e .entry-count .ensures .0)) broken))
 
 add-i : tie.Need-add-i Inv-loop μ-loop
@@ -79,7 +81,9 @@ loop-again c =
     let l = c .before .before .before in
     let file = l .before .before .before .before .before .args .file .now in
     let complete : bad-words file (l .loop .i) ≡ false =
-    rw (eq-eqb (body-length file (l .loop .i) % 8) 0 (ap (λ (n : ℕ). n % 8) (sym (c .before .body-length2 .ensures .0)) ∙ c .if2 .left)) (and-false (ltb 0 (l .loop .i))) in
+    rw (eq-eqb (body-length file (l .loop .i) % 8) 0
+    (ap (λ (n : ℕ). n % 8) (sym (c .before .body-length2 .ensures .0)) ∙ c .if2 .left))
+    (and-false (ltb 0 (l .loop .i))) in
     (search needs, search needs, below-more (λ z. bad-words file z ≡ false) (l .loop .i) (l .loop .inv .2) complete)
 
 returns-3 : tie.Need-returns-3 Inv-loop μ-loop
@@ -88,7 +92,8 @@ returns-3 c =
     let l = c .before in
     let e = l .before in
     let file = e .before .before .before .before .args .file .now in
-    rw (nets-body e) (sym (any-none (bad-words file) (entry-count file) (λ z m. l .loop .inv .2 z (omega (arith, e .entry-count .ensures .0)))))
+    rw (nets-body e) (sym (any-none (bad-words file) (entry-count file)
+    (λ z m. l .loop .inv .2 z (omega (arith, e .entry-count .ensures .0)))))
 
 pub bad-bodies-spec : {M : Type 1} → statement M
 bad-bodies-spec =

@@ -45,7 +45,13 @@ returns : tie.Need-returns
 unfolding bad-entry entry-kind
 returns c =
     let a = c .before .before .before .before .before .before .args in
-    rw (c .before .before .before .before .body-offset .ensures .0, c .before .before .before .body-length .ensures .0, c .before .before .body-start .ensures, c .before .entry-count .ensures .0, add-one)
+    rw (
+      c .before .before .before .before .body-offset .ensures .0,
+      c .before .before .before .body-length .ensures .0,
+      c .before .before .body-start .ensures,
+      c .before .entry-count .ensures .0,
+      add-one,
+    )
 
 pub bad-entry-spec : {M : Type 1} → statement M
 bad-entry-spec =

@@ -29,7 +29,8 @@ add-if1 : tie.Need-add-if1 Inv-loop μ-loop
 add-if1 c = search needs
 
 returns : tie.Need-returns Inv-loop μ-loop
-returns c = sym (table-breaks (c .before .before .before .args .file .now) (c .before .entry-count .result) (c .before .entry-count .ensures .0) (c .if1 .taken))
+returns c = sym (table-breaks (c .before .before .before .args .file .now) (c .before .entry-count .result)
+    (c .before .entry-count .ensures .0) (c .if1 .taken))
 
 loop-holds : tie.Need-loop-holds Inv-loop μ-loop
 loop-holds c = (search needs, λ z l. absurd (not-suc-le-zero l))
@@ -39,7 +40,8 @@ module _ (c : tie.Else1 Inv-loop μ-loop) where
   stands : (bodies-at (entry-count (c .before .before .before .args .file .now)) ≤ length (c .before .before .before .args .file .now))
       × (bad-layout (c .before .before .before .args .file .now)
       ≡ any (entry-count (c .before .before .before .args .file .now)) (bad-entry (c .before .before .before .args .file .now)))
-  stands = table-stands (c .before .before .before .args .file .now) (c .before .entry-count .result) (c .before .entry-count .ensures .0) (c .if1 .left)
+  stands = table-stands (c .before .before .before .args .file .now) (c .before .entry-count .result)
+      (c .before .entry-count .ensures .0) (c .if1 .left)
 
 bad-entry-requires : tie.Need-bad-entry-requires Inv-loop μ-loop
 bad-entry-requires c κs =
@@ -52,7 +54,8 @@ returns-2 c =
     let g = l .before in
     let file = g .before .before .before .args .file .now in
     sym (stands g .1
-    ∙ any-at (bad-entry file) (entry-count file) (l .loop .i) (omega (arith, g .before .entry-count .ensures .0)) (sym (c .before .bad-entry .ensures) ∙ c .if2 .taken))
+    ∙ any-at (bad-entry file) (entry-count file) (l .loop .i) (omega (arith, g .before .entry-count .ensures .0))
+    (sym (c .before .bad-entry .ensures) ∙ c .if2 .taken))
 
 add-i : tie.Need-add-i Inv-loop μ-loop
 add-i c = search needs
@@ -63,15 +66,19 @@ loop-less c = search needs
 loop-again : tie.Need-loop-again Inv-loop μ-loop
 loop-again c =
     let l = c .before .before .before in
-    let file = l .before .before .before .before .args .file .now in
-    (search needs, below-more (λ z. bad-entry file z ≡ false) (l .loop .i) (l .loop .inv .1) (sym (c .before .bad-entry .ensures) ∙ c .if2 .left))
+    let file = l .before .before .before .before .args .file .now in (
+      search needs,
+      below-more (λ z. bad-entry file z ≡ false) (l .loop .i) (l .loop .inv .1)
+          (sym (c .before .bad-entry .ensures) ∙ c .if2 .left),
+    )
 
 returns-3 : tie.Need-returns-3 Inv-loop μ-loop
 returns-3 c =
     let l = c .before in
     let g = l .before in
     let file = g .before .before .before .args .file .now in
-    sym (stands g .1 ∙ any-none (bad-entry file) (entry-count file) (λ z m. l .loop .inv .1 z (omega (arith, g .before .entry-count .ensures .0))))
+    sym (stands g .1 ∙ any-none (bad-entry file) (entry-count file)
+    (λ z m. l .loop .inv .1 z (omega (arith, g .before .entry-count .ensures .0))))
 
 pub bad-layout-spec : {M : Type 1} → statement M
 bad-layout-spec =

@@ -37,7 +37,8 @@ add-result-2 c = search needs
 returns-2 : tie.Need-returns-2
 returns-2 c =
     let a = c .before .before .before .before .args in
-    rw (ne-eqb (a .i) 0 (c .before .before .if1 .left)) (ap₂ (λ (x y : ℕ). x + y) (c .before .body-offset .ensures .0) (c .body-length .ensures .0))
+    rw (ne-eqb (a .i) 0 (c .before .before .if1 .left))
+    (ap₂ (λ (x y : ℕ). x + y) (c .before .body-offset .ensures .0) (c .body-length .ensures .0))
 
 pub body-start-spec : {M : Type 1} → statement M
 body-start-spec =

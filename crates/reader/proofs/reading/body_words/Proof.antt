@@ -31,12 +31,18 @@ loop-holds c = (search needs, search needs, λ z l. absurd (not-suc-le-zero l))
 
 -- the count is that of the body's whole words, and word t is in the file
 module _ (c : tie.In-loop Inv-loop μ-loop) where
-  inside : c .before .before .before .body-offset .result + 8 * c .before .loop .t + 8 ≤ length (c .before .before .before .before .before .args .file .now)
+  inside : c .before .before .before .body-offset .result + 8 * c .before .loop .t + 8 ≤ length
+      (c .before .before .before .before .before .args .file .now)
   inside =
       let s = c .before .before .before .before .before in
       let w = c .before .before in
       let size = w .word-count .ensures .0 ∙ word-count (s .args .file .now) (s .args .i) in
-      omega (arith, word-inside (s .args .file .now) (s .pre .0) (s .args .i) (c .before .loop .t) (s .pre .1) (omega (arith, size)), w .before .body-offset .ensures .0)
+      omega (
+        arith,
+        word-inside (s .args .file .now) (s .pre .0) (s .args .i) (c .before .loop .t) (s .pre .1)
+            (omega (arith, size)),
+        w .before .body-offset .ensures .0,
+      )
 
 mul-number-at : tie.Need-mul-number-at Inv-loop μ-loop
 mul-number-at c = omega (arith, inside c)
@@ -86,7 +92,8 @@ returns c =
     let i = s .args .i in
     let size : g .before .word-count .result ≡ body-length file i / 8 = g .before .word-count .ensures .0 ∙ word-count file i in (
       l .inv .1,
-      begins-with-words file i (l .words) (omega (arith, size, l .inv .1, g .before .word-count .ensures .1)) (λ z m. l .inv .2 z (omega (arith, size))),
+      begins-with-words file i (l .words) (omega (arith, size, l .inv .1, g .before .word-count .ensures .1))
+          (λ z m. l .inv .2 z (omega (arith, size))),
     )
 
 pub body-words-spec : {M : Type 1} → statement M

@@ -35,7 +35,12 @@ mul-number : tie.Need-mul-number Inv-loop μ-loop
 mul-number c =
     let l = c .before .loop in
     let a = c .before .before .args in
-    omega (arith, number-room (a .count) (l .i) (l .number) 0 (c .loop-test .taken) (l .inv .0) (l .inv .2) (omega arith), number-fits (a .count) (l .i - 1) (c .before .before .pre .0))
+    omega (
+      arith,
+      number-room (a .count) (l .i) (l .number) 0 (c .loop-test .taken) (l .inv .0) (l .inv .2)
+          (omega arith),
+      number-fits (a .count) (l .i - 1) (c .before .before .pre .0),
+    )
 
 add-number : tie.Need-add-number Inv-loop μ-loop
 add-number c = omega arith
@@ -64,7 +69,8 @@ loop-again c =
     let a = c .before .before .before .args in (
       omega arith,
       ap (λ (n : ℕ). n * 256 + at (a .file .now) (a .offset + (l .i - 1))) (l .inv .1)
-          ∙ number-more (a .file .now) (a .offset) (a .count) (l .i) (c .before .loop-test .taken) (l .inv .0) (c .before .before .before .pre .1),
+          ∙ number-more (a .file .now) (a .offset) (a .count) (l .i) (c .before .loop-test .taken) (l .inv .0)
+          (c .before .before .before .pre .1),
       room c,
     )
 

@@ -1,4 +1,5 @@
--- A local that holds the Session is lent to `second_answers`, for a lifetime that is made for the call, and comes back at the last value that `second_answers` says.
+-- A local that holds the Session is lent to `second_answers`, for a lifetime that is made for the call, and comes back
+-- at the last value that `second_answers` says.
 use mathlib.Core.Path.{_≡_, refl, ap}
 use Prim.Native.Nat.{ℕ, _<_, _^_}
 use mathlib.Core.List.{[], _∷_, List}
@@ -15,8 +16,10 @@ use prog.Wp.{Heap, Calls, Loops, WpFn, Tables}
 use ghost.Atoms.{Atoms, sem}
 use contract.Monad.{Fun}
 use contract.Running.{givenOf, tables, tablesOf}
-use types.Kit.{Given, ‵, raw, given, some, later, _⊛_, ⋆, _$_, _∵_, !, qed, by, move, keep, drop, use1, use2, use3, split, join, pick, learn, rewrite, fsplit, fjoin, suffices, frame, await, done}
-use types.Run.{look, init, forget, stop, from, load, addr, of-opd, and-then, no-more, assigns, land, returns, enter, alloc1, alloc0, params1, pass1, pass0, free1, free0}
+use types.Kit.{Given, ‵, raw, given, some, later, _⊛_, ⋆, _$_, _∵_, !, qed, by, move, keep, drop, use1, use2, use3}
+use types.Kit.{split, join, pick, learn, rewrite, fsplit, fjoin, suffices, frame, await, done}
+use types.Run.{look, init, forget, stop, from, load, addr, of-opd, and-then, no-more, assigns, land, returns, enter}
+use types.Run.{alloc1, alloc0, params1, pass1, pass0, free1, free0}
 use types.Part.{agg}
 use types.SemTy.{Body}
 use types.Tokens.{lft-new, lft-end}
@@ -75,7 +78,9 @@ Says h answers₀ r =
     (r .code ≡ second-answered h answers₀ .code) ∷
     []
 
-module _ {M : Type 1} (𝓤 : URA M) (H : Heap 𝓤) (A : Atoms 𝓤) (W : Given 𝓤 H A) (at-mem : Memory → SProp 𝓤) (run : Routine → Fun 𝓤) (κ1 : Lft) (q1 : Share) (h : Session) (h-is : Is R h (mach h ∷ [])) (b-answers o-answers : ℕ) (γ-answers : GName) (answers₀ : List ℕ) where
+module _ {M : Type 1} (𝓤 : URA M) (H : Heap 𝓤) (A : Atoms 𝓤) (W : Given 𝓤 H A) (at-mem : Memory → SProp 𝓤)
+    (run : Routine → Fun 𝓤) (κ1 : Lft) (q1 : Share) (h : Session) (h-is : Is R h (mach h ∷ []))
+    (b-answers o-answers : ℕ) (γ-answers : GName) (answers₀ : List ℕ) where
   -- the borrow of answers, and its machine value
   abbrev x-answers : RefT (List ℕ)
   x-answers = record { ptr = (b-answers, o-answers); name = γ-answers; now = answers₀ }
@@ -100,65 +105,113 @@ module _ {M : Type 1} (𝓤 : URA M) (H : Heap 𝓤) (A : Atoms 𝓤) (W : Given
   abbrev to : ℕ → ℕ → GName → Call 𝓤 H A at-mem run .Ghost
   to l α δ = (((α ∷ [], (κ1, tt)), (fullShare, (q1, tt)), tt, (lent l δ, (x-answers, tt)), (vptr l 0 ∷ [], (s-answers ∷ [], tt))), tt)
 
-  goes : (l α : ℕ) (δ : GName) → ent 𝓤 (sep 𝓤 (sep 𝓤 (A .lft (α ∷ []) fullShare) (sep 𝓤 (A .lft κ1 q1) (sem 𝓤 H A ftrue))) (sep 𝓤 (sem 𝓤 H A (MutRef (named 0) (α ∷ []) R .own (lent l δ) (vptr l 0 ∷ []))) (sem 𝓤 H A (owns (ShrSlice (named 1) κ1 u64 ∷ []) (x-answers, tt) (s-answers ∷ [], tt))))) (Call 𝓤 H A at-mem run .pre (to l α δ))
+  goes : (l α : ℕ) (δ : GName)
+      → ent 𝓤 (sep 𝓤 (sep 𝓤 (A .lft (α ∷ []) fullShare) (sep 𝓤 (A .lft κ1 q1) (sem 𝓤 H A ftrue)))
+      (sep 𝓤 (sem 𝓤 H A (MutRef (named 0) (α ∷ []) R .own (lent l δ) (vptr l 0 ∷ [])))
+      (sem 𝓤 H A (owns (ShrSlice (named 1) κ1 u64 ∷ []) (x-answers, tt) (s-answers ∷ [], tt)))))
+      (Call 𝓤 H A at-mem run .pre (to l α δ))
   goes l α δ =
-      qed W ((‵ (flft (α ∷ []) fullShare) ⊛ ‵ (flft κ1 q1) ⊛ ‵ ftrue) ∷ ‵ (MutRef (named 0) (α ∷ []) R .own (lent l δ) (vptr l 0 ∷ [])) ∷ ‵ (owns (ShrSlice (named 1) κ1 u64 ∷ []) (x-answers, tt) (s-answers ∷ [], tt)) ∷ []) ∵
+      qed W ((‵ (flft (α ∷ []) fullShare) ⊛ ‵ (flft κ1 q1) ⊛ ‵ ftrue)
+      ∷ ‵ (MutRef (named 0) (α ∷ []) R .own (lent l δ) (vptr l 0 ∷ []))
+      ∷ ‵ (owns (ShrSlice (named 1) κ1 u64 ∷ []) (x-answers, tt) (s-answers ∷ [], tt)) ∷ []) ∵
       move ! (1 ∷ 2 ∷ []) $ fjoin ! $ move ! (1 ∷ 0 ∷ []) $ join ! $ frame ! $ done !
 
   exits : (c : ℕ) (h′ : Session) → c < 2 ^ 64 → Is R h′ (mach h′ ∷ []) → All (Says h answers₀ (res c h′))
       → ent 𝓤 (⋆ 𝓤 H A ((‵ (flft κ1 q1) ⊛ ‵ ftrue) ∷ [])) (Post (LL.val Adv.the-type Adv′.the-laws (res c h′)))
   exits c h′ fits g e =
       qed W ((‵ (flft κ1 q1) ⊛ ‵ ftrue) ∷ []) ∵
-      suffices ! _ (ends-at 𝓤 H A F.ended stayed (F.clauses 𝓤 H A at-mem run) W (((κ1, tt), (q1, tt), tt, a, vals), tt) (LL.val Adv.the-type Adv′.the-laws (res c h′)) (res c h′) (tt, (tt, tt)) (tt, (tt, tt))) $ says-all ! (Says h answers₀ (res c h′)) e $ frame ! $
+      suffices ! _ (ends-at 𝓤 H A F.ended stayed (F.clauses 𝓤 H A at-mem run) W (((κ1, tt), (q1, tt), tt, a, vals), tt)
+      (LL.val Adv.the-type Adv′.the-laws (res c h′)) (res c h′) (tt, (tt, tt)) (tt, (tt, tt))) $
+      says-all ! (Says h answers₀ (res c h′)) e $ frame ! $
       nothing ! $ nothing ! $ fjoin ! $ nothing ! $ fjoin ! $
-      owned ! Adv.the-row (Is Adv.the-row) (LL.makes Adv.the-type Adv′.the-plain 𝓤 H A) (res c h′) _ (made c h′ fits g) $ move ! (1 ∷ 0 ∷ []) $ done !
+      owned ! Adv.the-row (Is Adv.the-row) (LL.makes Adv.the-type Adv′.the-plain 𝓤 H A) (res c h′) _
+      (made c h′ fits g) $ move ! (1 ∷ 0 ∷ []) $ done !
 
-  module _ (C : Calls 𝓤 H) (Λ : Loops 𝓤 H) (fm : FmC 𝓤 H (W .laws) C) (known : Triple 𝓤 (C #session·second-answers) (Call 𝓤 H A at-mem run)) where
-    walk : Room u64 (length answers₀) → ent 𝓤 (onEntry 𝓤 H A F.signature (κ1, tt) (q1, tt) a vals) (WpFn 𝓤 H C Λ code.function (mach h ∷ s-answers ∷ []) Post)
+  module _ (C : Calls 𝓤 H) (Λ : Loops 𝓤 H) (fm : FmC 𝓤 H (W .laws) C)
+      (known : Triple 𝓤 (C #session·second-answers) (Call 𝓤 H A at-mem run)) where
+    walk : Room u64 (length answers₀)
+        → ent 𝓤 (onEntry 𝓤 H A F.signature (κ1, tt) (q1, tt) a vals)
+        (WpFn 𝓤 H C Λ code.function (mach h ∷ s-answers ∷ []) Post)
     walk room-answers =
-        qed W ((‵ (flft κ1 q1) ⊛ ‵ ftrue) ∷ ‵ (owns (R ∷ ShrSlice (named 0) κ1 u64 ∷ []) a vals) ∷ []) ∵ enter ! C Λ code.function (mach h ∷ s-answers ∷ []) _ $
-        alloc1 ! (λ l0. alloc1 ! (λ l1. alloc1 ! (λ l2. alloc1 ! (λ l3. alloc1 ! (λ l4. alloc1 ! (λ l5. alloc1 ! (λ l6. alloc0 ! $ params1 ! $
-        pass1 ! (init ! 10 refl (typed 𝓤 H A W h h-is)) $ pass1 ! (init ! 8 refl (tt, (tt, (record { fits = room-answers .0 }, tt)))) $ pass0 ! $
+        qed W ((‵ (flft κ1 q1) ⊛ ‵ ftrue) ∷ ‵ (owns (R ∷ ShrSlice (named 0) κ1 u64 ∷ []) a vals)
+        ∷ []) ∵ enter ! C Λ code.function (mach h ∷ s-answers ∷ []) _ $
+        alloc1 ! (λ l0. alloc1 ! (λ l1. alloc1 !
+        (λ l2. alloc1 ! (λ l3. alloc1 ! (λ l4. alloc1 ! (λ l5. alloc1 ! (λ l6. alloc0 ! $ params1 ! $
+        pass1 ! (init ! 10 refl (typed 𝓤 H A W h h-is)) $
+        pass1 ! (init ! 8 refl (tt, (tt, (record { fits = room-answers .0 }, tt)))) $ pass0 ! $
         assigns ! (of-opd ! (load ! (from ! (stop !)) (look ! 10 refl))) (from ! (stop !)) (init ! 6 refl (typed 𝓤 H A W h h-is)) $
         assigns ! (addr ! (from ! (stop !))) (from ! (stop !)) (init ! 2 refl (tt, tt)) $
         -- the local _3 is lent
         move ! (15 ∷ []) $ fsplit ! $ move ! (8 ∷ 0 ∷ []) $ use2 W (‵ (mem R .lies h l3 0)) (stands 𝓤 H A W h l3) $
         lft-new ! tt (λ α. move ! (1 ∷ []) $
-        use1 W (later (some (λ (δ : GName). ‵ (MutRef (named 0) (α ∷ []) R .own (lent l3 δ) (vptr l3 0 ∷ [])) ⊛ ‵ (flent (α ∷ []) (Body (mem R) l3 0 δ))))) (lends-ref 𝓤 H A W R (named 0) (α ∷ []) h l3 0) $ await ! tt $ pick ! (λ δ. split ! $
-        -- [the reference; the lender's part; its token; what the other parameters own; the locals, the last first, where of _3 only that it dies; the other tokens]
+        use1 W (later (some (λ (δ : GName). ‵ (MutRef (named 0) (α ∷ []) R .own (lent l3 δ) (vptr l3 0 ∷ []))
+        ⊛ ‵ (flent (α ∷ []) (Body (mem R) l3 0 δ))))) (lends-ref 𝓤 H A W R (named 0) (α ∷ []) h l3 0) $
+        await ! tt $ pick ! (λ δ. split ! $
+        -- [the reference; the lender's part; its token; what the other parameters own; the locals, the last first,
+        -- where of _3 only that it dies; the other tokens]
         move ! (2 ∷ 17 ∷ 0 ∷ 3 ∷ []) $ join ! $ use3 W (raw (Call 𝓤 H A at-mem run .pre (to l3 α δ))) (goes l3 α δ) $
-        calls-at ! fm (Call 𝓤 H A at-mem run) known (to l3 α δ) (and-then ! (load ! (from ! (stop !)) (look ! 4 refl)) (and-then ! (load ! (from ! (stop !)) (look ! 9 refl)) (no-more !))) (λ w.
-        use1 W (later (some (λ (r : ℕ). ((‵ (flft (α ∷ []) fullShare) ⊛ ‵ (flft κ1 q1) ⊛ ‵ ftrue) ⊛ ‵ (u64 .own r (w ∷ []))) ⊛ raw (ensured 𝓤 H A G.ended (G.clauses 𝓤 H A at-mem run) (α ∷ [], (κ1, tt)) (lent l3 δ, (x-answers, tt)) tt r)))) (id⊢ 𝓤 _) $ await ! tt $ pick ! (λ r.
-        split ! $ move ! (1 ∷ []) $ use1 W (some (λ (zs : Session × (Unit {0} × (Unit {0}))). ‵ (lasts G.ended (α ∷ [], (κ1, tt)) (lent l3 δ, (x-answers, tt)) zs) ⊛ raw (facts 𝓤 (Says h answers₀ (res r (zs .0)))))) (id⊢ 𝓤 _) $ pick ! (λ zs.
+        calls-at ! fm (Call 𝓤 H A at-mem run) known (to l3 α δ)
+        (and-then ! (load ! (from ! (stop !)) (look ! 4 refl))
+        (and-then ! (load ! (from ! (stop !)) (look ! 9 refl)) (no-more !))) (λ w.
+        use1 W (later (some (λ (r : ℕ).
+        ((‵ (flft (α ∷ []) fullShare) ⊛ ‵ (flft κ1 q1) ⊛ ‵ ftrue) ⊛ ‵ (u64 .own r (w ∷ [])))
+        ⊛ raw (ensured 𝓤 H A G.ended (G.clauses 𝓤 H A at-mem run) (α ∷ [], (κ1, tt))
+        (lent l3 δ, (x-answers, tt)) tt r)))) (id⊢ 𝓤 _) $ await ! tt $ pick ! (λ r.
+        split ! $ move ! (1 ∷ []) $
+        use1 W (some (λ (zs : Session × (Unit {0} × (Unit {0}))). ‵
+        (lasts G.ended (α ∷ [], (κ1, tt)) (lent l3 δ, (x-answers, tt)) zs)
+        ⊛ raw (facts 𝓤 (Says h answers₀ (res r (zs .0)))))) (id⊢ 𝓤 _) $ pick ! (λ zs.
         split ! $ move ! (1 ∷ []) $ hears ! (Says h answers₀ (res r (zs .0))) (λ e. fsplit ! $ move ! (1 ∷ []) $
         fsplit ! $ drop ! $ drop ! $
-        -- [the last lists, the last first; the Session's last value; the tokens and the result; the lender's part; the locals]
+        -- [the last lists, the last first; the Session's last value; the tokens and the result; the lender's part; the
+        -- locals]
         move ! (1 ∷ []) $ split ! $ move ! (1 ∷ []) $ peeks ! u64 (Is u64) (shows 𝓤 H A u64) r (w ∷ []) (λ is.
-        land ! (from ! (stop !)) (init ! 8 refl (uint-lawful 𝓤 H A W w64 .typed r _ is .0)) $ rewrite ! 8 (λ (u : Val). ‵ (fat fullShare (tyInt w64) l4 0 u)) (ap only (is .0)) refl $
+        land ! (from ! (stop !)) (init ! 8 refl (uint-lawful 𝓤 H A W w64 .typed r _ is .0)) $
+        rewrite ! 8 (λ (u : Val). ‵ (fat fullShare (tyInt w64) l4 0 u)) (ap only (is .0)) refl $
         -- the lifetime is ended, and the local comes back at that value
-        move ! (1 ∷ []) $ split ! $ lft-end ! tt $ move ! (0 ∷ 4 ∷ 3 ∷ []) $ use3 W (later (‵ (mem R .lies (zs .0) l3 0))) (ref-back 𝓤 H A W R (α ∷ []) δ (zs .0) l3 0) $ await ! tt $
-        use1 W (given (Is R (zs .0) (mach (zs .0) ∷ [])) (‵ (fat fullShare T′.mir l3 0 (mach (zs .0))))) (stands-out 𝓤 H A W (zs .0) l3) $ learn ! (λ g.
+        move ! (1 ∷ []) $ split ! $ lft-end ! tt $ move ! (0 ∷ 4 ∷ 3 ∷ []) $
+        use3 W (later (‵ (mem R .lies (zs .0) l3 0))) (ref-back 𝓤 H A W R (α ∷ []) δ (zs .0) l3 0) $
+        await ! tt $
+        use1 W (given (Is R (zs .0) (mach (zs .0) ∷ [])) (‵ (fat fullShare T′.mir l3 0 (mach (zs .0)))))
+        (stands-out 𝓤 H A W (zs .0) l3) $ learn ! (λ g.
         -- [_3; the tokens; the result; the last lists; the other locals]
         assigns ! (of-opd ! (load ! (from ! (stop !)) (look ! 0 refl))) (from ! (stop !)) (init ! 3 refl (typed 𝓤 H A W (zs .0) g)) $
-        assigns ! (agg ! (and-then ! (load ! (from ! (stop !)) (look ! 7 refl)) (and-then ! (load ! (from ! (stop !)) (look ! 3 refl)) (no-more !)))) (from ! (stop !)) (init ! 14 refl (LL.lawful Adv.the-type Adv′.the-laws 𝓤 H A W .typed (res r (zs .0)) _ (made r (zs .0) (is .1) g) .0)) $
-        returns ! (look ! 14 refl) $ forget ! 0 refl $ forget ! 3 refl $ forget ! 5 refl $ forget ! 7 refl $ forget ! 10 refl $ forget ! 12 refl $ forget ! 14 refl $
-        move ! (14 ∷ 15 ∷ []) $ free1 ! $ move ! (12 ∷ 13 ∷ []) $ free1 ! $ move ! (10 ∷ 11 ∷ []) $ free1 ! $ move ! (0 ∷ 9 ∷ []) $ free1 ! $ move ! (6 ∷ 7 ∷ []) $ free1 ! $ move ! (4 ∷ 5 ∷ []) $ free1 ! $ move ! (2 ∷ 3 ∷ []) $ free1 ! $ free0 ! $
+        assigns ! (agg ! (and-then ! (load ! (from ! (stop !)) (look ! 7 refl))
+        (and-then ! (load ! (from ! (stop !)) (look ! 3 refl)) (no-more !)))) (from ! (stop !))
+        (init ! 14 refl (LL.lawful Adv.the-type Adv′.the-laws 𝓤 H A W .typed (res r (zs .0)) _
+        (made r (zs .0) (is .1) g) .0)) $
+        returns ! (look ! 14 refl) $ forget ! 0 refl $ forget ! 3 refl $ forget ! 5 refl $ forget ! 7 refl $
+        forget ! 10 refl $ forget ! 12 refl $ forget ! 14 refl $
+        move ! (14 ∷ 15 ∷ []) $ free1 ! $ move ! (12 ∷ 13 ∷ []) $ free1 ! $ move ! (10 ∷ 11 ∷ []) $ free1 ! $
+        move ! (0 ∷ 9 ∷ []) $ free1 ! $ move ! (6 ∷ 7 ∷ []) $ free1 ! $ move ! (4 ∷ 5 ∷ []) $ free1 ! $
+        move ! (2 ∷ 3 ∷ []) $ free1 ! $ free0 ! $
         keep ! (0 ∷ []) $ by ! (exits r (zs .0) (is .1) g e))))))))))))))))
 
 module _ {M : Type 1} (𝓤 : URA M) (H : Heap 𝓤) (A : Atoms 𝓤) (W : Given 𝓤 H A) (at-mem : Memory → SProp 𝓤) (run : Routine → Fun 𝓤) where
-  walks : (C : Calls 𝓤 H) (Λ : Loops 𝓤 H) → FmC 𝓤 H (W .laws) C → Triple 𝓤 (C #session·second-answers) (Call 𝓤 H A at-mem run) → Walks 𝓤 H A F.ended stayed (WpFn 𝓤 H C Λ code.function) (F.clauses 𝓤 H A at-mem run)
+  walks : (C : Calls 𝓤 H) (Λ : Loops 𝓤 H) → FmC 𝓤 H (W .laws) C
+      → Triple 𝓤 (C #session·second-answers) (Call 𝓤 H A at-mem run)
+      → Walks 𝓤 H A F.ended stayed (WpFn 𝓤 H C Λ code.function) (F.clauses 𝓤 H A at-mem run)
   walks C Λ fm known = walked 𝓤 H A F.ended stayed (F.clauses 𝓤 H A at-mem run) (WpFn 𝓤 H C Λ code.function)
-      (λ κs. (LL.vals T.the-type T′.the-laws, (slice-vals, tt))) (λ κs. (LL.tells T.the-type T′.the-laws, (shr-slice-tells (named 0) (κs .0) u64, tt)))
-      (λ κs qs bounds a g are. via 𝓤 _ (fst∗ 𝓤 _ (emp 𝓤)) (walk 𝓤 H A W at-mem run (κs .0) (qs .0) (a .0) (are .0) (a .1 .0 .ptr .0) (a .1 .0 .ptr .1) (a .1 .0 .name) (a .1 .0 .now) C Λ fm known (are .1 .0 .0 .1)))
+      (λ κs. (LL.vals T.the-type T′.the-laws, (slice-vals, tt)))
+      (λ κs. (LL.tells T.the-type T′.the-laws, (shr-slice-tells (named 0) (κs .0) u64, tt)))
+      (λ κs qs bounds a g are. via 𝓤 _ (fst∗ 𝓤 _ (emp 𝓤))
+      (walk 𝓤 H A W at-mem run (κs .0) (qs .0) (a .0) (are .0) (a .1 .0 .ptr .0) (a .1 .0 .ptr .1)
+      (a .1 .0 .name) (a .1 .0 .now) C Λ fm known (are .1 .0 .0 .1)))
 
   all-go : AllGo 𝓤 H A W 1 (F.signature .params) (F.ended .kept) stayed
-  all-go = (goes-dropped 𝓤 H A W 1 (plain (λ _. R)) yes (λ κs x f. refl), (goes-dropped 𝓤 H A W 1 (shrSliceOf (0 ∷ []) tt (plain (λ _. u64))) yes (λ κs x f. refl), tt))
+  all-go = (
+    goes-dropped 𝓤 H A W 1 (plain (λ _. R)) yes (λ κs x f. refl),
+    (goes-dropped 𝓤 H A W 1 (shrSliceOf (0 ∷ []) tt (plain (λ _. u64))) yes (λ κs x f. refl), tt),
+  )
 
-second-answers-meets : {M : Type 1} (𝓤 : URA M) (H : Heap 𝓤) (A : Atoms 𝓤) → Given 𝓤 H A → (at-mem : Memory → SProp 𝓤) (run : Routine → Fun 𝓤) (𝓣 : Tables 𝓤 H) → Triple 𝓤 (𝓣 .C #session·second-answers) (Call 𝓤 H A at-mem run)
+second-answers-meets : {M : Type 1} (𝓤 : URA M) (H : Heap 𝓤) (A : Atoms 𝓤) → Given 𝓤 H A
+    → (at-mem : Memory → SProp 𝓤) (run : Routine → Fun 𝓤) (𝓣 : Tables 𝓤 H)
+    → Triple 𝓤 (𝓣 .C #session·second-answers) (Call 𝓤 H A at-mem run)
     → Meets 𝓤 H A F.signature (WpFn 𝓤 H (𝓣 .C) (𝓣 .Λ) code.function) (F.spec 𝓤 H A at-mem run)
 second-answers-meets 𝓤 H A W at-mem run 𝓣 known =
     walk-meets 𝓤 H A F.ended stayed W (all-go 𝓤 H A W at-mem run) (F.clauses 𝓤 H A at-mem run)
-    (WpFn 𝓤 H (𝓣 .C) (𝓣 .Λ) code.function) (WpFn-mono 𝓤 H (W .laws) 𝓣 code.function) (walks 𝓤 H A W at-mem run (𝓣 .C) (𝓣 .Λ) (fmOf 𝓤 H (W .laws) 𝓣) known)
+    (WpFn 𝓤 H (𝓣 .C) (𝓣 .Λ) code.function) (WpFn-mono 𝓤 H (W .laws) 𝓣 code.function)
+    (walks 𝓤 H A W at-mem run (𝓣 .C) (𝓣 .Λ) (fmOf 𝓤 H (W .laws) 𝓣) known)
 
 pub second-answers-spec : {M : Type 1} → stated.statement M
 unfolding code.routine tablesOf
@@ -166,4 +219,6 @@ second-answers-spec 𝓤 H 𝓜 𝓖 𝓡 =
     entered 𝓤 H (tripleOf 𝓤 H (𝓖 .A) F.signature (F.spec 𝓤 H (𝓖 .A) (𝓜 .mem) (𝓡 .run)))
     (tables 𝓤 H 𝓜 𝓡 code.env .C) (tables 𝓤 H 𝓜 𝓡 code.env .Λ) #session·by-value·second-answers code.function (code.unfolded 𝓤 H 𝓜 𝓡)
     (second-answers-meets 𝓤 H (𝓖 .A) (givenOf 𝓤 H 𝓜 𝓖) (𝓜 .mem) (𝓡 .run) (tablesOf 𝓤 H 𝓜 (tables 𝓤 H 𝓜 𝓡 code.env))
-    (cited 𝓤 H (Call 𝓤 H (𝓖 .A) (𝓜 .mem) (𝓡 .run)) 𝓜 𝓡 code.env #session·second-answers callee-def.routine code.calls-session·second-answers (callee-thm.met 𝓤 H 𝓜 𝓖 𝓡)))
+    (cited 𝓤 H (Call 𝓤 H (𝓖 .A) (𝓜 .mem)
+    (𝓡 .run)) 𝓜 𝓡 code.env #session·second-answers callee-def.routine code.calls-session·second-answers
+    (callee-thm.met 𝓤 H 𝓜 𝓖 𝓡)))

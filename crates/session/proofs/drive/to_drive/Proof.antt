@@ -38,7 +38,8 @@ unfolding to-drive
 returns c =
     let w = c .before in
     let a = w .before .before .before .before .before .before .args in
-    let size : w .word-length .result ≡ length (first-vectors (a .t1 .network)) = w .word-length .ensures ∙ sym (first-size (a .t1 .network)) in
+    let size : w .word-length .result ≡ length (first-vectors (a .t1 .network)) = w .word-length .ensures
+    ∙ sym (first-size (a .t1 .network)) in
     rw (waits-first (w .before .before)) (c .front .ensures ∙ ap (λ (n : ℕ). front n (a .first .now)) size)
 
 awaits-second-requires : tie.Need-awaits-second-requires
@@ -60,7 +61,8 @@ returns-2 c =
     let k = c .before in
     let b = k .before .before .before .before .before in
     let a = b .before .before .before .before .before .before .args in
-    rw (waits-not-first (b .before .before), waits-second b) (c .front2 .ensures ∙ ap (λ (n : ℕ). front n (a .second .now)) (k .second-count .ensures))
+    rw (waits-not-first (b .before .before), waits-second b)
+    (c .front2 .ensures ∙ ap (λ (n : ℕ). front n (a .second .now)) (k .second-count .ensures))
 
 slice-aggregate-result : tie.Need-slice-aggregate-result
 slice-aggregate-result c = search needs

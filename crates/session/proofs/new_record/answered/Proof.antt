@@ -20,7 +20,8 @@ use Rattle.session.proofs.new_record.answered.Tie as tie
 
 -- no vectors of step two: no net is unclear, and the vectors are those of step one
 module _ (net : Network) (answers : List ℕ) where
-  answered-none : length (second-vectors net answers) ≡ 0 → finished net (fault-free-state net) (word-length net) ≡ answered-by net answers (unclear net answers)
+  answered-none : length (second-vectors net answers) ≡ 0
+      → finished net (fault-free-state net) (word-length net) ≡ answered-by net answers (unclear net answers)
   answered-none e = go (unclear net answers) refl
     where
       none : length (unclear net answers) ≡ 0
@@ -29,7 +30,8 @@ module _ (net : Network) (answers : List ℕ) where
       spent : word-length net ≡ length (session-vectors net answers)
       spent = sym (length-append (first-vectors net) (second-vectors net answers) ∙ (let a = first-size net in omega arith))
 
-      go : (nets : List ℕ) → unclear net answers ≡ nets → finished net (fault-free-state net) (word-length net) ≡ answered-by net answers nets
+      go : (nets : List ℕ) → unclear net answers ≡ nets
+          → finished net (fault-free-state net) (word-length net) ≡ answered-by net answers nets
       go [] q = ap (finished net (fault-free-state net)) spent
       go (i ∷ nets) q = absurd (let z : length (i ∷ nets) ≡ 0 = ap length (sym q) ∙ none in omega arith)
 
@@ -47,7 +49,9 @@ array-share-prefix-state : tie.Need-array-share-prefix-state
 array-share-prefix-state c = search needs
 
 -- as many reaches as nets
-reaches-size : (c : tie.After-fault-free) → length (take (c .before .before .before .args .net .nets) (c .fault-free .result)) ≡ c .before .before .before .args .net .nets
+reaches-size : (c : tie.After-fault-free)
+    → length (take (c .before .before .before .args .net .nets) (c .fault-free .result))
+    ≡ c .before .before .before .args .net .nets
 reaches-size c =
     let s = c .before .before .before in
     length-take-le (s .args .net .nets) (c .fault-free .result) (omega (arith, s .pre .1, c .fault-free .ensures .0))

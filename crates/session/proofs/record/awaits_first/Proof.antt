@@ -44,9 +44,11 @@ returns-4 c =
     let b = z .before .before .before .before .before in
     let a = b .before .before .before .before .args .t1 in
     let first-size : length (a .first) ≡ 8 = search needs in
-    let first-zeros : is-zeros 8 (a .first) ≡ true = zeros-by _ (a .first) first-size (z .before .is-zeros .ensures) (not-false _ (z .if3 .left)) in
+    let first-zeros : is-zeros 8 (a .first) ≡ true =
+    zeros-by _ (a .first) first-size (z .before .is-zeros .ensures) (not-false _ (z .if3 .left)) in
     let size : length (a .reaches) ≡ 48 = search needs in
-    let held : is-zeros 48 (a .reaches) ≡ false = zeros-by _ (a .reaches) size (c .before .is-zeros2 .ensures) (not-true _ (c .if4 .taken)) in
+    let held : is-zeros 48 (a .reaches) ≡ false =
+    zeros-by _ (a .reaches) size (c .before .is-zeros2 .ensures) (not-true _ (c .if4 .taken)) in
     rw (eq-eqb _ _ (b .before .before .before .if1 .left), sym (b .before .bad-net-count .ensures) ∙ b .if2 .left, first-zeros, held)
 
 returns-5 : tie.Need-returns-5
@@ -56,9 +58,11 @@ returns-5 c =
     let b = z .before .before .before .before .before in
     let a = b .before .before .before .before .args .t1 in
     let first-size : length (a .first) ≡ 8 = search needs in
-    let first-zeros : is-zeros 8 (a .first) ≡ true = zeros-by _ (a .first) first-size (z .before .is-zeros .ensures) (not-false _ (z .if3 .left)) in
+    let first-zeros : is-zeros 8 (a .first) ≡ true =
+    zeros-by _ (a .first) first-size (z .before .is-zeros .ensures) (not-false _ (z .if3 .left)) in
     let size : length (a .reaches) ≡ 48 = search needs in
-    let zeros : is-zeros 48 (a .reaches) ≡ true = zeros-by _ (a .reaches) size (c .before .is-zeros2 .ensures) (not-false _ (c .if4 .left)) in
+    let zeros : is-zeros 48 (a .reaches) ≡ true =
+    zeros-by _ (a .reaches) size (c .before .is-zeros2 .ensures) (not-false _ (c .if4 .left)) in
     rw (eq-eqb _ _ (b .before .before .before .if1 .left), sym (b .before .bad-net-count .ensures) ∙ b .if2 .left, first-zeros, zeros)
     (sym (and-true (eqb (a .spent) 0)))
 

@@ -18,7 +18,9 @@ holds-step c = eq-eqb _ _ (c .if1 .left)
 holds-nets : (c : tie.Else2) → bad-net-count (c .before .before .before .before .args .t1 .network) ≡ false
 holds-nets c = sym (c .before .bad-net-count .ensures) ∙ c .if2 .left
 
-holds-first : (c : tie.Else3) → let a = c .before .before .before .before .before .before .before .before .before .before .args .t1 in first-answers-held (a .network) (a .first) ≡ true
+holds-first : (c : tie.Else3)
+    → let a = c .before .before .before .before .before .before .before .before .before .before .args .t1 in
+    first-answers-held (a .network) (a .first) ≡ true
 holds-first c = sym (c .before .holds-first-answers .ensures) ∙ not-false _ (c .if3 .left)
 
 returns : tie.Need-returns

@@ -45,11 +45,13 @@ is-zeros-requires c κs = search needs
 
 -- what the test of the words after the first answers tells
 zeros-told : (c : tie.After-is-zeros) {d : Bool} → c .is-zeros .result ≡ d
-    → let a = c .before .before .before .before .args in is-zeros (8 - word-length (a .net)) (drop (word-length (a .net)) (a .first .now)) ≡ d
+    → let a = c .before .before .before .before .args in
+    is-zeros (8 - word-length (a .net)) (drop (word-length (a .net)) (a .first .now)) ≡ d
 zeros-told c e =
     let b = c .before .before in
     let a = b .before .before .args in
-    zeros-after (a .first .now) (b .word-length .result) (word-length (a .net)) (b .before .before .pre .2) (b .word-length .ensures) (c .is-zeros .ensures) e
+    zeros-after (a .first .now) (b .word-length .result) (word-length (a .net)) (b .before .before .pre .2)
+    (b .word-length .ensures) (c .is-zeros .ensures) e
 
 returns : tie.Need-returns
 unfolding all-hold
@@ -67,7 +69,8 @@ returns-2 c =
     let z = c .before .before .before in
     let b = z .before .before .before in
     let a = b .before .before .args in
-    let high : has-high-bit (a .net) (take (word-length (a .net)) (a .first .now)) ≡ true = rw (← (b .word-length .ensures)) (sym (c .before .has-high-bit .ensures) ∙ c .if2 .taken) in
+    let high : has-high-bit (a .net) (take (word-length (a .net)) (a .first .now)) ≡ true =
+    rw (← (b .word-length .ensures)) (sym (c .before .has-high-bit .ensures) ∙ c .if2 .taken) in
     rw (eq-eqb _ 8 (b .before .before .pre .2), zeros-told (z .before) (not-false _ (z .if1 .left)), high)
 
 second-count-requires : tie.Need-second-count-requires
@@ -81,9 +84,12 @@ returns-3 c =
     let b = z .before .before .before in
     let a = b .before .before .args in
     let held = take (word-length (a .net)) (a .first .now) in
-    let narrow : has-high-bit (a .net) held ≡ false = rw (← (b .word-length .ensures)) (sym (h .before .has-high-bit .ensures) ∙ h .if2 .left) in
-    let number : eqb (c .second-count .result) 0 ≡ eqb (length (unclear (a .net) held)) 0 = ap (λ (n : ℕ). eqb n 0) (c .second-count .ensures) ∙ second-empty (a .net) held in
-    rw (eq-eqb _ 8 (b .before .before .pre .2), zeros-told (z .before) (not-false _ (z .if1 .left)), narrow, number) (sym (and-true (not (eqb (length (unclear (a .net) held)) 0))))
+    let narrow : has-high-bit (a .net) held ≡ false =
+    rw (← (b .word-length .ensures)) (sym (h .before .has-high-bit .ensures) ∙ h .if2 .left) in
+    let number : eqb (c .second-count .result) 0 ≡ eqb (length (unclear (a .net) held)) 0 =
+    ap (λ (n : ℕ). eqb n 0) (c .second-count .ensures) ∙ second-empty (a .net) held in
+    rw (eq-eqb _ 8 (b .before .before .pre .2), zeros-told (z .before) (not-false _ (z .if1 .left)), narrow, number)
+    (sym (and-true (not (eqb (length (unclear (a .net) held)) 0))))
 
 pub holds-first-answers-spec : {M : Type 1} → statement M
 holds-first-answers-spec =

@@ -103,7 +103,8 @@ returns c =
     let words = take (net .nets) (w .before .sequential-words .result) in
     let all : transpose p words ≡ first-vectors net = ap₂ transpose (w .word-length .ensures) (w .before .sequential-words .ensures .1) in
     l .inv .6
-    ∙ list-filled (transpose p words) (s .args .out .now) (l .t) (omega (arith, transpose-size p words)) (omega (arith, transpose-size p words))
+    ∙ list-filled (transpose p words) (s .args .out .now) (l .t) (omega (arith, transpose-size p words))
+    (omega (arith, transpose-size p words))
     ∙ ap (λ (m : List ℕ). m ++ drop (length m) (s .args .out .now)) all
 
 pub first-vectors-spec : {M : Type 1} → statement M

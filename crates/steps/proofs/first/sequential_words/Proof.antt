@@ -13,7 +13,8 @@ use Rattle.steps.proofs.first.sequential_words.Tie as tie
 
 abbrev Inv-loop : tie.InvT-loop
 Inv-loop net half words₀ count₀ word₀ words count word =
-    (count ≤ net .nets) × (length words ≡ 48) × (half ≡ word-length net / 2) × (2 ^ word-length net ≤ 2 ^ 8) × WordsTaken net words count word
+    (count ≤ net .nets) × (length words ≡ 48) × (half ≡ word-length net / 2) × (2 ^ word-length net ≤ 2 ^ 8)
+    × WordsTaken net words count word
 
 abbrev μ-loop : tie.MeasureT-loop
 μ-loop net half words₀ count₀ word₀ words count word = 2 ^ word-length net - word
@@ -68,14 +69,16 @@ loop-again c =
       search needs,
       half,
       l .inv .3,
-      word-taken net (s .pre .0) (s .pre .1) (l .words) (l .count) (l .word) (l .inv .4) (b .if1 .taken) (omega arith) (sym tried ∙ w .0 .taken ∙ half),
+      word-taken net (s .pre .0) (s .pre .1) (l .words) (l .count) (l .word) (l .inv .4) (b .if1 .taken) (omega arith)
+          (sym tried ∙ w .0 .taken ∙ half),
     ))
     (λ w. rw (w .1, w .2) (
       l .inv .0,
       l .inv .1,
       half,
       l .inv .3,
-      word-left net (s .pre .0) (s .pre .1) (l .words) (l .count) (l .word) (l .inv .4) (b .if1 .taken) (λ e. w .0 .left (tried ∙ e ∙ sym half)),
+      word-left net (s .pre .0) (s .pre .1) (l .words) (l .count) (l .word) (l .inv .4) (b .if1 .taken)
+          (λ e. w .0 .left (tried ∙ e ∙ sym half)),
     ))
     (c .if2 .came)
 

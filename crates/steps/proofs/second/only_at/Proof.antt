@@ -47,7 +47,8 @@ returns-2 c =
     let g = c .before .before .before in
     let a = g .before .before .before .args in
     let other : any (length (a .words .now)) (λ z. not (eqb z (a .i)) && eqb (at (a .words .now) z) (a .word)) ≡ true =
-    any-at (λ z. not (eqb z (a .i)) && eqb (at (a .words .now) z) (a .word)) (length (a .words .now)) (g .loop .j) (c .before .before .loop-test .taken) (c .if2 .taken)
+    any-at (λ z. not (eqb z (a .i)) && eqb (at (a .words .now) z) (a .word)) (length (a .words .now)) (g .loop .j)
+    (c .before .before .loop-test .taken) (c .if2 .taken)
     in
     rw other (sym (and-false (eqb (at (a .words .now) (a .i)) (a .word))))
 
@@ -60,8 +61,11 @@ loop-less c = search needs
 loop-again : tie.Need-loop-again Inv-loop μ-loop
 loop-again c =
     let g = c .before .before .before in
-    let a = g .before .before .before .args in
-    (search needs, below-more (λ z. not (eqb z (a .i)) && eqb (at (a .words .now) z) (a .word) ≡ false) (g .loop .j) (g .loop .inv .1) (c .if2 .left))
+    let a = g .before .before .before .args in (
+      search needs,
+      below-more (λ z. not (eqb z (a .i)) && eqb (at (a .words .now) z) (a .word) ≡ false) (g .loop .j)
+          (g .loop .inv .1) (c .if2 .left),
+    )
 
 returns-3 : tie.Need-returns-3 Inv-loop μ-loop
 unfolding only-at
@@ -69,7 +73,8 @@ returns-3 c =
     let g = c .before in
     let a = g .before .before .before .args in
     let none : any (length (a .words .now)) (λ z. not (eqb z (a .i)) && eqb (at (a .words .now) z) (a .word)) ≡ false =
-    any-none (λ z. not (eqb z (a .i)) && eqb (at (a .words .now) z) (a .word)) (length (a .words .now)) (λ z l. g .loop .inv .1 z (omega arith))
+    any-none (λ z. not (eqb z (a .i)) && eqb (at (a .words .now) z) (a .word)) (length (a .words .now))
+    (λ z l. g .loop .inv .1 z (omega arith))
     in
     sym (and-both (eq-eqb _ _ (g .before .if1 .left)) (ap not none))
 

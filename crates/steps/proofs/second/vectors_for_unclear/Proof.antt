@@ -73,7 +73,8 @@ loop-again c =
           (listed-more (a .net) (a .words .now) (a .returned .now) (l .vectors) (l .count) (l .i) (l .inv .1) (w .1 .result .0) inside
           (sym (q .ensures) ∙ not-true _ (w .0 .taken)) (w .1 .ensures)))
           (λ w. rw (w .1, w .2)
-          (listed-same (a .net) (a .words .now) (a .returned .now) (l .vectors) (l .count) (l .i) (l .inv .1) (sym (q .ensures) ∙ not-false _ (w .0 .left))))
+          (listed-same (a .net) (a .words .now) (a .returned .now) (l .vectors) (l .count) (l .i) (l .inv .1)
+          (sym (q .ensures) ∙ not-false _ (w .0 .left))))
           (c .if1 .came),
     )
 
@@ -85,7 +86,8 @@ returns c =
     λ answers e. (
       g .loop .inv .1 .size,
       search needs,
-      listed-none (a .net) (a .words .now) (a .returned .now) (g .loop .vectors) (g .loop .count) (g .loop .i) (g .loop .inv .1) answers (p .1) e
+      listed-none (a .net) (a .words .now) (a .returned .now) (g .loop .vectors) (g .loop .count) (g .loop .i)
+          (g .loop .inv .1) answers (p .1) e
           (omega (arith, g .loop .inv .0, p .2, c .before .loop-test .left)) (c .if2 .taken),
     )
 
@@ -97,7 +99,8 @@ returns-2 c =
     λ answers e. (
       g .loop .inv .1 .size,
       omega (arith, g .loop .inv .0, g .loop .inv .1 .few, p .0, p .2),
-      listed-some (a .net) (a .words .now) (a .returned .now) (g .loop .vectors) (g .loop .count) (g .loop .i) (g .loop .inv .1) answers (p .1) e
+      listed-some (a .net) (a .words .now) (a .returned .now) (g .loop .vectors) (g .loop .count) (g .loop .i)
+          (g .loop .inv .1) answers (p .1) e
           (omega (arith, g .loop .inv .0, p .2, c .before .loop-test .left)) (c .if2 .left),
     )
 

@@ -24,7 +24,8 @@ use Rattle.steps.proofs.settling.decoded.Tie as tie
 
 -- receiver i has this reach in every state that fits
 abbrev OnlyReach : Network → (first second : List ℕ) → ℕ → ℕ → Type 0
-OnlyReach net first second i reach = (state : List ℕ) → Fits net (net .nets) (session-vectors net first) (first ++ second) state → reach ≡ at state i
+OnlyReach net first second i reach = (state : List ℕ)
+    → Fits net (net .nets) (session-vectors net first) (first ++ second) state → reach ≡ at state i
 
 module _ (net : Network) (first second : List ℕ) (two : 2 ≤ net .nets) (most : net .nets ≤ 48) (size : length first ≡ word-length net) where
   reach-clear : (i reach : ℕ) → i < net .nets → is-clear net first i ≡ true → reach ≡ 2 ^ i → OnlyReach net first second i reach
@@ -32,7 +33,8 @@ module _ (net : Network) (first second : List ℕ) (two : 2 ≤ net .nets) (most
       let apart = words-apart net two most in
       own ∙ sym (clear-reach net apart first state (fits-first net apart first second state size fits) i l e)
 
-  reach-shown : (vectors : List ℕ) (i reach answered : ℕ) → i < net .nets → is-clear net first i ≡ false → vectors ≡ second-vectors net first → answered ≡ column second i
+  reach-shown : (vectors : List ℕ) (i reach answered : ℕ) → i < net .nets → is-clear net first i ≡ false
+      → vectors ≡ second-vectors net first → answered ≡ column second i
       → Walked net vectors answered reach → OnlyReach net first second i reach
   reach-shown vectors i reach answered l e same returned walked state fits =
       decoded-reach net (words-apart net two most) first second state size fits i reach l e (rw (← same, ← returned) walked)
@@ -51,12 +53,15 @@ clear-test : (net : Network) (words returned first : List ℕ) (i : ℕ) → i <
     → only-at (at words i) (take (net .nets) returned) i ≡ is-clear net first i
 unfolding is-clear
 clear-test net words returned first i l e room h =
-    ap₂ (λ (w : ℕ) (ws : List ℕ). only-at w ws i) (sym (getD-take (net .nets) words i 0 l) ∙ ap (λ (ws : List ℕ). at ws i) e) (columns-are (net .nets) returned first room h)
+    ap₂ (λ (w : ℕ) (ws : List ℕ). only-at w ws i)
+    (sym (getD-take (net .nets) words i 0 l) ∙ ap (λ (ws : List ℕ). at ws i) e)
+    (columns-are (net .nets) returned first room h)
 
 -- one more reach is written
 one-more : (net : Network) (first second reaches : List ℕ) (i reach : ℕ) → length reaches ≡ 48 → net .nets ≤ 48 → i < net .nets
     → ((z : ℕ) → z < i → OnlyReach net first second z (at reaches z)) → OnlyReach net first second i reach
-    → (i + 1 ≤ net .nets) × (length (set reaches i reach) ≡ 48) × ((z : ℕ) → z < i + 1 → OnlyReach net first second z (at (set reaches i reach) z))
+    → (i + 1 ≤ net .nets) × (length (set reaches i reach) ≡ 48)
+    × ((z : ℕ) → z < i + 1 → OnlyReach net first second z (at (set reaches i reach) z))
 one-more net first second reaches i reach full most inside before here = (
   omega arith,
   length-set reaches i reach ∙ full,
@@ -102,11 +107,14 @@ array-share-prefix-returned : tie.Need-array-share-prefix-returned Inv-loop μ-l
 array-share-prefix-returned c = search needs
 
 -- a returned word for each net
-returned-room : (c : tie.In-loop Inv-loop μ-loop) → c .before .before .before .before .before .before .before .before .args .net .nets ≤ length (c .before .before .before .answers-of .result)
+returned-room : (c : tie.In-loop Inv-loop μ-loop)
+    → c .before .before .before .before .before .before .before .before .args .net .nets ≤ length
+    (c .before .before .before .answers-of .result)
 returned-room c = search needs
 
 returned-size : (c : tie.In-loop Inv-loop μ-loop)
-    → length (take (c .before .before .before .before .before .before .before .before .args .net .nets) (c .before .before .before .answers-of .result))
+    → length (take (c .before .before .before .before .before .before .before .before .args .net .nets)
+    (c .before .before .before .answers-of .result))
     ≡ c .before .before .before .before .before .before .before .before .args .net .nets
 returned-size c = length-take-le _ _ (returned-room c)
 
@@ -158,23 +166,30 @@ loop-again c =
     let inside : l .i < a .net .nets = c .before .before .before .loop-test .taken in
     let test : c .before .only-at .result ≡ is-clear (a .net) (a .first .now) (l .i) =
     c .before .only-at .ensures
-    ∙ clear-test (a .net) (g .before .before .before .sequential-words .result) (g .before .before .answers-of .result) (a .first .now) (l .i) inside
-    (g .before .before .before .sequential-words .ensures .1) (returned-room (c .before .before .before)) (g .before .before .answers-of .ensures .1)
+    ∙ clear-test (a .net) (g .before .before .before .sequential-words .result) (g .before .before .answers-of .result)
+    (a .first .now) (l .i) inside
+    (g .before .before .before .sequential-words .ensures .1) (returned-room (c .before .before .before))
+    (g .before .before .answers-of .ensures .1)
     in
     ⊎-elim
     (λ w. rw (w .2)
     (one-more (a .net) (a .first .now) (a .second .now) (l .reaches) (l .i) (w .1 .result) (l .inv .1) (p .1) inside (l .inv .2)
-    (reach-clear (a .net) (a .first .now) (a .second .now) (p .0) (p .1) (p .2) (l .i) (w .1 .result) inside (sym test ∙ w .0 .taken) (w .1 .ensures))))
+    (reach-clear (a .net) (a .first .now) (a .second .now) (p .0) (p .1) (p .2) (l .i) (w .1 .result) inside
+    (sym test ∙ w .0 .taken) (w .1 .ensures))))
     (λ w. rw (w .2)
     (one-more (a .net) (a .first .now) (a .second .now) (l .reaches) (l .i) (w .1 .result) (l .inv .1) (p .1) inside (l .inv .2)
-    (reach-shown (a .net) (a .first .now) (a .second .now) (p .0) (p .1) (p .2) (a .vectors .now) (l .i) (w .1 .result) (at (g .before .answers-of2 .result) (l .i)) inside
+    (reach-shown (a .net) (a .first .now) (a .second .now) (p .0) (p .1) (p .2) (a .vectors .now) (l .i) (w .1 .result)
+    (at (g .before .answers-of2 .result) (l .i)) inside
     (sym test ∙ w .0 .left) (p .3) (g .before .answers-of2 .ensures .1 (l .i) inside) (w .1 .ensures)))) (c .if1 .came)
 
 returns : tie.Need-returns Inv-loop μ-loop
 returns c =
     let s = c .before .before .before .before .before .before .before .before in
-    let l = c .before .loop in
-    (l .inv .1, only-state (s .args .net) (s .args .first .now) (s .args .second .now) (s .pre .0) (s .pre .1) (s .pre .2) (l .reaches) (l .inv .1) (λ i m. l .inv .2 i (omega arith)))
+    let l = c .before .loop in (
+      l .inv .1,
+      only-state (s .args .net) (s .args .first .now) (s .args .second .now) (s .pre .0) (s .pre .1)
+          (s .pre .2) (l .reaches) (l .inv .1) (λ i m. l .inv .2 i (omega arith)),
+    )
 
 pub decoded-spec : {M : Type 1} → statement M
 decoded-spec =

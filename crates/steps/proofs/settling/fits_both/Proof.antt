@@ -22,10 +22,13 @@ use Rattle.steps.proofs.settling.fits_both.Statement.{statement}
 use Rattle.steps.proofs.settling.fits_both.Tie as tie
 
 -- a state that fits both answers gives each, and one that gives each fits both
-module _ (net : Network) (first vectors second state : List ℕ) (size : length first ≡ word-length net) (same : vectors ≡ second-vectors net first) where
-  gives-each : Fits net (net .nets) (session-vectors net first) (first ++ second) state → (response net state (first-vectors net) ≡ first) × (response net state vectors ≡ second)
+module _ (net : Network) (first vectors second state : List ℕ) (size : length first ≡ word-length net)
+    (same : vectors ≡ second-vectors net first) where
+  gives-each : Fits net (net .nets) (session-vectors net first) (first ++ second) state
+      → (response net state (first-vectors net) ≡ first) × (response net state vectors ≡ second)
   gives-each h =
-      let parts = fits-parts net (first-vectors net) (second-vectors net first) (net .nets) first second state (size ∙ sym (first-size net)) h in
+      let parts = fits-parts net (first-vectors net) (second-vectors net first) (net .nets) first second state
+      (size ∙ sym (first-size net)) h in
       (parts .0 .gives, ap (response net state) same ∙ parts .1 .gives)
 
   each-fits : State net (net .nets) state → response net state (first-vectors net) ≡ first → response net state vectors ≡ second
@@ -41,11 +44,13 @@ returns : tie.Need-returns
 returns c =
     let a = c .before .before .before .before .before .before .args in (
       λ e. absurd (false≢true e),
-      λ e h. contrary (sym (c .before .not-a-state .ensures) ∙ c .if1 .taken) (state→test (a .net) (a .net .nets) (a .state .now) (h .of-class)),
+      λ e h. contrary (sym (c .before .not-a-state .ensures) ∙ c .if1 .taken)
+          (state→test (a .net) (a .net .nets) (a .state .now) (h .of-class)),
     )
 
 -- row 11's test has passed the state
-is-state : (c : tie.Else1) → let a = c .before .before .before .before .before .before .args in State (a .net) (a .net .nets) (a .state .now)
+is-state : (c : tie.Else1) → let a = c .before .before .before .before .before .before .args in
+    State (a .net) (a .net .nets) (a .state .now)
 is-state c =
     let a = c .before .before .before .before .before .before .args in
     test→state (a .net) (a .net .nets) (a .state .now) (sym (c .before .not-a-state .ensures) ∙ c .if1 .left)
@@ -101,7 +106,9 @@ returns-2 c =
     let a = start d .args in (
       λ e. absurd (false≢true e),
       λ e h. c .before .gives-response .ensures .1 (not-true _ (c .if2 .taken))
-          (ap (response (a .net) (a .state .now)) (vectors-are d) ∙ gives-each (a .net) (a .first .now) (a .vectors .now) (a .second .now) (a .state .now) (start d .pre .2) (start d .pre .3) h .0),
+          (ap (response (a .net) (a .state .now)) (vectors-are d)
+          ∙ gives-each (a .net) (a .first .now) (a .vectors .now) (a .second .now) (a .state .now)
+          (start d .pre .2) (start d .pre .3) h .0),
     )
 
 gives-response-requires-2 : tie.Need-gives-response-requires-2
@@ -116,9 +123,14 @@ returns-3 c =
     let d = g .before .before .before in
     let a = start d .args in
     let p = start d .pre in (
-      λ e. each-fits (a .net) (a .first .now) (a .vectors .now) (a .second .now) (a .state .now) (p .2) (p .3) (is-state (d .before .before))
-          (ap (response (a .net) (a .state .now)) (sym (vectors-are d)) ∙ g .gives-response .ensures .0 (not-false _ (c .before .if2 .left))) (c .gives-response2 .ensures .0 e),
-      λ e h. c .gives-response2 .ensures .1 e (gives-each (a .net) (a .first .now) (a .vectors .now) (a .second .now) (a .state .now) (p .2) (p .3) h .1),
+      λ e. each-fits (a .net) (a .first .now) (a .vectors .now) (a .second .now) (a .state .now) (p .2) (p .3)
+          (is-state (d .before .before))
+          (ap (response (a .net) (a .state .now)) (sym (vectors-are d))
+          ∙ g .gives-response .ensures .0 (not-false _ (c .before .if2 .left)))
+          (c .gives-response2 .ensures .0 e),
+      λ e h. c .gives-response2 .ensures .1 e
+          (gives-each (a .net) (a .first .now) (a .vectors .now) (a .second .now) (a .state .now) (p .2)
+          (p .3) h .1),
     )
 
 pub fits-both-spec : {M : Type 1} → statement M

@@ -17,7 +17,8 @@ array-share-prefix-state c = search needs
 
 -- a reach for each receiver
 reaches-size : (c : tie.After-decoded)
-    → length (take (c .before .before .before .before .args .net .nets) (c .decoded .result)) ≡ c .before .before .before .before .args .net .nets
+    → length (take (c .before .before .before .before .args .net .nets) (c .decoded .result))
+    ≡ c .before .before .before .before .args .net .nets
 reaches-size c = length-take-le _ _ (omega (arith, c .before .before .before .before .pre .1, c .decoded .ensures .0))
 
 slice-aggregate-fits-both : tie.Need-slice-aggregate-fits-both
@@ -35,8 +36,10 @@ returns c =
     let a = s .args in
     let p = s .pre in
     let decides =
-    candidate-decides (a .net) (a .first .now) (a .second .now) (p .2) (p .4 ∙ ap length (p .3)) (no-high-bit (a .net) (a .first .now) (p .5))
-    (no-high-bit (a .net) (a .second .now) (p .6)) (words-apart (a .net) (p .0) (p .1)) (take (a .net .nets) (d .decoded .result)) (c .fits-both .result)
+    candidate-decides (a .net) (a .first .now) (a .second .now) (p .2) (p .4 ∙ ap length (p .3))
+    (no-high-bit (a .net) (a .first .now) (p .5))
+    (no-high-bit (a .net) (a .second .now) (p .6)) (words-apart (a .net) (p .0) (p .1))
+    (take (a .net .nets) (d .decoded .result)) (c .fits-both .result)
     (d .decoded .ensures .1) (c .fits-both .ensures)
     in
     (d .decoded .ensures .0, decides .0, decides .1)

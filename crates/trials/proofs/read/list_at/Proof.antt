@@ -6,7 +6,8 @@ use Rattle.trials.proofs.read.list_at.Statement.{statement}
 use Rattle.trials.proofs.read.list_at.Tie as tie
 
 abbrev Inv-loop : tie.InvT-loop
-Inv-loop text from words₀ count₀ begun₀ i₀ words count begun i = (count + begun ≤ 65) × (begun ≤ 1) × (i ≤ length text) × (length words ≡ 65)
+Inv-loop text from words₀ count₀ begun₀ i₀ words count begun i =
+    (count + begun ≤ 65) × (begun ≤ 1) × (i ≤ length text) × (length words ≡ 65)
 
 abbrev μ-loop : tie.MeasureT-loop
 μ-loop text from words₀ count₀ begun₀ i₀ words count begun i = length text - i

@@ -43,7 +43,8 @@ loop-again c =
     let l = c .before .before .loop in (
       search needs,
       search needs,
-      ap (λ (m : List ℕ). set m (l .t) (at (a .from .now) (l .t))) (l .inv .2) ∙ list-fill (a .from .now) (a .out .now) (l .t) (omega arith) (omega arith),
+      ap (λ (m : List ℕ). set m (l .t) (at (a .from .now) (l .t))) (l .inv .2)
+          ∙ list-fill (a .from .now) (a .out .now) (l .t) (omega arith) (omega arith),
     )
 
 same-length : tie.Need-same-length Inv-loop μ-loop

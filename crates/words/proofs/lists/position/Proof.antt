@@ -34,7 +34,8 @@ unfolding position
 returns c =
     let g = c .before .before .before in
     let a = g .before .args in
-    sym (least-found (λ t. eqb (at (a .words .now) t) (a .word)) (length (a .words .now)) (g .loop .t) (c .before .before .loop-test .taken) (g .loop .inv .1)
+    sym (least-found (λ t. eqb (at (a .words .now) t) (a .word)) (length (a .words .now)) (g .loop .t)
+    (c .before .before .loop-test .taken) (g .loop .inv .1)
     (eq-eqb _ _ (c .if1 .taken)))
 
 add-t : tie.Need-add-t Inv-loop μ-loop
@@ -46,8 +47,11 @@ loop-less c = search needs
 loop-again : tie.Need-loop-again Inv-loop μ-loop
 loop-again c =
     let g = c .before .before .before in
-    let a = g .before .args in
-    (search needs, below-more (λ z. eqb (at (a .words .now) z) (a .word) ≡ false) (g .loop .t) (g .loop .inv .1) (ne-eqb _ _ (c .if1 .left)))
+    let a = g .before .args in (
+      search needs,
+      below-more (λ z. eqb (at (a .words .now) z) (a .word) ≡ false) (g .loop .t) (g .loop .inv .1)
+          (ne-eqb _ _ (c .if1 .left)),
+    )
 
 returns-2 : tie.Need-returns-2 Inv-loop μ-loop
 unfolding position

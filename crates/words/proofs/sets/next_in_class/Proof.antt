@@ -36,10 +36,16 @@ bit-word-requires : tie.Need-bit-word-requires
 bit-word-requires c κs = omega (arith, inside (c .before))
 
 add-result-2 : tie.Need-add-result-2
-add-result-2 c = omega (arith, lowest c, lowest-one-at-most 64 (c .before .before .before .before .args .set) (positive (c .before .before)))
+add-result-2 c = omega (
+  arith,
+  lowest c,
+  lowest-one-at-most 64 (c .before .before .before .before .args .set)
+      (positive (c .before .before)),
+)
 
 returns : tie.Need-returns
-returns c = next-up (c .before .before .args .class) (c .before .before .args .set) (rw (c .before .count-of-ones .ensures) at (c .if1 .taken))
+returns c = next-up (c .before .before .args .class) (c .before .before .args .set)
+    (rw (c .before .count-of-ones .ensures) at (c .if1 .taken))
 
 returns-2 : tie.Need-returns-2
 returns-2 c =

@@ -47,7 +47,8 @@ loop-again c =
     let l = c .before .before .before .loop in (
       omega arith,
       ⊎-elim
-          (λ w. w .1 ∙ word-set (λ v. has v (a .i)) (a .words .now) (l .t) (l .w) (l .inv .1) (omega arith) (omega arith) (eq-eqb _ 1 (w .0 .taken)))
+          (λ w. w .1 ∙ word-set (λ v. has v (a .i)) (a .words .now) (l .t) (l .w) (l .inv .1) (omega arith)
+          (omega arith) (eq-eqb _ 1 (w .0 .taken)))
           (λ w. w .1 ∙ word-keep (λ v. has v (a .i)) (a .words .now) (l .t) (l .w) (l .inv .1) (omega arith) (ne-eqb _ 1 (w .0 .left)))
           (c .if1 .came),
     )

@@ -14,13 +14,15 @@ mul-result : tie.Need-mul-result
 mul-result c = search needs
 
 add-result-2 : tie.Need-add-result-2
-add-result-2 c = let few = entries-range (c .before .before .before .args .responses .now) .1 in let is = c .bodies-at .ensures in omega arith
+add-result-2 c = let few = entries-range (c .before .before .before .args .responses .now) .1 in
+    let is = c .bodies-at .ensures in omega arith
 
 mul-result-2 : tie.Need-mul-result-2
 mul-result-2 c = search needs
 
 add-result-3 : tie.Need-add-result-3
-add-result-3 c = let few = entries-range (c .before .before .before .args .responses .now) .1 in let is = c .bodies-at .ensures in omega arith
+add-result-3 c = let few = entries-range (c .before .before .before .args .responses .now) .1 in
+    let is = c .bodies-at .ensures in omega arith
 
 returns : tie.Need-returns
 returns c = λ net k.

@@ -56,9 +56,12 @@ returns c =
     let nets = a .net .nets in
     let vectors = word-bytes (a .vectors .now) in
     let size = word-bytes-count (a .vectors .now) in
-    let two = written-next file _ _ (a .offset) (a .offset + 1) (nets ∷ []) (a .class ∷ []) (p1 .put-byte .ensures) (p2 .put-byte2 .ensures) (omega arith) (omega arith) in
-    let three = written-next file _ _ (a .offset) (a .offset + 2) (nets ∷ a .class ∷ []) vectors two (p3 .put-words .ensures) (omega arith) (omega arith) in
-    written-next file _ _ (a .offset) (a .offset + 2 + 8 * length (a .vectors .now)) (nets ∷ a .class ∷ vectors) (word-bytes (a .responses .now)) three (p4 .put-words2 .ensures) (omega arith) (omega arith)
+    let two = written-next file _ _ (a .offset) (a .offset + 1) (nets ∷ []) (a .class ∷ []) (p1 .put-byte .ensures)
+    (p2 .put-byte2 .ensures) (omega arith) (omega arith) in
+    let three = written-next file _ _ (a .offset) (a .offset + 2) (nets ∷ a .class ∷ []) vectors two
+    (p3 .put-words .ensures) (omega arith) (omega arith) in
+    written-next file _ _ (a .offset) (a .offset + 2 + 8 * length (a .vectors .now)) (nets ∷ a .class ∷ vectors)
+    (word-bytes (a .responses .now)) three (p4 .put-words2 .ensures) (omega arith) (omega arith)
 
 pub put-bodies-spec : {M : Type 1} → statement M
 put-bodies-spec =

@@ -33,8 +33,10 @@ returns c =
     let f = e .before .before .before .before in
     let a = f .before .before .before .args in
     let first = bytes-count 4 (a .body) in
-    let two = written-next (a .file .now) _ _ (a .offset) (a .offset + 1) (a .kind ∷ []) (bytes-of 4 (a .body)) (f .put-byte .ensures) (e .put-number .ensures) (omega arith) (omega arith) in
-    written-next (a .file .now) _ _ (a .offset) (a .offset + 5) (a .kind ∷ bytes-of 4 (a .body)) (bytes-of 4 (a .size)) two (d .put-number2 .ensures) (omega arith) (omega arith)
+    let two = written-next (a .file .now) _ _ (a .offset) (a .offset + 1) (a .kind ∷ []) (bytes-of 4 (a .body))
+    (f .put-byte .ensures) (e .put-number .ensures) (omega arith) (omega arith) in
+    written-next (a .file .now) _ _ (a .offset) (a .offset + 5) (a .kind ∷ bytes-of 4 (a .body))
+    (bytes-of 4 (a .size)) two (d .put-number2 .ensures) (omega arith) (omega arith)
 
 pub put-entry-spec : {M : Type 1} → statement M
 put-entry-spec =

@@ -16,7 +16,8 @@ use Rattle.writer.proofs.writing.put_file.Tie as tie
 
 -- the head, then the bodies, are the file
 file-written : (net : Network) (k : ℕ) (vectors responses lent headed all : List ℕ) (start : ℕ) → start ≡ length (head-of vectors responses)
-    → headed ≡ written lent 0 (head-of vectors responses) → all ≡ written headed start (net .nets ∷ k ∷ word-bytes vectors ++ word-bytes responses)
+    → headed ≡ written lent 0 (head-of vectors responses)
+    → all ≡ written headed start (net .nets ∷ k ∷ word-bytes vectors ++ word-bytes responses)
     → all ≡ lent-after (full (file-of net k vectors responses)) lent
 unfolding file-of
 file-written net k vectors responses lent headed all start s e f =
@@ -51,8 +52,10 @@ returns c =
     let p1 = p2 .before .before .before .before in
     let b = p1 .before .before in
     let a = b .before .before .before .before .args in
-    let start : b .bodies-at .result ≡ length (head-of (a .vectors .now) (a .responses .now)) = b .bodies-at .ensures ∙ sym (head-size (a .vectors .now) (a .responses .now)) in
-    file-written (a .net) (a .class) (a .vectors .now) (a .responses .now) (a .file .now) _ _ _ start (p1 .put-head .ensures) (p2 .put-bodies .ensures)
+    let start : b .bodies-at .result ≡ length (head-of (a .vectors .now) (a .responses .now)) = b .bodies-at .ensures
+    ∙ sym (head-size (a .vectors .now) (a .responses .now)) in
+    file-written (a .net) (a .class) (a .vectors .now) (a .responses .now) (a .file .now) _ _ _ start
+    (p1 .put-head .ensures) (p2 .put-bodies .ensures)
 
 pub put-file-spec : {M : Type 1} → statement M
 put-file-spec =

@@ -13,9 +13,11 @@ use Rattle.writer.proofs.writing.put_head.Statement.{statement}
 use Rattle.writer.proofs.writing.put_head.Tie as tie
 
 -- the parts one after the other are the head
-head-written : (vectors responses lent marked counted first second third : List ℕ) (entries start : ℕ) → entries ≡ entries-for responses → start ≡ bodies-at (entries-for responses)
+head-written : (vectors responses lent marked counted first second third : List ℕ) (entries start : ℕ)
+    → entries ≡ entries-for responses → start ≡ bodies-at (entries-for responses)
     → marked ≡ written lent 0 mark → counted ≡ written marked 4 (entries ∷ []) → first ≡ written counted 5 (entry-bytes 1 start 2)
-    → second ≡ written first 14 (entry-bytes 2 (start + 2) (8 * length vectors)) → third ≡ written second 23 (response-entry (start + 2 + 8 * length vectors) responses)
+    → second ≡ written first 14 (entry-bytes 2 (start + 2) (8 * length vectors))
+    → third ≡ written second 23 (response-entry (start + 2 + 8 * length vectors) responses)
     → third ≡ written lent 0 (head-of vectors responses)
 head-written vectors responses lent marked counted first second third entries start n s e f g h i =
     let one = entry-bytes 1 start 2 in
@@ -24,11 +26,17 @@ head-written vectors responses lent marked counted first second third entries st
     let p = entry-size 1 start 2 in
     let q = entry-size 2 (start + 2) (8 * length vectors) in
     let r = length-append (mark ++ entries ∷ one) two in
-    let c : counted ≡ written lent 0 (mark ++ entries ∷ []) = written-next lent marked counted 0 4 mark (entries ∷ []) e f refl (omega arith) in
-    let d : first ≡ written lent 0 (mark ++ entries ∷ one) = written-next lent counted first 0 5 (mark ++ entries ∷ []) one c g refl (omega arith) in
-    let t : second ≡ written lent 0 (mark ++ entries ∷ one ++ two) = written-next lent first second 0 14 (mark ++ entries ∷ one) two d h (omega arith) (omega arith) in
-    let u : third ≡ written lent 0 (mark ++ entries ∷ one ++ two ++ three) = written-next lent second third 0 23 (mark ++ entries ∷ one ++ two) three t i (omega arith) (omega arith) in
-    u ∙ ap₂ (λ (k m : ℕ). written lent 0 (mark ++ k ∷ entry-bytes 1 m 2 ++ entry-bytes 2 (m + 2) (8 * length vectors) ++ response-entry (m + 2 + 8 * length vectors) responses)) n s
+    let c : counted ≡ written lent 0 (mark ++ entries ∷ []) =
+    written-next lent marked counted 0 4 mark (entries ∷ []) e f refl (omega arith) in
+    let d : first ≡ written lent 0 (mark ++ entries ∷ one) =
+    written-next lent counted first 0 5 (mark ++ entries ∷ []) one c g refl (omega arith) in
+    let t : second ≡ written lent 0 (mark ++ entries ∷ one ++ two) =
+    written-next lent first second 0 14 (mark ++ entries ∷ one) two d h (omega arith) (omega arith) in
+    let u : third ≡ written lent 0 (mark ++ entries ∷ one ++ two ++ three) =
+    written-next lent second third 0 23 (mark ++ entries ∷ one ++ two) three t i (omega arith) (omega arith) in
+    u ∙ ap₂ (λ (k m : ℕ). written lent 0
+    (mark ++ k ∷ entry-bytes 1 m 2 ++ entry-bytes 2 (m + 2) (8 * length vectors)
+    ++ response-entry (m + 2 + 8 * length vectors) responses)) n s
 
 entries-for-requires : tie.Need-entries-for-requires
 entries-for-requires c κs = search needs

@@ -12,7 +12,8 @@ use Rattle.writer.proofs.writing.put_number.Tie as tie
 
 abbrev Inv-loop : tie.InvT-loop
 Inv-loop file₀ offset count number rest₀ i₀ file rest i =
-    (i ≤ count) × (length file ≡ length file₀) × (written file (offset + i) (bytes-of (count - i) rest) ≡ written file₀ offset (bytes-of count number))
+    (i ≤ count) × (length file ≡ length file₀)
+    × (written file (offset + i) (bytes-of (count - i) rest) ≡ written file₀ offset (bytes-of count number))
 
 abbrev μ-loop : tie.MeasureT-loop
 μ-loop file₀ offset count number rest₀ i₀ file rest i = count - i

@@ -11,11 +11,14 @@ use Rattle.writer.proofs.WriterLaws.{entry-size, no-response-entry, res
 use Rattle.writer.proofs.writing.put_response_entry.Statement.{statement}
 use Rattle.writer.proofs.writing.put_response_entry.Tie as tie
 
-entry-written : (lent after : List ℕ) (offset body : ℕ) (responses : List ℕ) → 0 < length responses → after ≡ written lent offset (entry-bytes 3 body (8 * length responses))
+entry-written : (lent after : List ℕ) (offset body : ℕ) (responses : List ℕ) → 0 < length responses
+    → after ≡ written lent offset (entry-bytes 3 body (8 * length responses))
     → after ≡ written lent offset (response-entry body responses)
-entry-written lent after offset body responses l e = e ∙ ap (λ (bytes : List ℕ). written lent offset bytes) (sym (response-entry-is body responses l))
+entry-written lent after offset body responses l e = e
+    ∙ ap (λ (bytes : List ℕ). written lent offset bytes) (sym (response-entry-is body responses l))
 
-none-written : (lent : List ℕ) (offset body : ℕ) (responses : List ℕ) → length responses ≤ 0 → lent ≡ written lent offset (response-entry body responses)
+none-written : (lent : List ℕ) (offset body : ℕ) (responses : List ℕ) → length responses ≤ 0
+    → lent ≡ written lent offset (response-entry body responses)
 none-written lent offset body responses l =
     sym (ap (λ (bytes : List ℕ). written lent offset bytes) (no-response-entry body responses l) ∙ written-none lent offset)
 
@@ -41,7 +44,8 @@ returns c =
     entry-written (a .file .now) _ (a .offset) (a .body) (a .responses .now) (e .if1 .taken) (d .put-entry .ensures)
 
 returns-2 : tie.Need-returns-2
-returns-2 c = let a = c .before .before .before .args in none-written (a .file .now) (a .offset) (a .body) (a .responses .now) (c .if1 .left)
+returns-2 c = let a = c .before .before .before .args in
+    none-written (a .file .now) (a .offset) (a .body) (a .responses .now) (c .if1 .left)
 
 pub put-response-entry-spec : {M : Type 1} → statement M
 put-response-entry-spec =

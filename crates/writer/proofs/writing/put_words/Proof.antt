@@ -13,7 +13,8 @@ use Rattle.writer.proofs.writing.put_words.Tie as tie
 
 abbrev Inv-loop : tie.InvT-loop
 Inv-loop file₀ offset words t₀ file t =
-    (t ≤ length words) × (length file ≡ length file₀) × (written file (offset + 8 * t) (word-bytes (drop t words)) ≡ written file₀ offset (word-bytes words))
+    (t ≤ length words) × (length file ≡ length file₀)
+    × (written file (offset + 8 * t) (word-bytes (drop t words)) ≡ written file₀ offset (word-bytes words))
 
 abbrev μ-loop : tie.MeasureT-loop
 μ-loop file₀ offset words t₀ file t = length words - t
@@ -50,7 +51,8 @@ loop-again c =
     let words = a .words .now in (
       search needs,
       search needs,
-      ap (λ (m : List ℕ). written m (a .offset + 8 * (l .t + 1)) (word-bytes (drop (l .t + 1) words))) (c .before .before .put-number .ensures)
+      ap (λ (m : List ℕ). written m (a .offset + 8 * (l .t + 1)) (word-bytes (drop (l .t + 1) words)))
+          (c .before .before .put-number .ensures)
           ∙ words-turn (l .file) (a .offset) (l .t) words (omega arith) (omega arith) ∙ l .inv .2,
     )
 
