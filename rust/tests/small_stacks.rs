@@ -70,12 +70,3 @@ fn job_file() {
     let file = on_a_stack_of(OTHER_STACK_BYTES, || job.write()).unwrap();
     assert_eq!(on_a_stack_of(OTHER_STACK_BYTES, || Job::read(&file)), Ok(job));
 }
-
-#[test]
-fn the_header_states_the_same() {
-    let header = include_str!("../../examples/c/fontarelga.h");
-    for (name, bytes) in [("CHECK", CHECK_STACK_BYTES), ("OTHER", OTHER_STACK_BYTES)] {
-        let line = format!("#define FONTARELGA_{name}_STACK_BYTES {bytes}");
-        assert!(header.lines().any(|written| written == line), "the header lacks: {line}");
-    }
-}

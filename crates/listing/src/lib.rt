@@ -71,8 +71,8 @@ fn put_content(
 
 // The report on a file: its text, and zeros after it.
 pub fn report(file: &[u8]) -> Text
-    ensures { λ r. ⌜ (r .count ≡ length (report (now (file .entry))))
-        × (r .bytes ≡ lent-after (full (report (now (file .entry)))) (replicate 4142 0)) ⌝ }
+    ensures count { λ r. ⌜ r .count ≡ length (report (now (file .entry))) ⌝ }
+    ensures bytes { λ r. ⌜ r .bytes ≡ lent-after (full (report (now (file .entry)))) (replicate 4142 0) ⌝ }
 {
     let mut vectors = [0u64; 64];
     let mut responses = [0u64; 64];
