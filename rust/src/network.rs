@@ -29,6 +29,7 @@ impl Network {
     }
 }
 
+// The only number that converts: with a second one, `check(4, ..)` would not say which is meant.
 /// As [`Network::new`].
 impl From<u64> for Network {
     fn from(nets: u64) -> Network {

@@ -183,8 +183,7 @@ sessions-through-c words size (call ∷ calls) =
       session = r .session;
       returned = r .returned;
       accepted = r .accepted;
-      list =
-          r .list;
+      list = r .list;
       drive-size = r .drive-size;
       drive = r .drive;
     }

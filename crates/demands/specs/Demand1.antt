@@ -141,8 +141,7 @@ FullRead file vectors responses did =
       network = job .network;
       class = job .class;
       vectors = length (job .vectors);
-      responses =
-          length (job .responses);
+      responses = length (job .responses);
     }))
     × FrontWritten (job .vectors) vectors (did .vectors)
     × FrontWritten (job .responses) responses (did .responses)

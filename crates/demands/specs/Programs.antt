@@ -55,8 +55,7 @@ our-reader file vectors responses =
     record {
       returned = counted answer;
       vectors = lent-after (vectors-read answer) vectors;
-      responses =
-          lent-after (responses-read answer) responses;
+      responses = lent-after (responses-read answer) responses;
     }
 
 -- ---- the session's calls

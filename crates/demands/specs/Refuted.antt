@@ -184,8 +184,7 @@ clears-vectors file vectors responses =
     record {
       returned = counted answer;
       vectors = clears-list 0 (vectors-read answer) vectors;
-      responses =
-          lent-after (responses-read answer) responses;
+      responses = lent-after (responses-read answer) responses;
     }
 
 -- a refused call puts the record back to step one

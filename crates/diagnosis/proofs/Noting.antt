@@ -45,8 +45,7 @@ module _ (net : Network) (k : ℕ) (vectors answers : List ℕ) where
   noted-next reaches later set next apart g inside n stored =
       record {
         of-class = n .few;
-        only =
-            λ i z l m d e. go i z l m d e (eqb (at answers i) (sequential-response net vectors set)) refl;
+        only = λ i z l m d e. go i z l m d e (eqb (at answers i) (sequential-response net vectors set)) refl;
       }
     where
       own : DriverSet net k set

@@ -94,8 +94,7 @@ pub read-counted-full : (a : Answer JobContent) (job : Job) → counted a ≡ fu
       network = c .network;
       class = c .class;
       vectors = length (c .vectors);
-      responses =
-          length (c .responses);
+      responses = length (c .responses);
     } ≡ job)
 read-counted-full (refused number) job e = refused-not-full refl e
 read-counted-full (full c) job e = (c, refl, cc)
@@ -113,8 +112,7 @@ module _ (file : List ℕ) where
       → job ≡ record {
         network = file-network file;
         class = file-class file;
-        vectors =
-            length (body-words file 1);
+        vectors = length (body-words file 1);
         responses = length (file-responses file);
       }
       → vectors-after ≡ lent-after (full (body-words file 1)) vectors → responses-after ≡ lent-after (full (file-responses file)) responses

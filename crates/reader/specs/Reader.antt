@@ -77,8 +77,7 @@ counted (full job) = full
       network = job .network;
       class = job .class;
       vectors = length (job .vectors);
-      responses =
-          length (job .responses);
+      responses = length (job .responses);
     })
 
 -- document 01's number and values for each case of the answer

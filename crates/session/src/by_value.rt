@@ -25,8 +25,8 @@ pub fn begin(session: Session, net: Network, list: &mut [u64]) -> Stepped
 pub fn first_answers(session: Session, answers: &[u64], list: &mut [u64]) -> Stepped
     ensures session { λ r. ⌜ r .session ≡ first-answered session (now (answers .entry)) (length (now (list .entry))) .session ⌝ }
     ensures code { λ r. ⌜ r .code ≡ first-answered session (now (answers .entry)) (length (now (list .entry))) .code ⌝ }
-    ensures list { λ r. ⌜ now (list .exit) ≡
-        lent-after (first-answer session (now (answers .entry)) (length (now (list .entry)))) (now (list .entry)) ⌝ }
+    ensures list { λ r. ⌜ now (list .exit)
+        ≡ lent-after (first-answer session (now (answers .entry)) (length (now (list .entry)))) (now (list .entry)) ⌝ }
 {
     let mut record = session;
     let code = crate::first_answers(&mut record, answers, list);

@@ -63,8 +63,8 @@ fn begin_step(session: Session, net: Network, list: &mut [u64]) -> Stepped
 fn first_step(session: Session, answers: &[u64], list: &mut [u64]) -> Stepped
     ensures session { λ r. ⌜ r .session ≡ first-answered session (now (answers .entry)) (length (now (list .entry))) .session ⌝ }
     ensures code { λ r. ⌜ r .code ≡ first-answered session (now (answers .entry)) (length (now (list .entry))) .code ⌝ }
-    ensures list { λ r. ⌜ now (list .exit) ≡
-        lent-after (first-answer session (now (answers .entry)) (length (now (list .entry)))) (now (list .entry)) ⌝ }
+    ensures list { λ r. ⌜ now (list .exit)
+        ≡ lent-after (first-answer session (now (answers .entry)) (length (now (list .entry)))) (now (list .entry)) ⌝ }
 {
     if !record::awaits_first(session) {
         return refused(4, session);
@@ -135,11 +135,11 @@ pub fn begin(session: &mut Session, net: Network, list: &mut [u64]) -> u64
 
 // The call *first answers* on a lent record.
 pub fn first_answers(session: &mut Session, answers: &[u64], list: &mut [u64]) -> u64
-    ensures session { λ r. ⌜ now (session .exit) ≡
-        first-answered (now (session .entry)) (now (answers .entry)) (length (now (list .entry))) .session ⌝ }
+    ensures session { λ r. ⌜ now (session .exit)
+        ≡ first-answered (now (session .entry)) (now (answers .entry)) (length (now (list .entry))) .session ⌝ }
     ensures code { λ r. ⌜ r ≡ first-answered (now (session .entry)) (now (answers .entry)) (length (now (list .entry))) .code ⌝ }
-    ensures list { λ r. ⌜ now (list .exit) ≡
-        lent-after (first-answer (now (session .entry)) (now (answers .entry)) (length (now (list .entry)))) (now (list .entry)) ⌝ }
+    ensures list { λ r. ⌜ now (list .exit)
+        ≡ lent-after (first-answer (now (session .entry)) (now (answers .entry)) (length (now (list .entry)))) (now (list .entry)) ⌝ }
 {
     let done = first_step(*session, answers, list);
     *session = done.session;

@@ -142,8 +142,7 @@ returns-3 c =
     owed-full _ (a .net .nets) (reaches d) (a .out .now) _
     (accepts d (record {
       of-class = is-state (e .before .before .before);
-      gives =
-          e .before .gives-response .ensures .0 (not-false _ (e .if2 .left));
+      gives = e .before .gives-response .ensures .0 (not-false _ (e .if2 .left));
     }))
     (sym (reaches-size d)) (c .before .before .copy-words .ensures)
 
