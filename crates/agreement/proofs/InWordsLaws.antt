@@ -64,14 +64,12 @@ found-in-words net state words table number e f =
 
 -- ---- what is returned
 
-pub read-in-words : (a : Answer JobContent)
-    → (code a ≡ code (counted a)) × (in-words job-words a ≡ in-words returned-job-words (counted a))
-unfolding code in-words job-words
-read-in-words (refused number) = (refl, refl)
-read-in-words (full job) = (refl, refl)
+pub read-in-words : (a : Answer JobContent) → in-words job-words a ≡ in-words returned-job-words (counted a)
+unfolding in-words job-words
+read-in-words (refused number) = refl
+read-in-words (full job) = refl
 
-pub wrote-in-words : (a : Answer (List ℕ))
-    → (code a ≡ code (count-of a)) × (in-words size-words a ≡ in-words returned-size-words (count-of a))
-unfolding code in-words count-of
-wrote-in-words (refused number) = (refl, refl)
-wrote-in-words (full bytes) = (refl, refl)
+pub wrote-in-words : (a : Answer (List ℕ)) → in-words size-words a ≡ in-words returned-size-words (count-of a)
+unfolding in-words count-of
+wrote-in-words (refused number) = refl
+wrote-in-words (full bytes) = refl

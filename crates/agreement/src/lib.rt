@@ -45,7 +45,8 @@ pub fn respond(
 ) -> Responded
     ensures returned { λ r. ⌜ Respond.meaning r
         ≡ our-response net class (now (vectors .entry)) (now (state .entry)) (now (out .entry)) .returned ⌝ }
-    ensures list { λ r. ⌜ now (out .exit) ≡ our-response net class (now (vectors .entry)) (now (state .entry)) (now (out .entry)) .list ⌝ }
+    ensures list { λ r. ⌜ now (out .exit)
+        ≡ our-response net class (now (vectors .entry)) (now (state .entry)) (now (out .entry)) .list ⌝ }
 {
     network::response_from_state(net, class, vectors, state, out)
 }

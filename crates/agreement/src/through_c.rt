@@ -5,7 +5,8 @@ ghost use mathlib.Core.List.{_++_};
 ghost use Rattle.packing.specs.Packed.{«network-of», «verdict-words», «finding-words»};
 ghost use Rattle.exports.specs.Exported.{code, «in-words», «fixed-after», «drive-count»};
 ghost use Rattle.demands.specs.SessionCalls.{begin, first, second};
-ghost use Rattle.demands.specs.Programs.{«our-check», «our-response», «our-diagnosis», «our-findings», «our-reader», «our-writer»};
+ghost use Rattle.demands.specs.Programs.{«our-check», «our-response», «our-diagnosis»};
+ghost use Rattle.demands.specs.Programs.{«our-findings», «our-reader», «our-writer»};
 ghost use Rattle.demands.specs.ThroughC.{exported};
 ghost use Rattle.agreement.specs.InWords.{«records-of», «rest-of», «returned-job-words», «returned-size-words»};
 
@@ -45,7 +46,8 @@ pub fn diagnose(nets: u64, class: u64, vectors: &[u64], responses: &[u64], state
 
 // *findings*
 pub fn find(nets: u64, state: &[u64], table: &mut [u64]) -> u64
-    ensures returned { λ r. ⌜ r ≡ code (our-findings (network-of nets) (now (state .entry)) (records-of (now (table .entry))) .returned) ⌝ }
+    ensures returned { λ r. ⌜ r
+        ≡ code (our-findings (network-of nets) (now (state .entry)) (records-of (now (table .entry))) .returned) ⌝ }
     ensures table { λ r. ⌜ now (table .exit)
         ≡ finding-words (our-findings (network-of nets) (now (state .entry))
         (records-of (now (table .entry))) .list) ++ rest-of (now (table .entry)) ⌝ }
@@ -68,7 +70,8 @@ pub fn first_answers(session: &mut [u64; 59], answers: &[u64], list: &mut [u64])
     ensures returned { λ r. ⌜ r ≡ exported (now (session .entry)) (first (now (answers .entry)) (now (list .entry))) .returned ⌝ }
     ensures session { λ r. ⌜ now (session .exit)
         ≡ exported (now (session .entry)) (first (now (answers .entry)) (now (list .entry))) .session ⌝ }
-    ensures list { λ r. ⌜ now (list .exit) ≡ exported (now (session .entry)) (first (now (answers .entry)) (now (list .entry))) .list ⌝ }
+    ensures list { λ r. ⌜ now (list .exit)
+        ≡ exported (now (session .entry)) (first (now (answers .entry)) (now (list .entry))) .list ⌝ }
 {
     exports::fontarelga_first_answers(session, answers, list)
 }

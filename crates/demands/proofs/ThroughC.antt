@@ -28,8 +28,9 @@ use Rattle.session.specs.Drive.{front, to-drive}
 use Rattle.session.proofs.Padding.{pad-size}
 use Rattle.session.proofs.Records.{awaits-first-step, awaits-first-is, awaits-second-step, awaits-second-nets}
 use Rattle.packing.specs.Packed.{session-size, session-words, session-of}
-use Rattle.packing.proofs.Words.{session-there, Sized, session-sized, words-size, session-back}
+use Rattle.packing.proofs.Words.{Sized, session-sized, words-size, session-back}
 use Rattle.exports.specs.Exported.{code, in-words, fixed-after}
+use Rattle.exports.proofs.CallLaws.{stepped-words}
 use Rattle.demands.specs.SessionCalls.{Call, begin, first, second, lent}
 use Rattle.demands.specs.Programs.{our-answer, our-new, our-sessions}
 use Rattle.demands.specs.ThroughC.{exported-answer, exported-session, exported, SameInWords, SessionsThroughC}
@@ -80,30 +81,30 @@ session-is words (first answers list) = refl
 session-is words (second answers) = refl
 
 module _ (words : List ℕ) (size : length words ≡ session-size) where
-  -- the words after a call on the record that they are, by its answer
-  written-back : (a : Answer (List ℕ)) (new : Session) → ((list : List ℕ) → a ≡ full list → Sized new)
-      → let after = stepped a new (session-of words) .session in
-      Sized after × (fixed-after (in-words (λ _. session-words after) a) words ≡ session-words after)
-  unfolding stepped in-words fixed-after
-  written-back (refused number) new sized = (session-sized words size, sym (session-there words size))
-  written-back (full list) new sized = (sized list refl, refl)
+  -- the record after a call, by its answer
+  sized-after : (a : Answer (List ℕ)) (new : Session) → ((list : List ℕ) → a ≡ full list → Sized new)
+      → Sized (stepped a new (session-of words) .session)
+  unfolding stepped
+  sized-after (refused number) new sized = session-sized words size
+  sized-after (full list) new sized = sized list refl
 
   module _ (call : Call) where
     abbrev after : Session
     after = our-sessions (session-of words) call .session
 
-    kept : Sized after × (fixed-after (in-words (λ _. session-words after) (our-answer (session-of words) call)) words
-        ≡ session-words after)
-    kept = written-back (our-answer (session-of words) call) (our-new (session-of words) call) (new-sized (session-of words) call)
+    kept : Sized after
+    kept = sized-after (our-answer (session-of words) call) (our-new (session-of words) call) (new-sized (session-of words) call)
 
     words-are : exported words call .session ≡ session-words after
-    words-are = ap (λ (a : Answer (List ℕ)). fixed-after a words) (session-is words call) ∙ kept .1
+    words-are =
+        ap (λ (a : Answer (List ℕ)). fixed-after a words) (session-is words call)
+        ∙ sym (stepped-words (our-answer (session-of words) call) (our-new (session-of words) call) words size)
 
     size-kept : length (exported words call .session) ≡ session-size
-    size-kept = ap length words-are ∙ words-size after (kept .0)
+    size-kept = ap length words-are ∙ words-size after kept
 
     session-kept : session-of (exported words call .session) ≡ after
-    session-kept = ap session-of words-are ∙ session-back after (kept .0)
+    session-kept = ap session-of words-are ∙ session-back after kept
 
 -- ---- a call that returns 0
 

@@ -53,10 +53,9 @@ code-counted (full xs) n said = ap code said
 
 pub fixed-size : (a : Answer (List ℕ)) (count : ℕ) (lent : List ℕ) → full count ≡ count-of a
     → count ∷ [] ≡ fixed-after (in-words size-words a) lent
-unfolding in-words fixed-after
 fixed-size a count lent said =
     let r = counted-full a count (sym said) in
-    ap (λ (n : ℕ). n ∷ []) (sym (r .2)) ∙ ap (λ (b : Answer (List ℕ)). fixed-after (in-words size-words b) lent) (sym (r .1))
+    ap (λ (n : ℕ). n ∷ []) (sym (r .2)) ∙ fixed-full a (r .0) (r .1) size-words lent
 
 pub code-read : (a : Answer JobContent) (n : Answer Job) → n ≡ counted a → code n ≡ code a
 unfolding code
@@ -65,11 +64,11 @@ code-read (full job) n said = ap code said
 
 pub fixed-read : (a : Answer JobContent) (job : Job) (lent : List ℕ) → full job ≡ counted a
     → job .network .nets ∷ job .class ∷ job .vectors ∷ job .responses ∷ [] ≡ fixed-after (in-words job-words a) lent
-unfolding in-words fixed-after job-words
+unfolding job-words
 fixed-read a job lent said =
     let r = read-counted-full a job (sym said) in
     ap (λ (j : Job). j .network .nets ∷ j .class ∷ j .vectors ∷ j .responses ∷ []) (sym (r .2))
-    ∙ ap (λ (b : Answer JobContent). fixed-after (in-words job-words b) lent) (sym (r .1))
+    ∙ fixed-full a (r .0) (r .1) job-words lent
 
 -- ---- a call on a session
 
@@ -79,7 +78,7 @@ stepped-code (refused number) new old = refl
 stepped-code (full words) new old = refl
 
 -- what the call leaves in the words: those of the record after it
-stepped-words : (a : Answer (List ℕ)) (new : Session) (words : List ℕ) → length words ≡ session-size
+pub stepped-words : (a : Answer (List ℕ)) (new : Session) (words : List ℕ) → length words ≡ session-size
     → session-words (stepped a new (session-of words) .session)
     ≡ fixed-after (in-words (λ _. session-words (stepped a new (session-of words) .session)) a) words
 unfolding stepped in-words fixed-after

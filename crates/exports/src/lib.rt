@@ -10,7 +10,8 @@ ghost use Rattle.diagnosis.specs.Diagnosis.{«diagnosis-answer»};
 ghost use Rattle.session.specs.Calls.{«begin-answer», «first-answer», «second-answer»};
 ghost use Rattle.reader.specs.Reader.{«read-answer», «vectors-read», «responses-read»};
 ghost use Rattle.writer.specs.Writer.{«write-answer»};
-ghost use Rattle.packing.specs.Packed.{«network-of», «verdict-words», «finding-words», «job-words», «size-words», «session-of»};
+ghost use Rattle.packing.specs.Packed.{«network-of», «session-of»};
+ghost use Rattle.packing.specs.Packed.{«verdict-words», «finding-words», «job-words», «size-words»};
 ghost use Rattle.exports.specs.Exported.{code, «in-words», «fixed-after», «findings-exported», «session-begun»};
 ghost use Rattle.exports.specs.Exported.{«session-first», «session-second», «drive-count»};
 use checker::Checked;
@@ -190,7 +191,8 @@ pub extern "C" fn fontarelga_read_job(
     responses: &mut [u64],
     job: &mut [u64; 4],
 ) -> u64
-    ensures answer { λ r. ⌜ r ≡ code (read-answer (now (file .entry)) (length (now (vectors .entry))) (length (now (responses .entry)))) ⌝ }
+    ensures answer { λ r. ⌜ r
+        ≡ code (read-answer (now (file .entry)) (length (now (vectors .entry))) (length (now (responses .entry)))) ⌝ }
     ensures vectors { λ r. ⌜ now (vectors .exit)
         ≡ lent-after (vectors-read
         (read-answer (now (file .entry)) (length (now (vectors .entry))) (length (now (responses .entry)))))

@@ -92,7 +92,8 @@ fn table_refusal(net: Network, state: &[u64], room: usize) -> u64
 
 // The call *findings*: a record a net into the front of `table`. Rows 5, 11 with k = n, and 12; 0 is accepted.
 pub fn findings(net: Network, state: &[u64], table: &mut [Finding]) -> u64
-    ensures answer { λ r. ⌜ table-meaning net r ≡ count-of (findings-answer net (now (state .entry)) (length (now (table .entry)))) ⌝ }
+    ensures answer { λ r. ⌜ table-meaning net r
+        ≡ count-of (findings-answer net (now (state .entry)) (length (now (table .entry)))) ⌝ }
     ensures table { λ r. ⌜ now (table .exit)
         ≡ lent-after (findings-answer net (now (state .entry)) (length (now (table .entry)))) (now (table .entry)) ⌝ }
 {

@@ -11,7 +11,7 @@ use Rattle.words.specs.Answers.{full, lent-after}
 use Rattle.words.proofs.Tests.{neither}
 use Rattle.network.specs.declared.Network.{Network}
 use Rattle.network.specs.Rows.{admission, no-room}
-use Rattle.jobfile.specs.Layout.{file-network, file-class, body-words, file-responses}
+use Rattle.jobfile.specs.Layout.{body-words, file-responses}
 use Rattle.jobfile.proofs.FileRows.{two-entries}
 use Rattle.reader.specs.declared.Job.{Job}
 use Rattle.reader.proofs.ReaderAnswers.{file-admission, content-same, file-no-room, by-rows-5-to-10, by-row-12}

@@ -2,7 +2,7 @@ use borrow.Author.Needs.{needs}
 use mathlib.Core.Path.{_≡_, sym, _∙_}
 use mathlib.Core.Bool.{false}
 use lib.ListN.{length}
-use Rattle.jobfile.specs.Layout.{bad-mark, bad-layout, bad-bodies}
+use Rattle.jobfile.specs.Layout.{bad-mark, bad-layout}
 use Rattle.reader.proofs.ReaderAnswers.{by-row-1, by-row-2, by-row-3, owed-refused-both}
 use Rattle.reader.proofs.read_job.Statement.{statement}
 use Rattle.reader.proofs.read_job.Tie as tie

@@ -11,7 +11,7 @@ use Rattle.words.specs.Answers.{refused, full, by-tests, lent-after}
 use Rattle.network.specs.Rows.{HighBit, bad-response-count, has-high-bit}
 use Rattle.network.proofs.Rows.{decides-row-5, decides-high-bit, nets-admitted}
 use Rattle.diagnosis.specs.ReadBack.{read-back, no-state-fits}
-use Rattle.steps.specs.FirstStep.{word-length, first-vectors}
+use Rattle.steps.specs.FirstStep.{first-vectors}
 use Rattle.steps.specs.SecondStep.{second-vectors, session-vectors}
 use Rattle.steps.proofs.StepOneWords.{length-bounds, first-size}
 use Rattle.session.specs.declared.Session.{Session}

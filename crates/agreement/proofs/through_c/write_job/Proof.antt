@@ -1,12 +1,13 @@
 use borrow.Author.Needs.{needs}
 use Prim.Native.Nat.{ℕ}
-use mathlib.Core.Path.{ap, _∙_}
+use mathlib.Core.Path.{refl, sym, ap, _∙_}
 use mathlib.Core.List.{List}
 use lib.ListN.{length}
 use Rattle.words.specs.Answers.{Answer}
 use Rattle.writer.specs.Writer.{write-answer}
 use Rattle.packing.specs.Packed.{network-of}
 use Rattle.exports.specs.Exported.{fixed-after}
+use Rattle.exports.proofs.CallLaws.{code-counted}
 use Rattle.agreement.proofs.InWordsLaws.{wrote-in-words}
 use Rattle.agreement.proofs.through_c.write_job.Statement.{statement}
 use Rattle.agreement.proofs.through_c.write_job.Tie as tie
@@ -23,8 +24,8 @@ returns c =
     let a = done .before .before .before .before .before .before .args in
     let e = done .fontarelga-write-job .ensures in
     let answer = write-answer (network-of (a .nets)) (a .class) (a .vectors .now) (a .responses .now) (length (a .file .now)) in
-    let words = wrote-in-words answer in
-    (e .0 ∙ words .0, (e .1 .0, e .1 .1 ∙ ap (λ (b : Answer (List ℕ)). fixed-after b (a .size .now)) (words .1)))
+    let size = ap (λ (b : Answer (List ℕ)). fixed-after b (a .size .now)) (wrote-in-words answer) in
+    (e .0 ∙ sym (code-counted answer _ refl), (e .1 .0, e .1 .1 ∙ size))
 
 pub write-job-spec : {M : Type 1} → statement M
 write-job-spec = tie.close (tie.spec fontarelga-write-job-requires same-length returns)

@@ -7,7 +7,6 @@ use lib.Dec.{eqb}
 use lib.ListN.{length, replicate, length-replicate}
 use lib.Pow.{pow-mono}
 use Rattle.words.specs.Bits.{at}
-use Rattle.network.specs.Reading.{sequential-response}
 use Rattle.network.proofs.Rows.{AdmittedSet, admitted-set}
 use Rattle.diagnosis.proofs.Noting.{passed-sets-apart, NotedBelow, noted-first, noted-next, noted-last}
 use Rattle.diagnosis.proofs.classes.class_reaches.Statement.{statement}

@@ -2,7 +2,7 @@ use borrow.Author.Needs.{needs}
 use borrow.Author.Tests.{ne-eqb}
 use Prim.Native.Nat.{ℕ}
 use mathlib.Core.Path.{ap, sym, _∙_}
-use Rattle.network.specs.Reading.{meets, reads}
+use Rattle.network.specs.Reading.{reads}
 use Rattle.network.proofs.Reading.{reads-floating}
 use Rattle.network.proofs.receivers.reads.Statement.{statement}
 use Rattle.network.proofs.receivers.reads.Tie as tie

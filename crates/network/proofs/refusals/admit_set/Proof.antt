@@ -2,7 +2,7 @@ use borrow.Author.Needs.{needs}
 use mathlib.Core.Path.{_≡_, sym, _∙_}
 use mathlib.Core.Bool.{false}
 use Rattle.words.specs.Answers.{by-tests}
-use Rattle.network.specs.Rows.{bad-net-count, bad-class, bad-vector-count, has-high-bit}
+use Rattle.network.specs.Rows.{bad-net-count, bad-class, bad-vector-count}
 use Rattle.network.proofs.Rows.{decides-row-5, nets-admitted}
 use Rattle.network.proofs.refusals.admit_set.Statement.{statement}
 use Rattle.network.proofs.refusals.admit_set.Tie as tie
