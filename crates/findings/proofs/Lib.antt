@@ -1,2 +1,3 @@
 pub mod Partners
+pub mod KindSum
 pub mod FindingsLaws

@@ -1,3 +1,4 @@
 pub mod Findings
 pub mod FindingsTable
+pub mod Straight
 pub mod Open

@@ -1,10 +1,13 @@
 // What is found on the nets of a wiring state. The helpers for one net ask that the state is one of the network's.
 ghost use mathlib.Core.Path.{_≡_};
 ghost use Prim.Native.Nat.{_<_, _≤_};
+ghost use mathlib.Core.Bool.{not};
+ghost use lib.Dec.{eqb};
 ghost use lib.ListN.{length};
 ghost use Rattle.words.specs.Answers.{«count-of», «lent-after»};
+ghost use Rattle.words.specs.Bits.{has};
 ghost use Rattle.network.specs.States.{State};
-ghost use Rattle.findings.specs.Findings.{partners, finding};
+ghost use Rattle.findings.specs.Findings.{partners, kind, finding};
 ghost use Rattle.findings.specs.FindingsTable.{«findings-answer», «table-meaning», «blank-table»};
 use network::Network;
 
@@ -39,6 +42,16 @@ fn partners_of(net: Network, state: &[u64], i: u64) -> u64
     partners
 }
 
+// The kind by arithmetic, with no branch: open counts 1, short counts 2, added. The net is below 64.
+fn kind_of(reach: u64, i: usize, partners: u64) -> u64
+    requires { ⌜ i < 64 ⌝ }
+    ensures { λ r. ⌜ r ≡ kind (not (has reach i)) (not (eqb partners 0)) ⌝ }
+{
+    let open = ((reach >> i) % 2 != 1) as u64;
+    let short = (partners != 0) as u64;
+    open + 2 * short
+}
+
 // The finding of net i.
 fn finding_of(net: Network, state: &[u64], i: usize) -> Finding
     requires { ⌜ (net .nets ≤ 48) × (i < net .nets) × State net (net .nets) (now state) ⌝ }
@@ -46,29 +59,8 @@ fn finding_of(net: Network, state: &[u64], i: usize) -> Finding
 {
     let reach = state[i];
     let partners = partners_of(net, state, i as u64);
-    if (reach >> i) % 2 == 1 {
-        if partners == 0 {
-            return Finding {
-                kind: 0,
-                reach: reach,
-                partners: partners,
-            };
-        }
-        return Finding {
-            kind: 2,
-            reach: reach,
-            partners: partners,
-        };
-    }
-    if partners == 0 {
-        return Finding {
-            kind: 1,
-            reach: reach,
-            partners: partners,
-        };
-    }
     Finding {
-        kind: 3,
+        kind: kind_of(reach, i, partners),
         reach: reach,
         partners: partners,
     }

@@ -11,6 +11,7 @@ use lib.Arith.{digits-mod, lt-one}
 use lib.Bits.{bitAnd, bitOr, and-step, or-step, and-shr, or-shr}
 use lib.Pow.{pow-pos, pow-lt, shr-shr}
 use borrow.Author.Tests.{eq-eqb, eqb-true}
+use mir.Val.{boolByte}
 use Rattle.words.specs.Bits.{bit, has, bit-value}
 
 pub two-positive : zero < 2
@@ -84,6 +85,15 @@ pub bit-value-below-two : (b : Bool) → bit-value b < 2
 unfolding bit-value
 bit-value-below-two true = omega arith
 bit-value-below-two false = omega arith
+
+-- what the code's cast of a bool gives
+pub cast-value : (b : Bool) → boolByte b ≡ bit-value b
+unfolding bit-value
+cast-value true = refl
+cast-value false = refl
+
+pub cast-below-two : (b : Bool) → boolByte b < 2
+cast-below-two b = rw (cast-value b) (bit-value-below-two b)
 
 pub bit-value-is : (b : Bool) → eqb (bit-value b) 1 ≡ b
 unfolding bit-value

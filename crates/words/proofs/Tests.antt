@@ -24,6 +24,11 @@ pub and-right : (a b : Bool) → a && b ≡ true → b ≡ true
 and-right true b e = e
 and-right false b e = absurd (false≢true e)
 
+-- a test that passes at both values passes at each
+pub passes-either-way : (test : Bool → Bool) → test true && test false ≡ true → (b : Bool) → test b ≡ true
+passes-either-way test e true = and-left (test true) (test false) e
+passes-either-way test e false = and-right (test true) (test false) e
+
 pub and-both : {a b : Bool} → a ≡ true → b ≡ true → a && b ≡ true
 and-both p q = rw (p, q)
 
