@@ -1,4 +1,4 @@
 pub mod Findings
 pub mod FindingsTable
-pub mod Straight
+pub mod OneWay
 pub mod Open

@@ -1,4 +1,4 @@
-// What is found on the nets of a wiring state. The helpers for one net ask that the state is one of the network's.
+// What is found on the nets of a wiring state. `partners_of` and `finding_of` ask that it is one of the network's.
 ghost use mathlib.Core.Path.{_≡_};
 ghost use Prim.Native.Nat.{_<_, _≤_};
 ghost use mathlib.Core.Bool.{not};

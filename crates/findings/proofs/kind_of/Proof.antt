@@ -1,13 +1,13 @@
 use borrow.Author.Needs.{needs}
 use native.Mathlib.Omega.{arith}
 use mathlib.Core.Path.{_≡_, refl}
-use mathlib.Core.Bool.{true, not}
+use mathlib.Core.Bool.{true, false, not}
 use Prim.Native.Nat.{ℕ, _<_}
 use lib.Dec.{eqb}
 use mir.Val.{boolByte}
 use Rattle.words.specs.Bits.{has}
 use Rattle.words.proofs.Bits.{cast-value, cast-below-two}
-use Rattle.findings.specs.Straight.{worked-out, straight}
+use Rattle.findings.specs.OneWay.{one-way, is-number, numbers-alone}
 use Rattle.findings.proofs.KindSum.{sum-is-kind}
 use Rattle.findings.proofs.kind_of.Statement.{statement}
 use Rattle.findings.proofs.kind_of.Tie as tie
@@ -40,10 +40,14 @@ returns c =
     rw (cast-value (not (has (c .args .reach) (c .args .i))), cast-value (not (eqb (c .args .partners) 0)))
     (sum-is-kind (c .args .reach) (c .args .i) (c .args .partners))
 
--- the function as it is compiled
-pub without-branch : straight (code.function .body) ≡ true
-unfolding worked-out straight
+-- of the function as it is compiled
+pub without-branch : one-way false (code.function .body) ≡ true
+unfolding one-way
 without-branch = refl
+
+pub without-array : numbers-alone (code.function .locals) ≡ true
+unfolding numbers-alone is-number
+without-array = refl
 
 pub kind-of-spec : {M : Type 1} → statement M
 kind-of-spec = tie.close (tie.spec shr-open cast-open cast-short mul-result add-result returns)
