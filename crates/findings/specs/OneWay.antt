@@ -17,6 +17,7 @@ one-way calls (exit count) = false
 one-way calls return = true
 one-way calls (call name operands target) = calls
 
+-- an integer, or a bool, whose number is 0 or 1
 unfoldable pub is-number : Ty → Bool
 is-number (tyInt width) = true
 is-number tyBool = true

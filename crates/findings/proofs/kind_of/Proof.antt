@@ -1,10 +1,9 @@
 use borrow.Author.Needs.{needs}
 use native.Mathlib.Omega.{arith}
-use mathlib.Core.Path.{_≡_, refl}
+use mathlib.Core.Path.{_≡_, refl, ap₂, _∙_}
 use mathlib.Core.Bool.{true, false, not}
-use Prim.Native.Nat.{ℕ, _<_}
+use Prim.Native.Nat.{ℕ, _+_, _*_, _^_, _<_}
 use lib.Dec.{eqb}
-use mir.Val.{boolByte}
 use Rattle.words.specs.Bits.{has}
 use Rattle.words.proofs.Bits.{cast-value, cast-below-two}
 use Rattle.findings.specs.OneWay.{one-way, is-number, numbers-alone}
@@ -13,9 +12,18 @@ use Rattle.findings.proofs.kind_of.Statement.{statement}
 use Rattle.findings.proofs.kind_of.Tie as tie
 use Rattle.findings.proofs.kind_of.Code as code
 
--- open and short as numbers are at most 1
-counts : (reach i joined : ℕ) → (boolByte (not (has reach i)) < 2) × (boolByte (not (eqb joined 0)) < 2)
-counts reach i joined = (cast-below-two (not (has reach i)), cast-below-two (not (eqb joined 0)))
+-- bools as numbers, once or twice each, and their sum
+once : (x : ℕ) → x < 2 → x < 4
+once x l = omega arith
+
+twice : (x : ℕ) → x < 2 → 2 * x < 4
+twice x l = omega arith
+
+fits : (x : ℕ) → x < 4 → x < 2 ^ 64
+fits x l = omega arith
+
+added : (x y : ℕ) → x < 4 → y < 4 → x + y < 2 ^ 64
+added x y l m = omega arith
 
 shr-open : tie.Need-shr-open
 shr-open c = search needs
@@ -27,18 +35,17 @@ cast-short : tie.Need-cast-short
 cast-short c = search needs
 
 mul-result : tie.Need-mul-result
-unfolding has
-mul-result c = let small = counts (c .args .reach) (c .args .i) (c .args .partners) in omega (arith, small .0, small .1)
+mul-result c = search (fits, twice, cast-below-two)
 
 add-result : tie.Need-add-result
-unfolding has
-add-result c = let small = counts (c .args .reach) (c .args .i) (c .args .partners) in omega (arith, small .0, small .1)
+add-result c = search (added, once, twice, cast-below-two)
 
 returns : tie.Need-returns
 unfolding has
 returns c =
-    rw (cast-value (not (has (c .args .reach) (c .args .i))), cast-value (not (eqb (c .args .partners) 0)))
-    (sum-is-kind (c .args .reach) (c .args .i) (c .args .partners))
+    ap₂ (λ (opened shorted : ℕ). opened + 2 * shorted)
+    (cast-value (not (has (c .args .reach) (c .args .i)))) (cast-value (not (eqb (c .args .partners) 0)))
+    ∙ sum-is-kind (c .args .reach) (c .args .i) (c .args .partners)
 
 -- of the function as it is compiled
 pub without-branch : one-way false (code.function .body) ≡ true
