@@ -1,3 +1,4 @@
 pub mod Partners
 pub mod KindSum
+pub mod OneWayFacts
 pub mod FindingsLaws

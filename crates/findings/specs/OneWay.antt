@@ -1,23 +1,28 @@
--- Compiled code that has one way through it.
-use mathlib.Core.Bool.{Bool, true, false, _&&_}
+-- Compiled code that has one way through it, and code of numbers alone.
+use mathlib.Core.Bool.{Bool, true, false, _&&_, _||_}
 use mathlib.Core.List.{List, [], _∷_}
+use lib.Text.{eqt}
 use mir.Syntax.{Ty, tyInt, tyBool, tyFloat, tyPtr, tyRef, tyArray, tyUnit, tyStruct, tyEnum, tyNamed, Local, local}
-use mir.Syntax.{Body, skip, seq, assign, block, loop, cond, switch, exit, return, call}
+use mir.Syntax.{Name, Body, skip, seq, assign, block, loop, cond, switch, exit, return, call}
 
--- no branch and no loop; whether it may call is said
-unfoldable pub one-way : (calls : Bool) → Body → Bool
-one-way calls skip = true
-one-way calls (seq start rest) = one-way calls start && one-way calls rest
-one-way calls (assign target value) = true
-one-way calls (block body) = false
-one-way calls (loop body) = false
-one-way calls (cond test then otherwise) = false
-one-way calls (switch number arms) = false
-one-way calls (exit count) = false
-one-way calls return = true
-one-way calls (call name operands target) = calls
+unfoldable pub is-among : List Name → Name → Bool
+is-among [] name = false
+is-among (known ∷ rest) name = eqt known name || is-among rest name
 
--- an integer, or a bool, whose number is 0 or 1
+-- no branch, loop or jump, and no call but of these functions
+unfoldable pub one-way : (called : List Name) → Body → Bool
+one-way called skip = true
+one-way called (seq start rest) = one-way called start && one-way called rest
+one-way called (assign target value) = true
+one-way called (block body) = false
+one-way called (loop body) = false
+one-way called (cond test then otherwise) = false
+one-way called (switch number arms) = false
+one-way called (exit count) = false
+one-way called return = true
+one-way called (call name operands target) = is-among called name
+
+-- an integer or a bool
 unfoldable pub is-number : Ty → Bool
 is-number (tyInt width) = true
 is-number tyBool = true
@@ -30,7 +35,7 @@ is-number (tyStruct name fields) = false
 is-number (tyEnum name variants) = false
 is-number (tyNamed name) = false
 
--- every parameter and variable is an integer or a bool: there is no array, nor a way to one
+-- the result, every parameter and every variable is a number: the code has no array, and no reference to one
 unfoldable pub numbers-alone : List Local → Bool
 numbers-alone [] = true
 numbers-alone (local type home ∷ rest) = is-number type && numbers-alone rest

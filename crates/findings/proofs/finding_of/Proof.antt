@@ -1,8 +1,9 @@
 use borrow.Author.Needs.{needs}
 use mathlib.Core.Path.{_≡_, refl}
 use mathlib.Core.Bool.{true}
+use mathlib.Core.List.{[], _∷_}
 use Rattle.findings.specs.Findings.{is-open, finding}
-use Rattle.findings.specs.OneWay.{one-way}
+use Rattle.findings.specs.OneWay.{is-among, one-way}
 use Rattle.findings.proofs.finding_of.Statement.{statement}
 use Rattle.findings.proofs.finding_of.Tie as tie
 use Rattle.findings.proofs.finding_of.Code as code
@@ -24,8 +25,8 @@ unfolding finding is-open
 returns c = rw (c .kind-of .ensures, c .before .partners-of .ensures)
 
 -- of the function as it is compiled
-pub one-way-through : one-way true (code.function .body) ≡ true
-unfolding one-way
+pub one-way-through : one-way ("findings::partners_of" ∷ "findings::kind_of" ∷ []) (code.function .body) ≡ true
+unfolding one-way is-among
 one-way-through = refl
 
 pub finding-of-spec : {M : Type 1} → statement M

@@ -1,9 +1,9 @@
 use borrow.Author.Needs.{needs}
 use native.Mathlib.Omega.{arith}
 use mathlib.Core.Path.{_≡_, refl, ap₂, _∙_}
-use mathlib.Core.Bool.{true, false, not}
+use mathlib.Core.Bool.{true}
+use mathlib.Core.List.{[]}
 use Prim.Native.Nat.{ℕ, _+_, _*_, _^_, _<_}
-use lib.Dec.{eqb}
 use Rattle.words.specs.Bits.{has}
 use Rattle.words.proofs.Bits.{cast-value, cast-below-two}
 use Rattle.findings.specs.OneWay.{one-way, is-number, numbers-alone}
@@ -43,12 +43,11 @@ add-result c = search (added, once, twice, cast-below-two)
 returns : tie.Need-returns
 unfolding has
 returns c =
-    ap₂ (λ (opened shorted : ℕ). opened + 2 * shorted)
-    (cast-value (not (has (c .args .reach) (c .args .i)))) (cast-value (not (eqb (c .args .partners) 0)))
+    ap₂ (λ (opened shorted : ℕ). opened + 2 * shorted) (cast-value _) (cast-value _)
     ∙ sum-is-kind (c .args .reach) (c .args .i) (c .args .partners)
 
 -- of the function as it is compiled
-pub without-branch : one-way false (code.function .body) ≡ true
+pub without-branch : one-way [] (code.function .body) ≡ true
 unfolding one-way
 without-branch = refl
 
