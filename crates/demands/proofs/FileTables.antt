@@ -14,6 +14,7 @@ file-examples = record {
   example-report = refl;
   both-bytes = refl;
   both-report = refl;
+  crossed-report = refl;
   walking-bytes = refl;
   walking-report = refl;
   not-passed-report = refl;

@@ -1,4 +1,4 @@
--- The starred cases and the bounds, by computation; and that nothing is left open.
+-- The starred cases, the bounds and the cases of partners, by computation; and that nothing is left open.
 use mathlib.Core.Path.{_≡_, refl, subst₂}
 use mathlib.Core.List.{[], _∷_}
 use Rattle.findings.specs.Open.{open-findings}
@@ -11,6 +11,7 @@ use Rattle.demands.specs.Programs.{our-sessions}
 use Rattle.demands.specs.Determined.{Determined}
 use Rattle.demands.specs.Starred.{four, junk, four-calls, Starred}
 use Rattle.demands.specs.Boundary.{Boundary}
+use Rattle.demands.specs.PartnerCases.{PartnerCases}
 use Rattle.demands.proofs.Sessions.{sessions}
 use Rattle.demands.proofs.Responding.{response-determined}
 use Rattle.demands.proofs.Diagnosing.{diagnosis-determined-program}
@@ -117,6 +118,21 @@ boundary = record {
   junk-reach = refl;
   junk-none = refl;
   nothing-unclear = refl;
+}
+
+pub partner-cases : PartnerCases
+unfolding open-findings
+partner-cases = record {
+  crossed = refl;
+  crossed-among-sound = refl;
+  cycle = refl;
+  with-a-floating-net = refl;
+  crossed-one-way = refl;
+  one-receiver = refl;
+  one-driver = refl;
+  sound = refl;
+  floating = refl;
+  listing = refl;
 }
 
 pub determined : Determined

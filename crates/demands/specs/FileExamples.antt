@@ -101,6 +101,8 @@ pub record FileExamples : Type 0 where
   -- kind 3, at net 0
   pub both-bytes : file-of two 2 (0 ∷ 1 ∷ 2 ∷ []) (0 ∷ 0 ∷ 3 ∷ []) ≡ both-file
   pub both-report : report both-file ≡ text "pass 2 2 3\n0 3 2 2\n1 2 2 1\n"
+  -- and at both nets of a crossed pair
+  pub crossed-report : report (job-file 2 2 (0 ∷ 1 ∷ 2 ∷ []) (0 ∷ 2 ∷ 1 ∷ [])) ≡ text "pass 2 2 3\n0 3 2 2\n1 3 1 1\n"
   -- without responses line one alone, here with a pair
   pub walking-bytes : file-of four 4 (1 ∷ 2 ∷ 4 ∷ 8 ∷ []) [] ≡ walking-file
   pub walking-report : report walking-file ≡ text "pair 4 4 4 0 15\n"

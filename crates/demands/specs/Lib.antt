@@ -12,5 +12,6 @@ pub mod Determined
 pub mod Refuted
 pub mod Starred
 pub mod Boundary
+pub mod PartnerCases
 pub mod FileExamples
 pub mod FileBounds

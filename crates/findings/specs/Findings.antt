@@ -1,25 +1,72 @@
--- What is found on one net of a wiring state.
-use Prim.Native.Nat.{ℕ}
-use mathlib.Core.Bool.{Bool, true, false, not, _&&_}
+-- What is found on one net of a wiring state. Nets are numbered i and j, their drivers as they are; receivers are
+-- numbered r and s.
+use Prim.Native.Nat.{ℕ, _<_}
+use mathlib.Core.Path.{_≡_}
+use mathlib.Core.Logic.{_⊎_, _≢_}
+use mathlib.Core.Bool.{Bool, true, false, not, _&&_, _||_}
 use mathlib.Core.List.{List, map}
 use lib.Dec.{eqb}
+use lib.ListN.{length}
 use Rattle.words.specs.Bits.{has, word, at}
+use Rattle.words.specs.Searching.{any}
 use Rattle.words.specs.Turning.{tabulate}
 use Rattle.network.specs.declared.Network.{Network}
 use Rattle.network.specs.Reading.{meets}
 use Rattle.findings.specs.declared.Finding.{Finding}
 
--- driver i is not in its own reach
+-- the net that a receiver is on: a net has one receiver, of its own number
+abbrev pub net-of : ℕ → ℕ
+net-of r = r
+
+-- driver i is in the reach of receiver r
+abbrev pub Reaches : List ℕ → (i r : ℕ) → Type 0
+Reaches state i r = has (at state r) i ≡ true
+
+-- its own net's driver does not reach it
 unfoldable pub is-open : List ℕ → ℕ → Bool
-is-open state i = not (has (at state i) i)
+is-open state r = not (has (at state r) (net-of r))
 
--- j is another net, and one driver reaches both receivers
-unfoldable pub is-partner : Network → List ℕ → ℕ → ℕ → Bool
-is-partner net state i j = not (eqb i j) && meets net (at state i) (at state j)
+-- ---- partners, in the words of document 02
 
--- the partners of net i as a parallel word
+-- one driver reaches both receivers
+abbrev pub OneDriver : Network → List ℕ → (r s : ℕ) → Type 0
+OneDriver net state r s = (i : ℕ) × (i < net .nets) × Reaches state i r × Reaches state i s
+
+-- one receiver, whichever, is reached by both drivers
+abbrev pub OneReceiver : List ℕ → (i j : ℕ) → Type 0
+OneReceiver state i j = (s : ℕ) × (s < length state) × Reaches state i s × Reaches state j s
+
+-- so it is with some receiver of net j
+abbrev pub SomeReceiver : List ℕ → ℕ → (ℕ → Type 0) → Type 0
+SomeReceiver state j P = (s : ℕ) × (s < length state) × (net-of s ≡ j) × P s
+
+-- Net j is a partner of receiver r's net: it is another net, and one driver reaches r and a receiver of net j; or one
+-- receiver is reached by both drivers; or the driver of r's net reaches a receiver of net j; or net j's driver reaches r.
+abbrev pub Partner : Network → List ℕ → (r j : ℕ) → Type 0
+Partner net state r j =
+    (net-of r ≢ j)
+    × (SomeReceiver state j (OneDriver net state r)
+    ⊎ (OneReceiver state (net-of r) j ⊎ (SomeReceiver state j (Reaches state (net-of r)) ⊎ Reaches state j r)))
+
+-- ---- the same as tests
+
+-- A receiver on net `owner`, with reach `other`, joins net j to a receiver on net i, with reach `reach`: it is on net j,
+-- and one driver reaches both; or it is reached by both drivers; or it is on net j, and net i's driver reaches it.
+unfoldable pub joins : Network → (i reach j owner other : ℕ) → Bool
+joins net i reach j owner other =
+    (eqb owner j && meets net reach other) || ((has other i && has other j) || (eqb owner j && has other i))
+
+-- j is another net, and some receiver joins it to receiver r, or its driver reaches r
+unfoldable pub is-partner : Network → List ℕ → (r j : ℕ) → Bool
+is-partner net state r j =
+    let joined = any (length state) (λ s. joins net (net-of r) (at state r) j (net-of s) (at state s)) in
+    not (eqb (net-of r) j) && (joined || has (at state r) j)
+
+-- the partners of receiver r's net as a parallel word
 unfoldable pub partners : Network → List ℕ → ℕ → ℕ
-partners net state i = word (map (is-partner net state i) (tabulate (net .nets) (λ j. j)))
+partners net state r = word (map (is-partner net state r) (tabulate (net .nets) (λ j. j)))
+
+-- ---- the record
 
 -- 0 sound, 1 open, 2 short, 3 both: whether it is open, and whether it has partners
 unfoldable pub kind : Bool → Bool → ℕ
@@ -28,8 +75,8 @@ kind true false = 1
 kind false true = 2
 kind true true = 3
 
--- document 01's record of net i
+-- document 01's record of receiver r's net
 unfoldable pub finding : Network → List ℕ → ℕ → Finding
-finding net state i =
-    let joined = partners net state i in
-    record { kind = kind (is-open state i) (not (eqb joined 0)); reach = at state i; partners = joined }
+finding net state r =
+    let joined = partners net state r in
+    record { kind = kind (is-open state r) (not (eqb joined 0)); reach = at state r; partners = joined }

@@ -1,13 +1,13 @@
 // What is found on the nets of a wiring state. `partners_of` and `finding_of` ask that it is one of the network's.
 ghost use mathlib.Core.Path.{_≡_};
-ghost use Prim.Native.Nat.{_<_, _≤_};
+ghost use Prim.Native.Nat.{ℕ, _<_, _≤_, _^_};
 ghost use mathlib.Core.Bool.{not};
 ghost use lib.Dec.{eqb};
 ghost use lib.ListN.{length};
 ghost use Rattle.words.specs.Answers.{«count-of», «lent-after»};
 ghost use Rattle.words.specs.Bits.{has};
 ghost use Rattle.network.specs.States.{State};
-ghost use Rattle.findings.specs.Findings.{partners, kind, finding};
+ghost use Rattle.findings.specs.Findings.{joins, partners, kind, finding};
 ghost use Rattle.findings.specs.FindingsTable.{«findings-answer», «table-meaning», «blank-table»};
 use network::Network;
 
@@ -24,22 +24,35 @@ pub struct Tabled {
     pub table: [Finding; 48],
 }
 
-// The other nets whose receivers one driver reaches together with this one's.
+// The nets that a receiver on net `owner`, with reach `other`, joins to a receiver on net i, with reach `reach`. Nets
+// are below 64, and the reach is a set of the network's drivers.
+fn joined_by(net: Network, i: u64, reach: u64, owner: u64, other: u64) -> u64
+    requires { ⌜ (i < 64) × (owner < 64) × (reach < 2 ^ (net .nets)) ⌝ }
+    ensures { λ r. ⌜ ((j : ℕ) → has r j ≡ joins net i reach j owner other) ⌝ }
+{
+    let its_net = words::sets::bit_word(owner);
+    if (other >> i) % 2 == 1 {
+        return its_net | other;
+    }
+    if network::receivers::meets(net, reach, other) {
+        return its_net;
+    }
+    0
+}
+
+// The partners of net i, in one pass over the receivers.
 fn partners_of(net: Network, state: &[u64], i: u64) -> u64
     requires { ⌜ (net .nets ≤ 48) × (i < net .nets) × State net (net .nets) (now state) ⌝ }
     ensures { λ r. ⌜ r ≡ partners net (now (state .entry)) i ⌝ }
 {
-    let own = state[i as usize];
-    let mut partners: u64 = 0;
-    let mut j: u64 = 0;
-    while j < net.nets {
-        let meets = network::receivers::meets(net, own, state[j as usize]);
-        if (i != j) & meets {
-            partners |= 1u64 << j;
-        }
-        j += 1;
+    let reach = state[i as usize];
+    let mut joined: u64 = 0;
+    let mut s: usize = 0;
+    while s < state.len() {
+        joined |= joined_by(net, i, reach, s as u64, state[s]);
+        s += 1;
     }
-    partners
+    network::drivers::all_but(net, i) & (joined | reach)
 }
 
 // The kind by arithmetic, with no branch: open counts 1, short counts 2, added. The net is below 64.

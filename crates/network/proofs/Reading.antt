@@ -46,7 +46,7 @@ module _ (net : Network) where
   unfolding all-drivers
   has-every i l = has-all (net .nets) i l
 
-  has-every-but : (i j : ℕ) → i < net .nets → j < net .nets → has (all-but net i) j ≡ not (eqb i j)
+  pub has-every-but : (i j : ℕ) → i < net .nets → j < net .nets → has (all-but net i) j ≡ not (eqb i j)
   unfolding all-but all-drivers
   has-every-but i j l m = has-all-but (net .nets) i j l m
 

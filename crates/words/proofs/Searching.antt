@@ -1,6 +1,6 @@
 -- Laws of the search for the smallest.
-use mathlib.Core.Path.{_≡_, refl, sym, ap, _∙_}
-use mathlib.Core.Bool.{Bool, true, false, true≢false, false≢true}
+use mathlib.Core.Path.{_≡_, refl, sym, ap, _∙_, subst}
+use mathlib.Core.Bool.{Bool, true, false, _||_, true≢false, false≢true}
 use mathlib.Core.Logic.{⊎-elim}
 use mathlib.Core.List.{List}
 use Prim.Native.Nat.{ℕ, zero, suc, _+_, _≤_, _<_, zero-le}
@@ -14,7 +14,7 @@ use Rattle.words.specs.declared.Search.the-variants.{Found, Missing}
 use Rattle.words.specs.Answers.{Decides}
 use Rattle.words.specs.Bits.{at}
 use Rattle.words.specs.Searching.{least, is-found, any, position, among}
-use Rattle.words.proofs.Tests.{contrary}
+use Rattle.words.proofs.Tests.{contrary, same-truth, or-right, or-cases, less-or-not}
 
 module _ (p : ℕ → Bool) where
   -- what a search from x to e finds
@@ -89,6 +89,22 @@ module _ (p : ℕ → Bool) where
       go : (s : Search) → Least 0 n s → is-found s ≡ false → p i ≡ false
       go (Found x) r q = absurd (true≢false q)
       go Missing (nowhere g) q = g i zero-le l
+
+  -- one number more
+  pub any-more : (n : ℕ) → any (n + 1) p ≡ any n p || p n
+  any-more n = same-truth (any (n + 1) p) (any n p || p n) there back
+    where
+      there : any (n + 1) p ≡ true → any n p || p n ≡ true
+      there e =
+          let r = any-some (n + 1) e in
+          ⊎-elim (λ l. rw (any-at n (r .0) l (r .2)))
+          (λ m. or-right (any n p) (p n) (let q : r .0 ≡ n = omega (arith, r .1, m) in subst (λ (x : ℕ). p x ≡ true) q (r .2)))
+          (less-or-not (r .0) n)
+
+      back : any n p || p n ≡ true → any (n + 1) p ≡ true
+      back e =
+          ⊎-elim (λ f. let r = any-some n f in any-at (n + 1) (r .0) (omega (arith, r .1)) (r .2)) (λ f. any-at (n + 1) n (omega arith) f)
+          (or-cases (any n p) (p n) e)
 
   -- a test that decides at each number decides whether there is one
   pub decides-any : (P : ℕ → Type 0) (n : ℕ) → ((i : ℕ) → Decides (p i) (P i)) → Decides (any n p) ((i : ℕ) × (i < n) × P i)

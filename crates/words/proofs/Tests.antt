@@ -61,6 +61,13 @@ three-ways a b = ⊎-elim inl (λ l. inr (⊎-elim (λ q. inl (sym q)) inr (eq-o
 
 -- ---- tests that decide
 
+pub decides-itself : (b : Bool) → Decides b (b ≡ true)
+decides-itself b = (λ e. e, λ e f. contrary f e)
+
+-- the same said otherwise
+pub decides-same : {a : Bool} {A B : Type 0} → (A → B) → (B → A) → Decides a A → Decides a B
+decides-same there back d = (λ e. there (d .0 e), λ e h. d .1 e (back h))
+
 pub decides-less : (a b : ℕ) → Decides (ltb a b) (a < b)
 decides-less a b = (ltb-true a b, λ e l. contrary (borrow.Author.Tests.lt-ltb a b l) e)
 

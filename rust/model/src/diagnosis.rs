@@ -102,11 +102,26 @@ pub fn only(mut states: Vec<Vec<u64>>) -> Vec<u64> {
     states.remove(0)
 }
 
+/// Whether a net's driver reaches a net's receiver.
+fn reaches(state: &[u64], driver: usize, receiver: usize) -> bool {
+    bit(state[receiver], driver as u64)
+}
+
+/// Whether net j is a partner of net i: another net, and one driver reaches both receivers, one receiver is reached by
+/// both drivers, or either's driver reaches the other's receiver.
+fn is_partner(state: &[u64], i: usize, j: usize) -> bool {
+    let mut drivers = 0..state.len();
+    let mut receivers = 0..state.len();
+    let one_driver = drivers.any(|driver| reaches(state, driver, i) && reaches(state, driver, j));
+    let one_receiver = receivers.any(|receiver| reaches(state, i, receiver) && reaches(state, j, receiver));
+    j != i && (one_driver || one_receiver || reaches(state, i, j) || reaches(state, j, i))
+}
+
 /// What is found on net i.
 pub fn finding(state: &[u64], i: usize) -> Finding {
     let reach = state[i];
-    let open = !bit(reach, i as u64);
-    let partners = word_of((0..state.len()).map(|j| j != i && state[j] & reach != 0));
+    let open = !reaches(state, i, i);
+    let partners = word_of((0..state.len()).map(|j| is_partner(state, i, j)));
     let kind = match (open, partners != 0) {
         (false, false) => 0,
         (true, false) => 1,
@@ -147,6 +162,18 @@ mod tests {
         let lines = findings(4, &[3, 3, 0, 8], 4).unwrap();
         let plain: Vec<_> = lines.iter().map(|line| (line.kind, line.reach, line.partners)).collect();
         assert_eq!(plain, [(2, 3, 2), (2, 3, 1), (1, 0, 0), (0, 8, 0)]);
+    }
+
+    /// Each clause of the rule alone, and what it must not name: nets 0 and 1 have a driver in common, a receiver in
+    /// common, are crossed one way, both ways, or are sound.
+    #[test]
+    fn partners_by_each_clause() {
+        let partners = |state: &[u64]| (0..state.len()).map(|i| finding(state, i).partners).collect::<Vec<u64>>();
+        assert_eq!(partners(&[4, 4, 0]), [6, 5, 3]);
+        assert_eq!(partners(&[0, 0, 3]), [6, 5, 3]);
+        assert_eq!(partners(&[0, 1]), [2, 1]);
+        assert_eq!(partners(&[2, 1]), [2, 1]);
+        assert_eq!(partners(&[1, 2]), [0, 0]);
     }
 
     #[test]

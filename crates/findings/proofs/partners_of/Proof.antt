@@ -1,92 +1,104 @@
 use borrow.Author.Needs.{needs}
-use Prim.Native.Nat.{ℕ, _≤_, _<_, _-_}
+use Prim.Native.Nat.{ℕ, _+_, _≤_, _<_, _-_, _^_}
 use native.Mathlib.Omega.{arith}
-use mathlib.Core.Path.{_≡_, _∙_}
-use mathlib.Core.Bool.{Bool, not, _&&_}
-use mathlib.Core.List.{List, map}
-use mathlib.Core.Logic.{⊎-elim}
+use native.Mathlib.Nat.{lt-of-le-of-lt, not-suc-le-zero}
+use mathlib.Core.Path.{_≡_, refl, sym, ap, ap₂, _∙_}
+use mathlib.Core.Bool.{Bool, not, _&&_, _||_}
+use mathlib.Core.List.{List}
+use lib.Bits.{bitAnd, bitOr, and-le-l}
 use lib.Dec.{eqb}
-use lib.ListN.{length, take}
-use Rattle.words.specs.Bits.{word, at}
-use Rattle.words.specs.Turning.{tabulate}
-use Rattle.words.proofs.Making.{word-set, word-keep, word-whole}
-use Rattle.words.proofs.Columns.{tabulate-at, length-tabulate}
+use lib.ListN.{length}
+use Rattle.words.specs.Bits.{has, at}
+use Rattle.words.specs.Searching.{any}
+use Rattle.words.proofs.Bits.{words-equal, has-zero, has-and, has-or}
+use Rattle.words.proofs.Searching.{any-more, any-none}
 use Rattle.network.specs.declared.Network.{Network}
-use Rattle.network.specs.Reading.{meets}
-use Rattle.findings.specs.Findings.{is-partner, partners}
+use Rattle.network.specs.Reading.{all-but}
+use Rattle.network.proofs.Reading.{has-every-but, all-but-less, all-below}
+use Rattle.findings.specs.Findings.{net-of, joins, is-partner, partners}
+use Rattle.findings.proofs.Partners.{partners-below, has-partners}
 use Rattle.findings.proofs.partners_of.Statement.{statement}
 use Rattle.findings.proofs.partners_of.Tie as tie
 
--- entry j of the nets is j, and the code tests whether it is a partner
-partner-at : (net : Network) (state : List ℕ) (i j : ℕ) (b : Bool) → j < net .nets → b ≡ meets net (at state i) (at state j)
-    → is-partner net state i (at (tabulate (net .nets) (λ x. x)) j) ≡ not (eqb i j) && b
+-- receiver s joins net j to receiver r
+abbrev joins-at : Network → List ℕ → (r j s : ℕ) → Bool
+joins-at net state r j s = joins net (net-of r) (at state r) j (net-of s) (at state s)
+
+-- one receiver more
+one-more : (net : Network) (state : List ℕ) (r s joined word : ℕ) → ((j : ℕ) → has joined j ≡ any s (joins-at net state r j))
+    → ((j : ℕ) → has word j ≡ joins-at net state r j s)
+    → (j : ℕ) → has (bitOr joined word) j ≡ any (s + 1) (joins-at net state r j)
+one-more net state r s joined word h here j =
+    has-or joined word j ∙ ap₂ (λ (b t : Bool). b || t) (h j) (here j) ∙ sym (any-more (joins-at net state r j) s)
+
+-- all nets that receivers join to r's or whose drivers reach r, but its own
+all-partners : (net : Network) (state : List ℕ) (i joined : ℕ) → i < net .nets
+    → ((j : ℕ) → has joined j ≡ any (length state) (joins-at net state i j))
+    → bitAnd (all-but net i) (bitOr joined (at state i)) ≡ partners net state i
 unfolding is-partner
-partner-at net state i j b l e = rw (tabulate-at (net .nets) (λ x. x) j l, e)
+all-partners net state i joined l h =
+    words-equal (net .nets) (bitAnd (all-but net i) (bitOr joined (at state i))) (partners net state i)
+    (lt-of-le-of-lt (and-le-l (all-but net i) (bitOr joined (at state i))) below) (partners-below net state i) same
+  where
+    below : all-but net i < 2 ^ (net .nets)
+    below = let less = all-but-less net i l in omega (arith, less, all-below net)
+
+    same : (j : ℕ) → j < net .nets → has (bitAnd (all-but net i) (bitOr joined (at state i))) j ≡ has (partners net state i) j
+    same j m =
+        has-and (all-but net i) (bitOr joined (at state i)) j
+        ∙ ap₂ (λ (b t : Bool). b && t) (has-every-but net i j l m) (has-or joined (at state i) j ∙ ap (λ (t : Bool). t || has (at state i) j) (h j))
+        ∙ sym (has-partners net state i j m)
 
 abbrev Inv-loop : tie.InvT-loop
-Inv-loop net state i own partners₀ j₀ partners j =
-    (j ≤ net .nets) × (partners ≡ word (map (is-partner net state i) (take j (tabulate (net .nets) (λ x. x)))))
+Inv-loop net state i reach joined₀ s₀ joined s = (s ≤ length state) × ((j : ℕ) → has joined j ≡ any s (joins-at net state i j))
 
 abbrev μ-loop : tie.MeasureT-loop
-μ-loop net state i own partners₀ j₀ partners j = net .nets - j
+μ-loop net state i reach joined₀ s₀ joined s = length state - s
 
-mul-own : tie.Need-mul-own Inv-loop μ-loop
-mul-own c = search needs
+mul-reach : tie.Need-mul-reach Inv-loop μ-loop
+mul-reach c = search needs
 
-shared-slice-read-own : tie.Need-shared-slice-read-own Inv-loop μ-loop
-shared-slice-read-own c = search needs
+shared-slice-read-reach : tie.Need-shared-slice-read-reach Inv-loop μ-loop
+shared-slice-read-reach c = search needs
 
 loop-holds : tie.Need-loop-holds Inv-loop μ-loop
-unfolding word
-loop-holds c = search needs
+loop-holds c = (search needs, λ j. has-zero j ∙ sym (any-none _ 0 (λ z l. absurd (not-suc-le-zero l))))
 
-mul-meets : tie.Need-mul-meets Inv-loop μ-loop
-mul-meets c = search needs
+mul-joined-by : tie.Need-mul-joined-by Inv-loop μ-loop
+mul-joined-by c = search needs
 
-shared-slice-read-meets : tie.Need-shared-slice-read-meets Inv-loop μ-loop
-shared-slice-read-meets c = search needs
+shared-slice-read-joined-by : tie.Need-shared-slice-read-joined-by Inv-loop μ-loop
+shared-slice-read-joined-by c = search needs
 
-meets-requires : tie.Need-meets-requires Inv-loop μ-loop
-meets-requires c κs =
-    let s = c .before .before .before .before .before .before in
-    s .pre .2 .reach (s .args .i) (omega (arith, s .pre .2 .size)) .inside
+joined-by-requires : tie.Need-joined-by-requires Inv-loop μ-loop
+joined-by-requires c κs =
+    let start = c .before .before .before .before .before in
+    let state = start .pre .2 in
+    (omega arith, omega (arith, state .size), state .reach (start .args .i) (omega (arith, state .size)) .inside)
 
-shl-partners : tie.Need-shl-partners Inv-loop μ-loop
-shl-partners c = search needs
-
-add-j : tie.Need-add-j Inv-loop μ-loop
-add-j c = search needs
+add-s : tie.Need-add-s Inv-loop μ-loop
+add-s c = search needs
 
 loop-less : tie.Need-loop-less Inv-loop μ-loop
 loop-less c = search needs
 
 loop-again : tie.Need-loop-again Inv-loop μ-loop
 loop-again c =
-    let m = c .before in
-    let l = m .before .before .before .before .loop in
-    let s = m .before .before .before .before .before .before .before in
-    let a = s .args in
-    let xs = tabulate (a .net .nets) (λ x. x) in
-    let size : length xs ≡ a .net .nets = length-tabulate (a .net .nets) (λ x. x) in
-    let here : is-partner (a .net) (a .state .now) (a .i) (at xs (l .j)) ≡ not (eqb (a .i) (l .j)) && m .meets .result =
-    partner-at (a .net) (a .state .now) (a .i) (l .j) (m .meets .result) (omega arith) (m .meets .ensures) in (
-      omega arith,
-      ⊎-elim
-          (λ w. w .1 ∙ word-set (is-partner (a .net) (a .state .now) (a .i)) xs (l .j) (l .partners) (l .inv .1)
-          (omega arith) (omega arith) (here ∙ w .0 .taken))
-          (λ w. w .1 ∙ word-keep (is-partner (a .net) (a .state .now) (a .i)) xs (l .j) (l .partners) (l .inv .1)
-          (omega arith) (here ∙ w .0 .left))
-          (c .if2 .came),
-    )
+    let l = c .before .before .before .loop in
+    let a = c .before .before .before .before .before .before .args in
+    (omega arith, one-more (a .net) (a .state .now) (a .i) (l .s) (l .joined) (c .joined-by .result) (l .inv .1) (c .joined-by .ensures))
+
+all-but-requires : tie.Need-all-but-requires Inv-loop μ-loop
+all-but-requires c κs = search needs
 
 returns : tie.Need-returns Inv-loop μ-loop
-unfolding partners
 returns c =
     let l = c .before .before .loop in
     let a = c .before .before .before .before .before .args in
-    let xs = tabulate (a .net .nets) (λ x. x) in
-    let size : length xs ≡ a .net .nets = length-tabulate (a .net .nets) (λ x. x) in
-    l .inv .1 ∙ word-whole (is-partner (a .net) (a .state .now) (a .i)) xs (l .j) (omega arith)
+    let whole : l .s ≡ length (a .state .now) = omega arith in
+    ap (λ (w : ℕ). bitAnd w (bitOr (l .joined) (at (a .state .now) (a .i)))) (c .all-but .ensures)
+    ∙ all-partners (a .net) (a .state .now) (a .i) (l .joined) (omega arith)
+    (λ j. l .inv .1 j ∙ ap (λ (n : ℕ). any n (joins-at (a .net) (a .state .now) (a .i) j)) whole)
 
 pub partners-of-spec : {M : Type 1} → statement M
 partners-of-spec =
@@ -94,14 +106,14 @@ partners-of-spec =
     (tie.spec
     Inv-loop
     μ-loop
-    mul-own
-    shared-slice-read-own
+    mul-reach
+    shared-slice-read-reach
     loop-holds
-    mul-meets
-    shared-slice-read-meets
-    meets-requires
-    shl-partners
-    add-j
+    mul-joined-by
+    shared-slice-read-joined-by
+    joined-by-requires
+    add-s
     loop-less
     loop-again
+    all-but-requires
     returns)

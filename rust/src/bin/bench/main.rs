@@ -6,7 +6,7 @@ mod generator;
 mod plain;
 mod timing;
 
-use fontarelga::{raw, Job, Network};
+use fontarelga::{raw, Job, Network, FINDING_WORDS};
 use generator::Generator;
 use plain::checker::{hash, pairs};
 use plain::session::Record;
@@ -15,6 +15,7 @@ use timing::{print_head, print_lines};
 
 const N: u64 = 48;
 const SESSIONS: usize = 1000;
+const STATES: usize = 1000;
 
 /// Vector 0 and the walking vectors.
 fn walking() -> Vec<u64> {
@@ -65,6 +66,27 @@ fn bench_diagnosis(k: u64, g: &mut Generator) {
     };
     let name = if k == N { "plain" } else { "hash" };
     print_lines(&format!("diagnosis, k = {k}, walking"), &mut call, &mut [(name, &mut call_plain)]);
+}
+
+/// The table of one state, ours or the plain one.
+fn table(call: fn(u64, &[u64], &mut [u64]) -> u64, state: &[u64]) -> [u64; FINDING_WORDS * N as usize] {
+    let mut table = [0; FINDING_WORDS * N as usize];
+    assert_eq!(call(N, state, &mut table), 0);
+    table
+}
+
+fn bench_findings(g: &mut Generator) {
+    let states: Vec<Vec<u64>> = (0..STATES).map(|_| g.state(N, N)).collect();
+    for state in &states {
+        assert_eq!(table(raw::findings, state), table(plain::findings::findings, state));
+    }
+    let run_all = |call: fn(u64, &[u64], &mut [u64]) -> u64| {
+        for state in &states {
+            black_box(table(call, black_box(state)));
+        }
+    };
+    let mut call = || run_all(raw::findings);
+    print_lines("findings of 1,000 states", &mut call, &mut [("plain", &mut || run_all(plain::findings::findings))]);
 }
 
 /// The three calls of a session, ours or the plain ones.
@@ -160,4 +182,5 @@ fn main() {
     }
     bench_sessions(g);
     bench_reader(g);
+    bench_findings(g);
 }

@@ -3,6 +3,7 @@
 
 pub mod checker;
 pub mod diagnosis;
+pub mod findings;
 pub mod job;
 pub mod session;
 

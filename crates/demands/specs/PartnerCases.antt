@@ -1,0 +1,33 @@
+-- The partners of document 02, as a table of facts about the definition that the contract of *findings* cites: what
+-- each clause of the rule names, alone and with others.
+use Prim.Native.Nat.{ℕ}
+use mathlib.Core.Path.{_≡_}
+use mathlib.Core.List.{List, [], _∷_}
+use Rattle.words.specs.Answers.{Answer, full}
+use Rattle.findings.specs.declared.Finding.{Finding}
+use Rattle.findings.specs.FindingsTable.{findings-answer}
+
+-- *findings* of n nets, with room for a record each
+abbrev pub find : ℕ → (state : List ℕ) → Answer (List Finding)
+find n state = findings-answer (record { nets = n }) state n
+
+abbrev pub found : (kind reach partners : ℕ) → Finding
+found kind reach partners = record { kind = kind; reach = reach; partners = partners }
+
+pub record PartnerCases : Type 0 where
+  -- two cables pinned crosswise; the same among sound nets; a cycle of three
+  pub crossed : find 2 (2 ∷ 1 ∷ []) ≡ full (found 3 2 2 ∷ found 3 1 1 ∷ [])
+  pub crossed-among-sound : find 4 (1 ∷ 4 ∷ 2 ∷ 8 ∷ []) ≡ full (found 0 1 0 ∷ found 3 4 4 ∷ found 3 2 2 ∷ found 0 8 0 ∷ [])
+  pub cycle : find 3 (2 ∷ 4 ∷ 1 ∷ []) ≡ full (found 3 2 6 ∷ found 3 4 5 ∷ found 3 1 3 ∷ [])
+  -- one driver reaches the other net's receiver, beside the receiver's own driver and alone; the other way is not so
+  pub with-a-floating-net : find 2 (3 ∷ 0 ∷ []) ≡ full (found 2 3 2 ∷ found 3 0 1 ∷ [])
+  pub crossed-one-way : find 2 (0 ∷ 1 ∷ []) ≡ full (found 3 0 2 ∷ found 3 1 1 ∷ [])
+  -- the drivers of nets 0 and 1 reach net 2's receiver, and no clause but "one receiver" joins the two
+  pub one-receiver : find 3 (0 ∷ 0 ∷ 3 ∷ []) ≡ full (found 3 0 6 ∷ found 3 0 5 ∷ found 3 3 3 ∷ [])
+  -- net 2's driver reaches the receivers of nets 0 and 1, and no clause but "one driver" joins the two
+  pub one-driver : find 3 (4 ∷ 4 ∷ 0 ∷ []) ≡ full (found 3 4 6 ∷ found 3 4 5 ∷ found 3 0 3 ∷ [])
+  -- no net is its own partner, and floating receivers are none of each other
+  pub sound : find 2 (1 ∷ 2 ∷ []) ≡ full (found 0 1 0 ∷ found 0 2 0 ∷ [])
+  pub floating : find 2 (0 ∷ 0 ∷ []) ≡ full (found 1 0 0 ∷ found 1 0 0 ∷ [])
+  -- document 01's state, as it was
+  pub listing : find 4 (3 ∷ 3 ∷ 0 ∷ 8 ∷ []) ≡ full (found 2 3 2 ∷ found 2 3 1 ∷ found 1 0 0 ∷ found 0 8 0 ∷ [])
