@@ -14,7 +14,7 @@ sums-to : Bool → Bool → Bool
 sums-to opened shorted = eqb (bit-value opened + 2 * bit-value shorted) (kind opened shorted)
 
 -- one computed test, over all four
-sum-of : (opened shorted : Bool) → bit-value opened + 2 * bit-value shorted ≡ kind opened shorted
+pub sum-of : (opened shorted : Bool) → bit-value opened + 2 * bit-value shorted ≡ kind opened shorted
 unfolding sums-to kind bit-value
 sum-of opened shorted =
     eqb-true _ _ (passes-either-way (sums-to opened)

@@ -1,14 +1,12 @@
--- The partners of a net: the test says what document 02's words say, and what a reader may ask of both.
+-- The partners of a net: the test says what document 02's words say, and what a reader may ask of the rule.
 use mathlib.Core.Path.{_≡_, refl, sym, ap, _∙_, subst}
-use mathlib.Core.Bool.{Bool, true, false, not, _&&_, _||_}
+use mathlib.Core.Bool.{true, false}
 use mathlib.Core.Logic.{_⊎_, _≢_, _↔_, inl, inr}
 use mathlib.Core.List.{List}
 use Prim.Native.Nat.{ℕ, _<_, _^_}
-use lib.Dec.{eqb}
 use lib.ListN.{length}
 use Rattle.words.specs.Answers.{Decides}
 use Rattle.words.specs.Bits.{has, at}
-use Rattle.words.specs.Searching.{any}
 use Rattle.words.specs.Turning.{tabulate}
 use Rattle.words.proofs.Tests.{contrary, same-truth, test-passes, test-fails}
 use Rattle.words.proofs.Tests.{decides-itself, decides-equal, decides-not, decides-and, decides-or, decides-same}
@@ -18,12 +16,12 @@ use Rattle.words.proofs.Columns.{length-tabulate, tabulate-at}
 use Rattle.network.specs.declared.Network.{Network}
 use Rattle.network.specs.Reading.{meets}
 use Rattle.network.proofs.Reading.{meets-at, meets-some}
-use Rattle.findings.specs.Findings.{net-of, Reaches, OneDriver, OneReceiver, SomeReceiver, Partner, joins, is-partner, partners}
+use Rattle.findings.specs.Findings.{net-of, Reaches, OneDriver, OneReceiver, Joined, Partner, joins, is-partner, partners}
 
 -- ---- the test
 
 module _ (net : Network) (state : List ℕ) (r j : ℕ) where
-  -- receiver s joins net j to receiver r
+  -- receiver s joins net j to receiver r's
   abbrev Joins : ℕ → Type 0
   Joins s =
       ((net-of s ≡ j) × OneDriver net state r s)
@@ -41,18 +39,14 @@ module _ (net : Network) (state : List ℕ) (r j : ℕ) where
       decides-or (decides-and its-own (decides-one-driver s))
       (decides-or (decides-and mine (decides-itself (has (at state s) j))) (decides-and its-own mine))
 
-  -- what some receiver does, said clause by clause
-  there : ((s : ℕ) × (s < length state) × Joins s) ⊎ Reaches state j r
-      → SomeReceiver state j (OneDriver net state r)
-      ⊎ (OneReceiver state (net-of r) j ⊎ (SomeReceiver state j (Reaches state (net-of r)) ⊎ Reaches state j r))
+  -- what some receiver does, clause by clause
+  there : ((s : ℕ) × (s < length state) × Joins s) ⊎ Reaches state j r → Joined net state r j
   there (inl (s, l, inl (e, d))) = inl (s, l, e, d)
   there (inl (s, l, inr (inl (p, q)))) = inr (inl (s, l, p, q))
   there (inl (s, l, inr (inr (e, p)))) = inr (inr (inl (s, l, e, p)))
   there (inr h) = inr (inr (inr h))
 
-  back : SomeReceiver state j (OneDriver net state r)
-      ⊎ (OneReceiver state (net-of r) j ⊎ (SomeReceiver state j (Reaches state (net-of r)) ⊎ Reaches state j r))
-      → ((s : ℕ) × (s < length state) × Joins s) ⊎ Reaches state j r
+  back : Joined net state r j → ((s : ℕ) × (s < length state) × Joins s) ⊎ Reaches state j r
   back (inl (s, l, e, d)) = inl (s, l, inl (e, d))
   back (inr (inl (s, l, p, q))) = inl (s, l, inr (inl (p, q)))
   back (inr (inr (inl (s, l, e, p)))) = inl (s, l, inr (inr (e, p)))
@@ -67,43 +61,40 @@ module _ (net : Network) (state : List ℕ) (r j : ℕ) where
       (decides-any (λ s. joins net (net-of r) (at state r) j (net-of s) (at state s)) Joins (length state) decides-joins)
       (decides-itself (has (at state r) j))))
 
--- ---- what may be asked of the rule, today's numbering taken for granted: receiver i is net i's
+-- ---- the rule, of one receiver a net: receiver i is net i's
 
 module _ (net : Network) (state : List ℕ) where
-  -- document 02's sentence of two nets, as it stands
-  abbrev pub Sentence : (i j : ℕ) → Type 0
-  Sentence i j = (i ≢ j) × (OneDriver net state i j ⊎ (OneReceiver state i j ⊎ (Reaches state i j ⊎ Reaches state j i)))
+  -- document 02's sentence of two nets, word for word
+  abbrev pub Paired : (i j : ℕ) → Type 0
+  Paired i j = (i ≢ j) × (OneDriver net state i j ⊎ (OneReceiver state i j ⊎ (Reaches state i j ⊎ Reaches state j i)))
 
-  sentence-from : (i j : ℕ) → Partner net state i j → Sentence i j
-  sentence-from i j (n, inl (s, l, e, d)) = (n, inl (subst (λ (x : ℕ). OneDriver net state i x) e d))
-  sentence-from i j (n, inr (inl h)) = (n, inr (inl h))
-  sentence-from i j (n, inr (inr (inl (s, l, e, p)))) = (n, inr (inr (inl (subst (λ (x : ℕ). Reaches state i x) e p))))
-  sentence-from i j (n, inr (inr (inr h))) = (n, inr (inr (inr h)))
+  pub paired-if-partner : (i j : ℕ) → Partner net state i j → Paired i j
+  paired-if-partner i j (n, inl (s, l, e, d)) = (n, inl (subst (λ (x : ℕ). OneDriver net state i x) e d))
+  paired-if-partner i j (n, inr (inl h)) = (n, inr (inl h))
+  paired-if-partner i j (n, inr (inr (inl (s, l, e, p)))) = (n, inr (inr (inl (subst (λ (x : ℕ). Reaches state i x) e p))))
+  paired-if-partner i j (n, inr (inr (inr h))) = (n, inr (inr (inr h)))
 
-  sentence-to : (i j : ℕ) → j < length state → Sentence i j → Partner net state i j
-  sentence-to i j l (n, inl d) = (n, inl (j, l, refl, d))
-  sentence-to i j l (n, inr (inl h)) = (n, inr (inl h))
-  sentence-to i j l (n, inr (inr (inl p))) = (n, inr (inr (inl (j, l, refl, p))))
-  sentence-to i j l (n, inr (inr (inr h))) = (n, inr (inr (inr h)))
+  pub partner-if-paired : (i j : ℕ) → j < length state → Paired i j → Partner net state i j
+  partner-if-paired i j l (n, inl d) = (n, inl (j, l, refl, d))
+  partner-if-paired i j l (n, inr (inl h)) = (n, inr (inl h))
+  partner-if-paired i j l (n, inr (inr (inl p))) = (n, inr (inr (inl (j, l, refl, p))))
+  partner-if-paired i j l (n, inr (inr (inr h))) = (n, inr (inr (inr h)))
 
-  pub says-the-sentence : (i j : ℕ) → j < length state → Partner net state i j ↔ Sentence i j
-  says-the-sentence i j l = (sentence-from i j, sentence-to i j l)
-
-  sentence-symmetric : (i j : ℕ) → Sentence i j → Sentence j i
-  sentence-symmetric i j (n, inl (x, l, p, q)) = (λ e. n (sym e), inl (x, l, q, p))
-  sentence-symmetric i j (n, inr (inl (s, l, p, q))) = (λ e. n (sym e), inr (inl (s, l, q, p)))
-  sentence-symmetric i j (n, inr (inr (inl p))) = (λ e. n (sym e), inr (inr (inr p)))
-  sentence-symmetric i j (n, inr (inr (inr p))) = (λ e. n (sym e), inr (inr (inl p)))
+  exchanged : (i j : ℕ) → Paired i j → Paired j i
+  exchanged i j (n, inl (x, l, p, q)) = (λ e. n (sym e), inl (x, l, q, p))
+  exchanged i j (n, inr (inl (s, l, p, q))) = (λ e. n (sym e), inr (inl (s, l, q, p)))
+  exchanged i j (n, inr (inr (inl p))) = (λ e. n (sym e), inr (inr (inr p)))
+  exchanged i j (n, inr (inr (inr p))) = (λ e. n (sym e), inr (inr (inl p)))
 
   pub symmetric : (i j : ℕ) → i < length state → Partner net state i j → Partner net state j i
-  symmetric i j l h = sentence-to j i l (sentence-symmetric i j (sentence-from i j h))
+  symmetric i j l h = partner-if-paired j i l (exchanged i j (paired-if-partner i j h))
 
   pub not-its-own : (i : ℕ) → ¬ (Partner net state i i)
   not-its-own i h = h .0 refl
 
-  -- document 01's rule: one driver reaches both receivers
+  -- document 01's rule, one driver reaches both receivers, is one of the clauses
   pub as-before : (i j : ℕ) → j < length state → i ≢ j → OneDriver net state i j → Partner net state i j
-  as-before i j l n d = sentence-to i j l (n, inl d)
+  as-before i j l n d = partner-if-paired i j l (n, inl d)
 
 -- ---- the word
 

@@ -1,5 +1,4 @@
--- What is found on one net of a wiring state. Nets are numbered i and j, their drivers as they are; receivers are
--- numbered r and s.
+-- What is found on one net of a wiring state. Nets are numbered i and j, as their drivers are, and receivers r and s.
 use Prim.Native.Nat.{ℕ, _<_}
 use mathlib.Core.Path.{_≡_}
 use mathlib.Core.Logic.{_⊎_, _≢_}
@@ -22,11 +21,11 @@ net-of r = r
 abbrev pub Reaches : List ℕ → (i r : ℕ) → Type 0
 Reaches state i r = has (at state r) i ≡ true
 
--- its own net's driver does not reach it
+-- the driver of its own net does not reach it
 unfoldable pub is-open : List ℕ → ℕ → Bool
 is-open state r = not (has (at state r) (net-of r))
 
--- ---- partners, in the words of document 02
+-- ---- partners, in document 02's words
 
 -- one driver reaches both receivers
 abbrev pub OneDriver : Network → List ℕ → (r s : ℕ) → Type 0
@@ -36,27 +35,30 @@ OneDriver net state r s = (i : ℕ) × (i < net .nets) × Reaches state i r × R
 abbrev pub OneReceiver : List ℕ → (i j : ℕ) → Type 0
 OneReceiver state i j = (s : ℕ) × (s < length state) × Reaches state i s × Reaches state j s
 
--- so it is with some receiver of net j
+-- some receiver of net j is so
 abbrev pub SomeReceiver : List ℕ → ℕ → (ℕ → Type 0) → Type 0
 SomeReceiver state j P = (s : ℕ) × (s < length state) × (net-of s ≡ j) × P s
 
--- Net j is a partner of receiver r's net: it is another net, and one driver reaches r and a receiver of net j; or one
--- receiver is reached by both drivers; or the driver of r's net reaches a receiver of net j; or net j's driver reaches r.
+-- One driver reaches receiver r and a receiver of net j; or one receiver is reached by the drivers of both nets; or
+-- the driver of r's net reaches a receiver of net j; or net j's driver reaches r.
+abbrev pub Joined : Network → List ℕ → (r j : ℕ) → Type 0
+Joined net state r j =
+    SomeReceiver state j (OneDriver net state r)
+    ⊎ (OneReceiver state (net-of r) j ⊎ (SomeReceiver state j (Reaches state (net-of r)) ⊎ Reaches state j r))
+
+-- net j is a partner of receiver r's net: another net, joined to it
 abbrev pub Partner : Network → List ℕ → (r j : ℕ) → Type 0
-Partner net state r j =
-    (net-of r ≢ j)
-    × (SomeReceiver state j (OneDriver net state r)
-    ⊎ (OneReceiver state (net-of r) j ⊎ (SomeReceiver state j (Reaches state (net-of r)) ⊎ Reaches state j r)))
+Partner net state r j = (net-of r ≢ j) × Joined net state r j
 
 -- ---- the same as tests
 
--- A receiver on net `owner`, with reach `other`, joins net j to a receiver on net i, with reach `reach`: it is on net j,
--- and one driver reaches both; or it is reached by both drivers; or it is on net j, and net i's driver reaches it.
+-- A receiver on net `owner`, of reach `other`, joins net j to one on net i, of reach `reach`: it is on net j, and one
+-- driver reaches both; or the drivers of both nets reach it; or it is on net j, and net i's driver reaches it.
 unfoldable pub joins : Network → (i reach j owner other : ℕ) → Bool
 joins net i reach j owner other =
     (eqb owner j && meets net reach other) || ((has other i && has other j) || (eqb owner j && has other i))
 
--- j is another net, and some receiver joins it to receiver r, or its driver reaches r
+-- j is another net than receiver r's, and some receiver joins the two, or net j's driver reaches r
 unfoldable pub is-partner : Network → List ℕ → (r j : ℕ) → Bool
 is-partner net state r j =
     let joined = any (length state) (λ s. joins net (net-of r) (at state r) j (net-of s) (at state s)) in

@@ -2,11 +2,10 @@ use borrow.Author.Needs.{needs}
 use Prim.Native.Nat.{ℕ, _+_, _≤_, _<_, _-_, _^_}
 use native.Mathlib.Omega.{arith}
 use native.Mathlib.Nat.{lt-of-le-of-lt, not-suc-le-zero}
-use mathlib.Core.Path.{_≡_, refl, sym, ap, ap₂, _∙_}
-use mathlib.Core.Bool.{Bool, not, _&&_, _||_}
+use mathlib.Core.Path.{_≡_, sym, ap, ap₂, _∙_}
+use mathlib.Core.Bool.{Bool, _&&_, _||_}
 use mathlib.Core.List.{List}
 use lib.Bits.{bitAnd, bitOr, and-le-l}
-use lib.Dec.{eqb}
 use lib.ListN.{length}
 use Rattle.words.specs.Bits.{has, at}
 use Rattle.words.specs.Searching.{any}
@@ -46,7 +45,8 @@ all-partners net state i joined l h =
     same : (j : ℕ) → j < net .nets → has (bitAnd (all-but net i) (bitOr joined (at state i))) j ≡ has (partners net state i) j
     same j m =
         has-and (all-but net i) (bitOr joined (at state i)) j
-        ∙ ap₂ (λ (b t : Bool). b && t) (has-every-but net i j l m) (has-or joined (at state i) j ∙ ap (λ (t : Bool). t || has (at state i) j) (h j))
+        ∙ ap₂ (λ (b t : Bool). b && t) (has-every-but net i j l m)
+        (has-or joined (at state i) j ∙ ap (λ (t : Bool). t || has (at state i) j) (h j))
         ∙ sym (has-partners net state i j m)
 
 abbrev Inv-loop : tie.InvT-loop
