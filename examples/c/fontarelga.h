@@ -59,7 +59,10 @@ uint64_t fontarelga_respond(uint64_t nets, uint64_t class_, const uint64_t *vect
 uint64_t fontarelga_diagnose(uint64_t nets, uint64_t class_, const uint64_t *vectors, size_t vectors_len,
                              const uint64_t *responses, size_t responses_len, uint64_t *state, size_t state_len);
 
-/* A finding: kind (0 sound, 1 open, 2 short, 3 both), reach, partners. */
+/* A finding: kind (0 sound, 1 open, 2 short, 3 both), reach, partners. A net is open if its own driver does not reach
+ * its receiver, and a short if it has partners. Another net j is a partner of net i, bit j of i's word, if one driver
+ * reaches both receivers, if one receiver, whichever, is reached by both drivers, or if either's driver reaches the
+ * other's receiver. */
 #define FONTARELGA_FINDING_WORDS 3
 #define FONTARELGA_FINDING_KIND 0
 #define FONTARELGA_FINDING_REACH 1

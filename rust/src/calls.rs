@@ -14,16 +14,18 @@ pub enum Verdict {
     Pair { a: u64, b: u64 },
 }
 
-/// What is found on a net, by its kind.
+/// What is found on a net: it is open if its own driver does not reach its receiver, and a short if it has partners
+/// ([`Finding::partners`]).
 #[derive(Clone, Copy, Debug, PartialEq, Eq, Hash)]
 pub enum Kind {
-    /// Its own driver reaches it, and no driver reaches it and another receiver.
+    /// Neither: its own driver reaches its receiver and no other, and no other driver reaches it.
     Sound = 0,
-    /// Its own driver does not reach it.
+    /// Open and no short: its receiver floats, and its driver reaches no receiver.
     Open = 1,
-    /// A driver reaches it and another receiver.
+    /// A short and not open: its own driver reaches its receiver, and it has partners.
     Short = 2,
-    /// Open and short.
+    /// Open and a short: its own driver does not reach its receiver, and it has partners. So it is with both nets of a
+    /// crossed pair.
     Both = 3,
 }
 
@@ -45,7 +47,8 @@ pub struct Finding {
     pub kind: Kind,
     /// The drivers that reach its receiver.
     pub reach: u64,
-    /// The other nets that one driver reaches together with this one.
+    /// Its partners: the other nets for which one driver reaches both receivers, one receiver, whichever, is reached by
+    /// both drivers, or either's driver reaches the other's receiver.
     pub partners: u64,
 }
 
@@ -121,6 +124,8 @@ pub fn diagnose(
 /// let found = findings(Network::new(4), &[3, 3, 0, 8]).unwrap();
 /// assert_eq!(found[0], Finding { kind: Kind::Short, reach: 3, partners: 2 });
 /// assert_eq!(found[2], Finding { kind: Kind::Open, reach: 0, partners: 0 });
+/// let crossed = findings(Network::new(2), &[2, 1]).unwrap();
+/// assert_eq!(crossed[0], Finding { kind: Kind::Both, reach: 2, partners: 2 });
 /// ```
 pub fn findings(network: impl Into<Network>, state: &[u64]) -> Result<Vec<Finding>, Refusal> {
     let network = network.into();

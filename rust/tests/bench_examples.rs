@@ -1,4 +1,4 @@
-//! Document 01's bench examples, by the wrappers.
+//! The bench examples of documents 01 and 02, by the wrappers.
 
 use fontarelga::*;
 
@@ -36,13 +36,27 @@ fn reading_back() {
     assert_eq!(diagnose(4, 4, &vectors, &[4, 7, 7, 4, 4]), Err(Refusal(14)));
 }
 
+fn assert_findings(state: &[u64], expected: &[(Kind, u64, u64)]) {
+    let expected = expected.iter().map(|&(kind, reach, partners)| Finding { kind, reach, partners }).collect();
+    assert_eq!(findings(state.len() as u64, state), Ok(expected));
+}
+
 #[test]
 fn findings_of_the_listing() {
     let expected = [(Kind::Short, 3, 2), (Kind::Short, 3, 1), (Kind::Open, 0, 0), (Kind::Sound, 8, 0)];
-    let expected = expected.map(|(kind, reach, partners)| Finding { kind, reach, partners });
-    assert_eq!(findings(4, &[3, 3, 0, 8]), Ok(expected.to_vec()));
-    let both = Finding { kind: Kind::Both, reach: 2, partners: 2 };
-    assert_eq!(findings(2, &[2, 2]).unwrap()[0], both);
+    assert_findings(&[3, 3, 0, 8], &expected);
+    assert_findings(&[2, 2], &[(Kind::Both, 2, 2), (Kind::Short, 2, 1)]);
+}
+
+/// A crossed pair, a cycle of three, and a net reached by its own and a floating net's driver; then two nets that a
+/// third net's receiver joins, and two that a third net's driver joins.
+#[test]
+fn findings_with_partners() {
+    assert_findings(&[2, 1], &[(Kind::Both, 2, 2), (Kind::Both, 1, 1)]);
+    assert_findings(&[2, 4, 1], &[(Kind::Both, 2, 6), (Kind::Both, 4, 5), (Kind::Both, 1, 3)]);
+    assert_findings(&[3, 0], &[(Kind::Short, 3, 2), (Kind::Both, 0, 1)]);
+    assert_findings(&[0, 0, 3], &[(Kind::Both, 0, 6), (Kind::Both, 0, 5), (Kind::Both, 3, 3)]);
+    assert_findings(&[4, 4, 0], &[(Kind::Both, 4, 6), (Kind::Both, 4, 5), (Kind::Both, 0, 3)]);
 }
 
 #[test]
