@@ -19,13 +19,14 @@ pub record PartnerCases : Type 0 where
   pub crossed : find 2 (2 ∷ 1 ∷ []) ≡ full (found 3 2 2 ∷ found 3 1 1 ∷ [])
   pub crossed-among-sound : find 4 (1 ∷ 4 ∷ 2 ∷ 8 ∷ []) ≡ full (found 0 1 0 ∷ found 3 4 4 ∷ found 3 2 2 ∷ found 0 8 0 ∷ [])
   pub cycle : find 3 (2 ∷ 4 ∷ 1 ∷ []) ≡ full (found 3 2 6 ∷ found 3 4 5 ∷ found 3 1 3 ∷ [])
-  -- one driver reaches the other net's receiver, beside the receiver's own driver and alone; the other way is not so
+  -- one driver reaches the other net's receiver, and not the other way: beside the receiver's own driver, and alone
   pub with-a-floating-net : find 2 (3 ∷ 0 ∷ []) ≡ full (found 2 3 2 ∷ found 3 0 1 ∷ [])
   pub crossed-one-way : find 2 (0 ∷ 1 ∷ []) ≡ full (found 3 0 2 ∷ found 3 1 1 ∷ [])
-  -- the drivers of nets 0 and 1 reach net 2's receiver, and no clause but "one receiver" joins the two
-  pub one-receiver : find 3 (0 ∷ 0 ∷ 3 ∷ []) ≡ full (found 3 0 6 ∷ found 3 0 5 ∷ found 3 3 3 ∷ [])
-  -- net 2's driver reaches the receivers of nets 0 and 1, and no clause but "one driver" joins the two
-  pub one-driver : find 3 (4 ∷ 4 ∷ 0 ∷ []) ≡ full (found 3 4 6 ∷ found 3 4 5 ∷ found 3 0 3 ∷ [])
+  -- two drivers reach a third net's receiver, the last and the first, and no clause but "one receiver" joins the two
+  pub at-the-last-receiver : find 3 (0 ∷ 0 ∷ 3 ∷ []) ≡ full (found 3 0 6 ∷ found 3 0 5 ∷ found 3 3 3 ∷ [])
+  pub at-the-first-receiver : find 3 (6 ∷ 0 ∷ 0 ∷ []) ≡ full (found 3 6 6 ∷ found 3 0 5 ∷ found 3 0 3 ∷ [])
+  -- a third net's driver reaches two receivers, and no clause but "one driver" joins the two
+  pub by-one-driver : find 3 (4 ∷ 4 ∷ 0 ∷ []) ≡ full (found 3 4 6 ∷ found 3 4 5 ∷ found 3 0 3 ∷ [])
   -- no net is its own partner, and floating receivers are none of each other
   pub sound : find 2 (1 ∷ 2 ∷ []) ≡ full (found 0 1 0 ∷ found 0 2 0 ∷ [])
   pub floating : find 2 (0 ∷ 0 ∷ []) ≡ full (found 1 0 0 ∷ found 1 0 0 ∷ [])
