@@ -1,4 +1,4 @@
--- What each kind says of a net: whether it has partners is decided by the crossings alone; the rest of the rule says
+-- What kinds 0 and 1 say of a net. Whether it has partners is decided by the crossings alone; the rest of the rule says
 -- which further nets are named.
 use mathlib.Core.Path.{_≡_, sym, ap, _∙_, subst}
 use mathlib.Core.Bool.{Bool, true, false, not}
@@ -15,9 +15,9 @@ use Rattle.words.proofs.Tests.{cases, contrary, test-fails}
 use Rattle.words.proofs.Bits.{words-equal, has-zero, has-power, has-own, bit-value-is, bit-value-below-two}
 use Rattle.network.specs.declared.Network.{Network}
 use Rattle.network.specs.States.{State}
-use Rattle.findings.specs.Findings.{Reaches, is-open, partners, kind, finding}
+use Rattle.findings.specs.Findings.{Reaches, Paired, is-open, partners, kind, finding}
 use Rattle.findings.proofs.KindSum.{sum-of}
-use Rattle.findings.proofs.Partners.{Paired, paired-if-partner, partner-if-paired}
+use Rattle.findings.proofs.Partners.{paired-if-partner, partner-if-paired}
 use Rattle.findings.proofs.Partners.{decides-partner, partners-below, has-partners, partners-bits}
 
 module _ (net : Network) (state : List ℕ) (i : ℕ) where
@@ -71,6 +71,11 @@ module _ (net : Network) (state : List ℕ) (is : State net (net .nets) state) (
   alone-if : not (eqb (partners net state i) 0) ≡ false → Alone net state i
   alone-if e = no-partners net state i (is .size) .0 (eqb-true (partners net state i) 0 (not-false _ e))
 
+  -- the kind of a net that is alone goes by whether its own driver reaches it
+  kind-if-alone : (own : Bool) → has (at state i) i ≡ own → Alone net state i → finding net state i .kind ≡ kind (not own) false
+  unfolding finding is-open
+  kind-if-alone own e a = let none = no-partners net state i (is .size) .1 a in rw (e, none)
+
   -- the reach of a net that is alone is known by its own bit
   alone-reach : Alone net state i → (w : ℕ) → w < 2 ^ (net .nets) → has (at state i) i ≡ has w i → ((j : ℕ) → i ≢ j → has w j ≡ false)
       → at state i ≡ w
@@ -84,18 +89,24 @@ module _ (net : Network) (state : List ℕ) (is : State net (net .nets) state) (
           ⊎-elim (λ e. subst (λ (x : ℕ). has (at state i) x ≡ has w x) (eqb-true i j e) own)
           (λ e. let n = eqb-false i j e in no-other j k n ∙ sym (others j n)) (cases (eqb i j))
 
-  -- a sound net: its own driver reaches its receiver, no other does, and its driver reaches no other receiver
-  pub sound-means : finding net state i .kind ≡ 0 → (at state i ≡ 2 ^ i) × Alone net state i
+  -- neither open nor short: its own driver reaches its receiver, no other does, and its driver reaches no other receiver
+  pub sound-means : (finding net state i .kind ≡ 0) ↔ ((at state i ≡ 2 ^ i) × Alone net state i)
   unfolding finding is-open kind
-  sound-means e =
-      let told = kind-tells (not (has (at state i) i)) (not (eqb (partners net state i) 0)) false false e in
-      let alone = alone-if (told .1) in
-      (alone-reach alone (2 ^ i) (pow-lt l) (not-false _ (told .0) ∙ sym (has-own i)) (λ j n. has-power i j ∙ ne-eqb i j n), alone)
+  sound-means = (there, λ h. kind-if-alone true (ap (λ (w : ℕ). has w i) (h .0) ∙ has-own i) (h .1))
+    where
+      there : kind (not (has (at state i) i)) (not (eqb (partners net state i) 0)) ≡ 0 → (at state i ≡ 2 ^ i) × Alone net state i
+      there e =
+          let told = kind-tells (not (has (at state i) i)) (not (eqb (partners net state i) 0)) false false e in
+          let alone = alone-if (told .1) in
+          (alone-reach alone (2 ^ i) (pow-lt l) (not-false _ (told .0) ∙ sym (has-own i)) (λ j n. has-power i j ∙ ne-eqb i j n), alone)
 
-  -- an open net that is no short: its receiver floats, and its driver reaches no receiver
-  pub open-means : finding net state i .kind ≡ 1 → (at state i ≡ 0) × Alone net state i
+  -- open and no short: its receiver floats, and its driver reaches no receiver
+  pub open-means : (finding net state i .kind ≡ 1) ↔ ((at state i ≡ 0) × Alone net state i)
   unfolding finding is-open kind
-  open-means e =
-      let told = kind-tells (not (has (at state i) i)) (not (eqb (partners net state i) 0)) true false e in
-      let alone = alone-if (told .1) in
-      (alone-reach alone 0 (pow-pos (net .nets)) (not-true _ (told .0) ∙ sym (has-zero i)) (λ j n. has-zero j), alone)
+  open-means = (there, λ h. kind-if-alone false (ap (λ (w : ℕ). has w i) (h .0) ∙ has-zero i) (h .1))
+    where
+      there : kind (not (has (at state i) i)) (not (eqb (partners net state i) 0)) ≡ 1 → (at state i ≡ 0) × Alone net state i
+      there e =
+          let told = kind-tells (not (has (at state i) i)) (not (eqb (partners net state i) 0)) true false e in
+          let alone = alone-if (told .1) in
+          (alone-reach alone 0 (pow-pos (net .nets)) (not-true _ (told .0) ∙ sym (has-zero i)) (λ j n. has-zero j), alone)

@@ -16,7 +16,8 @@ use Rattle.words.proofs.Columns.{length-tabulate, tabulate-at}
 use Rattle.network.specs.declared.Network.{Network}
 use Rattle.network.specs.Reading.{meets}
 use Rattle.network.proofs.Reading.{meets-at, meets-some}
-use Rattle.findings.specs.Findings.{net-of, Reaches, OneDriver, OneReceiver, Joined, Partner, joins, is-partner, partners}
+use Rattle.findings.specs.Findings.{net-of, Reaches, OneDriver, Joined, Partner, Paired}
+use Rattle.findings.specs.Findings.{joins, joins-at, is-partner, partners}
 
 -- ---- the test
 
@@ -31,7 +32,7 @@ module _ (net : Network) (state : List ℕ) (r j : ℕ) where
   decides-one-driver s =
       (meets-some net (at state r) (at state s), λ e h. contrary (meets-at net (at state r) (at state s) (h .0) (h .1) (h .2) (h .3)) e)
 
-  decides-joins : (s : ℕ) → Decides (joins net (net-of r) (at state r) j (net-of s) (at state s)) (Joins s)
+  decides-joins : (s : ℕ) → Decides (joins-at net state r j s) (Joins s)
   unfolding joins
   decides-joins s =
       let mine = decides-itself (has (at state s) (net-of r)) in
@@ -58,29 +59,25 @@ module _ (net : Network) (state : List ℕ) (r j : ℕ) where
       decides-and (decides-not (decides-equal (net-of r) j))
       (decides-same there back
       (decides-or
-      (decides-any (λ s. joins net (net-of r) (at state r) j (net-of s) (at state s)) Joins (length state) decides-joins)
+      (decides-any (joins-at net state r j) Joins (length state) decides-joins)
       (decides-itself (has (at state r) j))))
 
 -- ---- the rule, of one receiver a net: receiver i is net i's
 
 module _ (net : Network) (state : List ℕ) where
-  -- document 02's sentence of two nets, word for word
-  abbrev pub Paired : (i j : ℕ) → Type 0
-  Paired i j = (i ≢ j) × (OneDriver net state i j ⊎ (OneReceiver state i j ⊎ (Reaches state i j ⊎ Reaches state j i)))
-
-  pub paired-if-partner : (i j : ℕ) → Partner net state i j → Paired i j
+  pub paired-if-partner : (i j : ℕ) → Partner net state i j → Paired net state i j
   paired-if-partner i j (n, inl (s, l, e, d)) = (n, inl (subst (λ (x : ℕ). OneDriver net state i x) e d))
   paired-if-partner i j (n, inr (inl h)) = (n, inr (inl h))
   paired-if-partner i j (n, inr (inr (inl (s, l, e, p)))) = (n, inr (inr (inl (subst (λ (x : ℕ). Reaches state i x) e p))))
   paired-if-partner i j (n, inr (inr (inr h))) = (n, inr (inr (inr h)))
 
-  pub partner-if-paired : (i j : ℕ) → j < length state → Paired i j → Partner net state i j
+  pub partner-if-paired : (i j : ℕ) → j < length state → Paired net state i j → Partner net state i j
   partner-if-paired i j l (n, inl d) = (n, inl (j, l, refl, d))
   partner-if-paired i j l (n, inr (inl h)) = (n, inr (inl h))
   partner-if-paired i j l (n, inr (inr (inl p))) = (n, inr (inr (inl (j, l, refl, p))))
   partner-if-paired i j l (n, inr (inr (inr h))) = (n, inr (inr (inr h)))
 
-  exchanged : (i j : ℕ) → Paired i j → Paired j i
+  exchanged : (i j : ℕ) → Paired net state i j → Paired net state j i
   exchanged i j (n, inl (x, l, p, q)) = (λ e. n (sym e), inl (x, l, q, p))
   exchanged i j (n, inr (inl (s, l, p, q))) = (λ e. n (sym e), inr (inl (s, l, q, p)))
   exchanged i j (n, inr (inr (inl p))) = (λ e. n (sym e), inr (inr (inr p)))
@@ -92,9 +89,10 @@ module _ (net : Network) (state : List ℕ) where
   pub not-its-own : (i : ℕ) → ¬ (Partner net state i i)
   not-its-own i h = h .0 refl
 
-  -- document 01's rule, one driver reaches both receivers, is one of the clauses
-  pub as-before : (i j : ℕ) → j < length state → i ≢ j → OneDriver net state i j → Partner net state i j
-  as-before i j l n d = partner-if-paired i j l (n, inl d)
+  -- wherever document 01's rule held: j is another net, and one driver reaches both receivers
+  pub as-before : (i j x : ℕ) → j < length state → i ≢ j → x < net .nets → has (at state i) x ≡ true → has (at state j) x ≡ true
+      → Partner net state i j
+  as-before i j x l n m p q = partner-if-paired i j l (n, inl (x, m, p, q))
 
 -- ---- the word
 

@@ -50,6 +50,12 @@ Joined net state r j =
 abbrev pub Partner : Network → List ℕ → (r j : ℕ) → Type 0
 Partner net state r j = (net-of r ≢ j) × Joined net state r j
 
+-- With a receiver a net that is document 02's sentence, word for word: "one driver reaches both receivers, one receiver
+-- is reached by both drivers, or either's driver reaches the other's receiver".
+abbrev pub Paired : Network → List ℕ → (i j : ℕ) → Type 0
+Paired net state i j =
+    (i ≢ j) × (OneDriver net state i j ⊎ (OneReceiver state i j ⊎ (Reaches state i j ⊎ Reaches state j i)))
+
 -- ---- the same as tests
 
 -- A receiver on net `owner`, of reach `other`, joins net j to one on net i, of reach `reach`: it is on net j, and one
@@ -58,10 +64,14 @@ unfoldable pub joins : Network → (i reach j owner other : ℕ) → Bool
 joins net i reach j owner other =
     (eqb owner j && meets net reach other) || ((has other i && has other j) || (eqb owner j && has other i))
 
+-- receiver s joins net j to receiver r's
+abbrev pub joins-at : Network → List ℕ → (r j s : ℕ) → Bool
+joins-at net state r j s = joins net (net-of r) (at state r) j (net-of s) (at state s)
+
 -- j is another net than receiver r's, and some receiver joins the two, or net j's driver reaches r
 unfoldable pub is-partner : Network → List ℕ → (r j : ℕ) → Bool
 is-partner net state r j =
-    let joined = any (length state) (λ s. joins net (net-of r) (at state r) j (net-of s) (at state s)) in
+    let joined = any (length state) (joins-at net state r j) in
     not (eqb (net-of r) j) && (joined || has (at state r) j)
 
 -- the partners of receiver r's net as a parallel word

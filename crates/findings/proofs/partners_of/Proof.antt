@@ -14,14 +14,10 @@ use Rattle.words.proofs.Searching.{any-more, any-none}
 use Rattle.network.specs.declared.Network.{Network}
 use Rattle.network.specs.Reading.{all-but}
 use Rattle.network.proofs.Reading.{has-every-but, all-but-less, all-below}
-use Rattle.findings.specs.Findings.{net-of, joins, is-partner, partners}
+use Rattle.findings.specs.Findings.{joins-at, is-partner, partners}
 use Rattle.findings.proofs.Partners.{partners-below, has-partners}
 use Rattle.findings.proofs.partners_of.Statement.{statement}
 use Rattle.findings.proofs.partners_of.Tie as tie
-
--- receiver s joins net j to receiver r
-abbrev joins-at : Network → List ℕ → (r j s : ℕ) → Bool
-joins-at net state r j s = joins net (net-of r) (at state r) j (net-of s) (at state s)
 
 -- one receiver more
 one-more : (net : Network) (state : List ℕ) (r s joined word : ℕ) → ((j : ℕ) → has joined j ≡ any s (joins-at net state r j))
