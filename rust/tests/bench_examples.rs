@@ -1,4 +1,4 @@
-//! The bench examples of documents 01 and 02, by the wrappers.
+//! Document 01's bench examples and document 02's partners, by the wrappers.
 
 use fontarelga::*;
 

@@ -1,4 +1,4 @@
-//! A brute-force model of document 01.
+//! A brute-force model of document 01, with the changes of document 02.
 //!
 //! It shares no code with the library or its wrappers. It enumerates: all driver sets, all wiring states, all answers.
 //! So it is slow and plain, and made for small boards. For class n above 10 nets it decodes the answers and tries the
