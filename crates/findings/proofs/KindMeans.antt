@@ -1,6 +1,6 @@
 -- What kinds 0 and 1 say of a net. Whether it has partners is decided by the crossings alone; the rest of the rule says
 -- which further nets are named.
-use mathlib.Core.Path.{_≡_, sym, ap, _∙_, subst}
+use mathlib.Core.Path.{_≡_, refl, sym, ap, _∙_, subst}
 use mathlib.Core.Bool.{Bool, true, false, not}
 use mathlib.Core.Logic.{_≢_, _↔_, inl, inr, ⊎-elim}
 use mathlib.Core.List.{List}
@@ -9,7 +9,7 @@ use native.Mathlib.Omega.{arith}
 use lib.Dec.{eqb}
 use lib.ListN.{length}
 use lib.Pow.{pow-pos, pow-lt}
-use borrow.Author.Tests.{eqb-true, eqb-false, ne-eqb, not-true, not-false}
+use borrow.Author.Tests.{eqb-true, eqb-false, ne-eqb, not-false}
 use Rattle.words.specs.Bits.{has, bit-value, at}
 use Rattle.words.proofs.Tests.{cases, contrary, test-fails}
 use Rattle.words.proofs.Bits.{words-equal, has-zero, has-power, has-own, bit-value-is, bit-value-below-two}
@@ -56,6 +56,12 @@ module _ (net : Network) (state : List ℕ) (i : ℕ) where
             has-partners net state i j l
             ∙ test-fails (decides-partner net state i j) (λ h. not-alone j l a (paired-if-partner net state i j h))
 
+same-not : (a b : Bool) → not a ≡ not b → a ≡ b
+same-not true true e = refl
+same-not true false e = sym e
+same-not false true e = sym e
+same-not false false e = refl
+
 same-value : (a b : Bool) → bit-value a ≡ bit-value b → a ≡ b
 same-value a b e = sym (bit-value-is a) ∙ ap (λ (x : ℕ). eqb x 1) e ∙ bit-value-is b
 
@@ -89,24 +95,25 @@ module _ (net : Network) (state : List ℕ) (is : State net (net .nets) state) (
           ⊎-elim (λ e. subst (λ (x : ℕ). has (at state i) x ≡ has w x) (eqb-true i j e) own)
           (λ e. let n = eqb-false i j e in no-other j k n ∙ sym (others j n)) (cases (eqb i j))
 
+  -- one of the two, by whether its own driver reaches it: w is the reach that has its own bit so, and no other
+  kind-means : (own : Bool) (w : ℕ) → w < 2 ^ (net .nets) → has w i ≡ own → ((j : ℕ) → i ≢ j → has w j ≡ false)
+      → (finding net state i .kind ≡ kind (not own) false) ↔ ((at state i ≡ w) × Alone net state i)
+  unfolding finding is-open
+  kind-means own w m e others = (there, λ h. kind-if-alone own (ap (λ (x : ℕ). has x i) (h .0) ∙ e) (h .1))
+    where
+      there : kind (not (has (at state i) i)) (not (eqb (partners net state i) 0)) ≡ kind (not own) false
+          → (at state i ≡ w) × Alone net state i
+      there f =
+          let told = kind-tells (not (has (at state i) i)) (not (eqb (partners net state i) 0)) (not own) false f in
+          let alone = alone-if (told .1) in
+          (alone-reach alone w m (same-not (has (at state i) i) own (told .0) ∙ sym e) others, alone)
+
   -- neither open nor short: its own driver reaches its receiver, no other does, and its driver reaches no other receiver
   pub sound-means : (finding net state i .kind ≡ 0) ↔ ((at state i ≡ 2 ^ i) × Alone net state i)
-  unfolding finding is-open kind
-  sound-means = (there, λ h. kind-if-alone true (ap (λ (w : ℕ). has w i) (h .0) ∙ has-own i) (h .1))
-    where
-      there : kind (not (has (at state i) i)) (not (eqb (partners net state i) 0)) ≡ 0 → (at state i ≡ 2 ^ i) × Alone net state i
-      there e =
-          let told = kind-tells (not (has (at state i) i)) (not (eqb (partners net state i) 0)) false false e in
-          let alone = alone-if (told .1) in
-          (alone-reach alone (2 ^ i) (pow-lt l) (not-false _ (told .0) ∙ sym (has-own i)) (λ j n. has-power i j ∙ ne-eqb i j n), alone)
+  unfolding kind
+  sound-means = kind-means true (2 ^ i) (pow-lt l) (has-own i) (λ j n. has-power i j ∙ ne-eqb i j n)
 
   -- open and no short: its receiver floats, and its driver reaches no receiver
   pub open-means : (finding net state i .kind ≡ 1) ↔ ((at state i ≡ 0) × Alone net state i)
-  unfolding finding is-open kind
-  open-means = (there, λ h. kind-if-alone false (ap (λ (w : ℕ). has w i) (h .0) ∙ has-zero i) (h .1))
-    where
-      there : kind (not (has (at state i) i)) (not (eqb (partners net state i) 0)) ≡ 1 → (at state i ≡ 0) × Alone net state i
-      there e =
-          let told = kind-tells (not (has (at state i) i)) (not (eqb (partners net state i) 0)) true false e in
-          let alone = alone-if (told .1) in
-          (alone-reach alone 0 (pow-pos (net .nets)) (not-true _ (told .0) ∙ sym (has-zero i)) (λ j n. has-zero j), alone)
+  unfolding kind
+  open-means = kind-means false 0 (pow-pos (net .nets)) (has-zero i) (λ j n. has-zero j)
