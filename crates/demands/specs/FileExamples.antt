@@ -1,5 +1,5 @@
--- Job files and the reports on them, byte for byte. Each is worked out by hand from document 01; none is a program's
--- output.
+-- Job files and the reports on them, byte for byte. Each is worked out by hand from documents 01 and 02; none is a
+-- program's output.
 use Prim.Native.Nat.{ℕ, _+_, _*_}
 use Prim.Native.Char.{code}
 use Prim.Native.String.{String, [] as []ˢ, _∷_ as _∷ˢ_}

@@ -20,22 +20,29 @@ pub record PartnerCases : Type 0 where
   pub crossed-among-sound : find 4 (1 ∷ 4 ∷ 2 ∷ 8 ∷ []) ≡ full (found 0 1 0 ∷ found 3 4 4 ∷ found 3 2 2 ∷ found 0 8 0 ∷ [])
   pub crossed-twice : find 4 (2 ∷ 1 ∷ 8 ∷ 4 ∷ []) ≡ full (found 3 2 2 ∷ found 3 1 1 ∷ found 3 8 8 ∷ found 3 4 4 ∷ [])
   pub cycle : find 3 (2 ∷ 4 ∷ 1 ∷ []) ≡ full (found 3 2 6 ∷ found 3 4 5 ∷ found 3 1 3 ∷ [])
+  -- two nets that lost their drivers to two others; the first two are not joined by that
+  pub two-crossings : find 4 (0 ∷ 0 ∷ 1 ∷ 2 ∷ []) ≡ full (found 3 0 4 ∷ found 3 0 8 ∷ found 3 1 1 ∷ found 3 2 2 ∷ [])
   -- the cycle without its last wire: the partner of a partner is none
   pub chain : find 3 (2 ∷ 4 ∷ 0 ∷ []) ≡ full (found 3 2 2 ∷ found 3 4 5 ∷ found 3 0 2 ∷ [])
   -- one driver reaches the other net's receiver, and not the other way: beside the receiver's own driver, and alone
   pub with-a-floating-net : find 2 (3 ∷ 0 ∷ []) ≡ full (found 2 3 2 ∷ found 3 0 1 ∷ [])
   pub crossed-one-way : find 2 (0 ∷ 1 ∷ []) ≡ full (found 3 0 2 ∷ found 3 1 1 ∷ [])
   -- two drivers reach a third net's receiver, and no clause but "one receiver" joins the two: the last receiver, the
-  -- first, the one between; with its own driver beside them; and two nets of which one is reached otherwise
+  -- first, the one between, with a floating net beside; with its own driver, or a third, beside them; and nets of which
+  -- one, or both, are reached otherwise
   pub at-the-last-receiver : find 3 (0 ∷ 0 ∷ 3 ∷ []) ≡ full (found 3 0 6 ∷ found 3 0 5 ∷ found 3 3 3 ∷ [])
   pub at-the-first-receiver : find 3 (6 ∷ 0 ∷ 0 ∷ []) ≡ full (found 3 6 6 ∷ found 3 0 5 ∷ found 3 0 3 ∷ [])
   pub at-the-one-between : find 3 (0 ∷ 5 ∷ 0 ∷ []) ≡ full (found 3 0 6 ∷ found 3 5 5 ∷ found 3 0 3 ∷ [])
+  pub beside-a-floating-net : find 4 (0 ∷ 0 ∷ 9 ∷ 0 ∷ []) ≡ full (found 3 0 12 ∷ found 1 0 0 ∷ found 3 9 9 ∷ found 3 0 5 ∷ [])
   pub at-one-that-is-not-open : find 3 (0 ∷ 0 ∷ 7 ∷ []) ≡ full (found 3 0 6 ∷ found 3 0 5 ∷ found 2 7 3 ∷ [])
+  pub with-a-third-driver : find 4 (0 ∷ 0 ∷ 0 ∷ 7 ∷ []) ≡ full (found 3 0 14 ∷ found 3 0 13 ∷ found 3 0 11 ∷ found 3 7 7 ∷ [])
   pub one-of-them-reached : find 3 (4 ∷ 0 ∷ 3 ∷ []) ≡ full (found 3 4 6 ∷ found 3 0 5 ∷ found 3 3 3 ∷ [])
+  pub both-of-them-reached : find 4 (1 ∷ 1 ∷ 8 ∷ 6 ∷ []) ≡ full (found 2 1 2 ∷ found 3 1 13 ∷ found 3 8 10 ∷ found 3 6 6 ∷ [])
   -- a third net's driver reaches two receivers, and no clause but "one driver" joins the two: the last driver, the
-  -- first; at its own receiver too; with another driver beside it
+  -- first, the one between; at its own receiver too; with another driver beside it
   pub by-the-last-driver : find 3 (4 ∷ 4 ∷ 0 ∷ []) ≡ full (found 3 4 6 ∷ found 3 4 5 ∷ found 3 0 3 ∷ [])
   pub by-the-first-driver : find 3 (0 ∷ 1 ∷ 1 ∷ []) ≡ full (found 3 0 6 ∷ found 3 1 5 ∷ found 3 1 3 ∷ [])
+  pub by-the-one-between : find 3 (2 ∷ 0 ∷ 2 ∷ []) ≡ full (found 3 2 6 ∷ found 3 0 5 ∷ found 3 2 3 ∷ [])
   pub by-one-that-reaches-its-own : find 3 (4 ∷ 4 ∷ 4 ∷ []) ≡ full (found 3 4 6 ∷ found 3 4 5 ∷ found 2 4 3 ∷ [])
   pub by-two-drivers : find 4 (0 ∷ 0 ∷ 3 ∷ 3 ∷ []) ≡ full (found 3 0 14 ∷ found 3 0 13 ∷ found 3 3 11 ∷ found 3 3 7 ∷ [])
   -- two shorts are two; no net is its own partner; floating receivers are not joined by that

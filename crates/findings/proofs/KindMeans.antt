@@ -26,15 +26,15 @@ module _ (net : Network) (state : List ℕ) (i : ℕ) where
   Alone = (j : ℕ) → j < net .nets → i ≢ j → (¬ (Reaches state i j)) × (¬ (Reaches state j i))
 
   module _ (size : length state ≡ net .nets) where
-    not-alone : (j : ℕ) → j < net .nets → Alone → ¬ (Paired net state i j)
-    not-alone j l a (n, inl (x, m, p, q)) =
+    alone-unpaired : (j : ℕ) → j < net .nets → Alone → ¬ (Paired net state i j)
+    alone-unpaired j l a (n, inl (x, m, p, q)) =
         ⊎-elim (λ e. a j l n .0 (subst (λ (y : ℕ). Reaches state y j) (sym (eqb-true i x e)) q))
         (λ e. a x m (eqb-false i x e) .1 p) (cases (eqb i x))
-    not-alone j l a (n, inr (inl (s, m, p, q))) =
+    alone-unpaired j l a (n, inr (inl (s, m, p, q))) =
         ⊎-elim (λ e. a j l n .1 (subst (λ (y : ℕ). Reaches state j y) (sym (eqb-true i s e)) q))
         (λ e. a s (rw size at m) (eqb-false i s e) .0 p) (cases (eqb i s))
-    not-alone j l a (n, inr (inr (inl p))) = a j l n .0 p
-    not-alone j l a (n, inr (inr (inr p))) = a j l n .1 p
+    alone-unpaired j l a (n, inr (inr (inl p))) = a j l n .0 p
+    alone-unpaired j l a (n, inr (inr (inr p))) = a j l n .1 p
 
     none-named : partners net state i ≡ 0 → Alone
     none-named e j l n = (λ p. nobody (n, inr (inr (inl p))), λ p. nobody (n, inr (inr (inr p))))
@@ -54,7 +54,7 @@ module _ (net : Network) (state : List ℕ) (i : ℕ) where
         fails : Alone → (j : ℕ) → j < net .nets → has (partners net state i) j ≡ false
         fails a j l =
             has-partners net state i j l
-            ∙ test-fails (decides-partner net state i j) (λ h. not-alone j l a (paired-if-partner net state i j h))
+            ∙ test-fails (decides-partner net state i j) (λ h. alone-unpaired j l a (paired-if-partner net state i j h))
 
 same-not : (a b : Bool) → not a ≡ not b → a ≡ b
 same-not true true e = refl

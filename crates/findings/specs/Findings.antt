@@ -50,11 +50,15 @@ Joined net state r j =
 abbrev pub Partner : Network → List ℕ → (r j : ℕ) → Type 0
 Partner net state r j = (net-of r ≢ j) × Joined net state r j
 
--- With a receiver a net that is document 02's sentence, word for word: "one driver reaches both receivers, one receiver
--- is reached by both drivers, or either's driver reaches the other's receiver".
+-- The same of two nets with a receiver each, once more and in bits alone, as document 02's sentence stands: "if one
+-- driver reaches both receivers, if one receiver is reached by both drivers, or if either's driver reaches the other's
+-- receiver".
 abbrev pub Paired : Network → List ℕ → (i j : ℕ) → Type 0
 Paired net state i j =
-    (i ≢ j) × (OneDriver net state i j ⊎ (OneReceiver state i j ⊎ (Reaches state i j ⊎ Reaches state j i)))
+    (i ≢ j)
+    × (((x : ℕ) × (x < net .nets) × (has (at state i) x ≡ true) × (has (at state j) x ≡ true))
+    ⊎ (((s : ℕ) × (s < length state) × (has (at state s) i ≡ true) × (has (at state s) j ≡ true))
+    ⊎ ((has (at state j) i ≡ true) ⊎ (has (at state i) j ≡ true))))
 
 -- ---- the same as tests
 
