@@ -28,8 +28,8 @@ pub record PartnerCases : Type 0 where
   pub with-a-floating-net : find 2 (3 ∷ 0 ∷ []) ≡ full (found 2 3 2 ∷ found 3 0 1 ∷ [])
   pub crossed-one-way : find 2 (0 ∷ 1 ∷ []) ≡ full (found 3 0 2 ∷ found 3 1 1 ∷ [])
   -- two drivers reach a third net's receiver, and no clause but "one receiver" joins the two: the last receiver, the
-  -- first, the one between, with a floating net beside; with its own driver, or a third, beside them; and nets of which
-  -- one, or both, are reached otherwise
+  -- first, the one between; with a net beside that nothing joins; with its own driver, or a third, beside them; and
+  -- nets of which one, or both, are reached otherwise
   pub at-the-last-receiver : find 3 (0 ∷ 0 ∷ 3 ∷ []) ≡ full (found 3 0 6 ∷ found 3 0 5 ∷ found 3 3 3 ∷ [])
   pub at-the-first-receiver : find 3 (6 ∷ 0 ∷ 0 ∷ []) ≡ full (found 3 6 6 ∷ found 3 0 5 ∷ found 3 0 3 ∷ [])
   pub at-the-one-between : find 3 (0 ∷ 5 ∷ 0 ∷ []) ≡ full (found 3 0 6 ∷ found 3 5 5 ∷ found 3 0 3 ∷ [])

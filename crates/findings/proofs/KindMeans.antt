@@ -95,7 +95,7 @@ module _ (net : Network) (state : List ℕ) (is : State net (net .nets) state) (
           ⊎-elim (λ e. subst (λ (x : ℕ). has (at state i) x ≡ has w x) (eqb-true i j e) own)
           (λ e. let n = eqb-false i j e in no-other j k n ∙ sym (others j n)) (cases (eqb i j))
 
-  -- one of the two, by whether its own driver reaches it: w is the reach that has its own bit so, and no other
+  -- kind 0 or 1, by whether its own driver reaches it: w is the reach that has its own bit so, and no other bit
   kind-means : (own : Bool) (w : ℕ) → w < 2 ^ (net .nets) → has w i ≡ own → ((j : ℕ) → i ≢ j → has w j ≡ false)
       → (finding net state i .kind ≡ kind (not own) false) ↔ ((at state i ≡ w) × Alone net state i)
   unfolding finding is-open
@@ -108,7 +108,7 @@ module _ (net : Network) (state : List ℕ) (is : State net (net .nets) state) (
           let alone = alone-if (told .1) in
           (alone-reach alone w m (same-not (has (at state i) i) own (told .0) ∙ sym e) others, alone)
 
-  -- neither open nor short: its own driver reaches its receiver, no other does, and its driver reaches no other receiver
+  -- neither open nor short: its own driver reaches its receiver and no other, and no other driver reaches it
   pub sound-means : (finding net state i .kind ≡ 0) ↔ ((at state i ≡ 2 ^ i) × Alone net state i)
   unfolding kind
   sound-means = kind-means true (2 ^ i) (pow-lt l) (has-own i) (λ j n. has-power i j ∙ ne-eqb i j n)

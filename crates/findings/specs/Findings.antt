@@ -50,9 +50,9 @@ Joined net state r j =
 abbrev pub Partner : Network → List ℕ → (r j : ℕ) → Type 0
 Partner net state r j = (net-of r ≢ j) × Joined net state r j
 
--- The same of two nets with a receiver each, once more and in bits alone, as document 02's sentence stands: "if one
--- driver reaches both receivers, if one receiver is reached by both drivers, or if either's driver reaches the other's
--- receiver".
+-- The same of two nets with a receiver each, i and j, once more and in bits alone, as document 02's sentence stands:
+-- "if one driver reaches both receivers, if one receiver is reached by both drivers, or if either's driver reaches the
+-- other's receiver". The driver is x, the receiver s.
 abbrev pub Paired : Network → List ℕ → (i j : ℕ) → Type 0
 Paired net state i j =
     (i ≢ j)

@@ -24,8 +24,8 @@ pub struct Tabled {
     pub table: [Finding; 48],
 }
 
-// The nets that a receiver on net `owner`, of reach `other`, joins to one on net i, of reach `reach`; net i may be among
-// them. Nets are below 64, and the reach is a set of the network's drivers.
+// The nets that a receiver on net `owner`, of reach `other`, joins to one on net i, of reach `reach`; net i may be
+// among them. Nets are below 64, and the reach is a set of the network's drivers.
 fn joined_by(net: Network, i: u64, reach: u64, owner: u64, other: u64) -> u64
     requires { ⌜ (i < 64) × (owner < 64) × (reach < 2 ^ (net .nets)) ⌝ }
     ensures { λ r. ⌜ ((j : ℕ) → has r j ≡ joins net i reach j owner other) ⌝ }
