@@ -5,11 +5,11 @@ use mathlib.Core.Path.{_≡_}
 use mathlib.Core.List.{List, [], _∷_}
 use Rattle.words.specs.Answers.{Answer, full}
 use Rattle.findings.specs.declared.Finding.{Finding}
-use Rattle.findings.specs.FindingsTable.{findings-answer}
+use Rattle.demands.specs.Boundary.{find-into}
 
 -- *findings* of n nets, with room for a record each
 abbrev pub find : ℕ → (state : List ℕ) → Answer (List Finding)
-find n state = findings-answer (record { nets = n }) state n
+find n state = find-into n state n
 
 abbrev pub found : (kind reach partners : ℕ) → Finding
 found kind reach partners = record { kind = kind; reach = reach; partners = partners }
@@ -33,7 +33,7 @@ pub record PartnerCases : Type 0 where
   pub at-the-last-receiver : find 3 (0 ∷ 0 ∷ 3 ∷ []) ≡ full (found 3 0 6 ∷ found 3 0 5 ∷ found 3 3 3 ∷ [])
   pub at-the-first-receiver : find 3 (6 ∷ 0 ∷ 0 ∷ []) ≡ full (found 3 6 6 ∷ found 3 0 5 ∷ found 3 0 3 ∷ [])
   pub at-the-one-between : find 3 (0 ∷ 5 ∷ 0 ∷ []) ≡ full (found 3 0 6 ∷ found 3 5 5 ∷ found 3 0 3 ∷ [])
-  pub beside-a-floating-net : find 4 (0 ∷ 0 ∷ 9 ∷ 0 ∷ []) ≡ full (found 3 0 12 ∷ found 1 0 0 ∷ found 3 9 9 ∷ found 3 0 5 ∷ [])
+  pub beside-a-net-alone : find 4 (0 ∷ 0 ∷ 9 ∷ 0 ∷ []) ≡ full (found 3 0 12 ∷ found 1 0 0 ∷ found 3 9 9 ∷ found 3 0 5 ∷ [])
   pub at-one-that-is-not-open : find 3 (0 ∷ 0 ∷ 7 ∷ []) ≡ full (found 3 0 6 ∷ found 3 0 5 ∷ found 2 7 3 ∷ [])
   pub with-a-third-driver : find 4 (0 ∷ 0 ∷ 0 ∷ 7 ∷ []) ≡ full (found 3 0 14 ∷ found 3 0 13 ∷ found 3 0 11 ∷ found 3 7 7 ∷ [])
   pub one-of-them-reached : find 3 (4 ∷ 0 ∷ 3 ∷ []) ≡ full (found 3 4 6 ∷ found 3 0 5 ∷ found 3 3 3 ∷ [])

@@ -6,7 +6,7 @@ use mathlib.Core.List.{List, _++_}
 use Prim.Native.Nat.{ℕ}
 use lib.ListN.{length}
 use Rattle.words.specs.Answers.{Answer, ByTable, Decides, Decided}
-use Rattle.words.proofs.Tests.{contrary, decides-or, decides-and}
+use Rattle.words.proofs.Tests.{decides-itself, decides-or, decides-and}
 use Rattle.words.proofs.Answers.{decided-append, tests-by-table, table-determined}
 use Rattle.network.specs.Rows.{SetRows, Row12, set-tests, no-room}
 use Rattle.network.proofs.Rows.{decides-set, decides-row-9, decides-high-bit, decides-row-12}
@@ -17,7 +17,7 @@ use Rattle.reader.specs.Reader.{reader-tests, read-answer}
 
 decides-given-row : (file : List ℕ) {b : Bool} {B : Type 0} → Decides b B
     → Decides (has-responses file && b) ((has-responses file ≡ true) × B)
-decides-given-row file d = decides-and (λ e. e, λ e h. contrary h e) d
+decides-given-row file d = decides-and (decides-itself (has-responses file)) d
 
 decides-either-room : (vectors-size vectors-room responses-size responses-room : ℕ)
     → Decides (no-room vectors-size vectors-room || no-room responses-size responses-room)
