@@ -36,6 +36,27 @@ fn check_and_diagnosis() {
     }
 }
 
+/// For class n they take no more than all else.
+#[test]
+fn check_and_diagnosis_of_class_n() {
+    let g = &mut Generator::new(17);
+    let (vectors, board) = (largest_set(g), state(g, N, N));
+    let responses = respond(N, N, &vectors, &board).unwrap();
+    let verdict = on_a_stack_of(OTHER_STACK_BYTES, || check(N, N, &vectors));
+    let found = on_a_stack_of(OTHER_STACK_BYTES, || diagnose(N, N, &vectors, &responses));
+    assert_eq!((verdict, found), (Ok(Verdict::Pass), Ok(board)));
+}
+
+/// So does a check that has few sets to search.
+#[test]
+fn small_checks() {
+    let g = &mut Generator::new(18);
+    for (n, class) in [(2, 1), (7, 3), (N, 1)] {
+        let vectors = walking_set(g, n);
+        assert_eq!(on_a_stack_of(OTHER_STACK_BYTES, || check(n, class, &vectors)), Ok(Verdict::Pass));
+    }
+}
+
 #[test]
 fn response_and_findings() {
     let g = &mut Generator::new(16);

@@ -1,5 +1,7 @@
 pub mod Verdicts
 pub mod Separation
 pub mod Walking
-pub mod Stored
+pub mod Visits
+pub mod Branches
+pub mod Lookups
 pub mod Checking

@@ -39,7 +39,7 @@ Shows net k vectors (Pair a b) = SetsAlike net k vectors a b
 
 -- ---- k below n
 
-bounded-shows : (net : Network) (k : ℕ) (vectors : List ℕ) (v : Verdict) → BoundedRule net k vectors v → Shows net k vectors v
+pub bounded-shows : (net : Network) (k : ℕ) (vectors : List ℕ) (v : Verdict) → BoundedRule net k vectors v → Shows net k vectors v
 bounded-shows net k vectors Pass none = λ a b p q h. apart a b p q h (three-ways a b)
   where
     apart : (a b : ℕ) → DriverSet net k a → DriverSet net k b → ReadAlike net vectors a b → (a < b) ⊎ ((a ≡ b) ⊎ (b < a)) → a ≡ b

@@ -33,7 +33,7 @@ module _ (net : Network) (k : ℕ) (vectors : List ℕ) where
   smaller-test : ℕ → ℕ → Bool
   smaller-test b a = few-drivers net k a && eqb (sequential-response net vectors a) (sequential-response net vectors b)
 
-  unfoldable pub confused-test : ℕ → Bool
+  confused-test : ℕ → Bool
   confused-test b = few-drivers net k b && is-found (smaller-alike net k vectors b)
 
   smaller-is : (b : ℕ) → Least (smaller-test b) 0 b (smaller-alike net k vectors b)
@@ -62,7 +62,7 @@ module _ (net : Network) (k : ℕ) (vectors : List ℕ) where
       go (Found x) r = refl
       go Missing (nowhere none) = contrary (passes-smaller a b h) (none a zero-le (h .smaller))
 
-  bounded-rule : BoundedRule net k vectors (bounded-verdict net k vectors)
+  pub bounded-rule : BoundedRule net k vectors (bounded-verdict net k vectors)
   unfolding bounded-verdict confused-test is-found
   bounded-rule = go (least (2 ^ (net .nets)) 0 confused-test) (least-below confused-test (2 ^ (net .nets)))
     where

@@ -1,3 +1,4 @@
 pub mod Rule
+pub mod Seen
 pub mod Check
 pub mod Open

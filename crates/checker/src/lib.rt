@@ -6,7 +6,8 @@ ghost use lib.ListN.{length};
 ghost use Rattle.checker.specs.Rule.{verdict};
 ghost use Rattle.checker.specs.Check.{«check-answer», meaning};
 
-mod bounded;
+pub mod bounded;
+mod search;
 mod unbounded;
 
 use network::Admission;

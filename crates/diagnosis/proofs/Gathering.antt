@@ -1,90 +1,104 @@
 -- Reading back for k = n: the drivers gathered from the answers to the walking vectors.
-use mathlib.Core.Path.{_≡_, refl, sym, ap, _∙_}
-use mathlib.Core.Bool.{Bool, true, false, _||_}
-use mathlib.Core.Logic.{_⊎_, inl, inr, ⊎-elim, _≢_, _↔_}
+use mathlib.Core.Path.{_≡_, refl, sym, ap, ap₂, _∙_, subst}
+use mathlib.Core.Bool.{Bool, true, false, not, _&&_, _||_}
+use mathlib.Core.Logic.{_⊎_, inl, inr, ⊎-elim, _≢_}
 use mathlib.Core.List.{List}
-use Prim.Native.Nat.{ℕ, _+_, _^_, _≤_, _<_}
-use native.Mathlib.Nat.{not-suc-le-zero}
-use native.Mathlib.Omega.{arith}
+use Prim.Native.Nat.{ℕ, _-_, _^_, _<_}
 use lib.Bits.{bitOr, or-lt}
-use lib.Count.{trailingZeros}
+use lib.Dec.{eqb}
 use lib.ListN.{length}
 use lib.Pow.{pow-pos}
-use borrow.Author.Tests.{eqb-true}
+use borrow.Author.Tests.{eq-eqb, eqb-true}
 use Rattle.words.specs.Bits.{has, at}
-use Rattle.words.proofs.Tests.{contrary, less-or-not, or-cases, or-right, same-truth}
-use Rattle.words.proofs.Bits.{words-equal, has-zero, has-own, has-only, has-or}
-use Rattle.words.proofs.Classes.{trailing-of-power}
+use Rattle.words.proofs.Tests.{contrary, or-cases, or-right, same-truth}
+use Rattle.words.proofs.Bits.{words-equal, has-zero, has-power, has-without, has-or}
 use Rattle.network.specs.declared.Network.{Network}
 use Rattle.network.specs.Reading.{walking-vector, extra-vector, reads, sequential-response}
 use Rattle.network.proofs.Reading.{reads-floating, reads-walking, reads-extra, has-sequential}
+use Rattle.network.proofs.Walking.{Names}
 use Rattle.checker.specs.declared.Verdict.the-variants.{Pass}
 use Rattle.checker.specs.Rule.{FullRule, Rule}
-use Rattle.diagnosis.specs.ReadBack.{OnlyAnswer}
+use Rattle.checker.specs.Seen.{OnlyAnswer}
 use Rattle.diagnosis.specs.Walking.{Gathered, Walked}
 
--- the trailing zeros of a walking vector are its net
-pub walking-names : (net : Network) (vector i : ℕ) → net .nets ≤ 48 → i < net .nets → vector ≡ walking-vector net i
-    → trailingZeros 64 vector ≡ i
-unfolding walking-vector
-walking-names net vector i most l e = ap (trailingZeros 64) e ∙ trailing-of-power 64 i (omega arith)
-
--- what the set says of the vectors that name its driver
-abbrev pub Names : Network → ℕ → ℕ → Type 0
-Names net vector set = (set < 2 ^ (net .nets)) × ((i : ℕ) → i < net .nets → (has set i ≡ true) ↔ (vector ≡ walking-vector net i))
-
-pub names-none : (net : Network) (vector : ℕ) → ((i : ℕ) → i < net .nets → vector ≢ walking-vector net i) → Names net vector 0
-names-none net vector h = (pow-pos (net .nets), λ i l. (λ e. contrary e (has-zero i), λ e. absurd (h i l e)))
-
-pub names-one : (net : Network) (vector j : ℕ) → net .nets ≤ 48 → j < net .nets → trailingZeros 64 vector ≡ j
-    → vector ≡ walking-vector net j → 2 ^ j < 2 ^ (net .nets)
-    → Names net vector (2 ^ j)
-names-one net vector j most l name e inside = (
-  inside,
-  λ i m. (
-    λ h. e ∙ ap (walking-vector net) (has-only j i h),
-    λ q. ap (λ (x : ℕ). has (2 ^ x) i)
-        (sym name ∙ walking-names net vector i most m q) ∙ has-own i,
-  ),
-)
-
 module _ (net : Network) (vectors : List ℕ) (answered : ℕ) where
-  pub gathered-first : Gathered net vectors answered 0 0
-  gathered-first = record {
-    inside = pow-pos (net .nets);
-    driven = λ u l. absurd (not-suc-le-zero l);
-    sound = λ j l e. contrary e (has-zero j);
-    complete = λ j u l m. absurd (not-suc-le-zero m);
+  -- what is gathered while the answers of 1 in `rest` are still to be looked at
+  pub record Gathering (rest reach : ℕ) : Type 0 where
+    pub seen : ℕ
+    pub parts : (u : ℕ) → has answered u ≡ has seen u || has rest u
+    pub so-far : Gathered net vectors seen (length vectors) reach
+
+  pub gathering-first : Gathering answered 0
+  gathering-first = record {
+    seen = 0;
+    parts = λ u. rw (has-zero u);
+    so-far = record {
+      inside = pow-pos (net .nets);
+      driven = λ u l e. contrary e (has-zero u);
+      sound = λ j l e. contrary e (has-zero j);
+      complete = λ j u l m w e. contrary e (has-zero u);
+    };
   }
 
-  -- at or below t
-  last-or-before : (u t : ℕ) → u < t + 1 → (u < t) ⊎ (u ≡ t)
-  last-or-before u t l = ⊎-elim inl (λ m. inr (omega arith)) (less-or-not u t)
+  -- one of two parts moved to the other
+  moved : (a b c : Bool) → (c ≡ true → b ≡ true) → a || b ≡ (a || c) || (b && not c)
+  moved true b c h = refl
+  moved false b true h = h refl
+  moved false true false h = refl
+  moved false false false h = refl
 
-  pub gathered-skip : (t reach : ℕ) → Gathered net vectors answered t reach → has answered t ≡ false
-      → Gathered net vectors answered (t + 1) reach
-  gathered-skip t reach g off = record {
-    inside = g .inside;
-    driven = λ u l e. ⊎-elim (λ m. g .driven u m e) (λ q. contrary e (ap (has answered) q ∙ off)) (last-or-before u t l);
-    sound = λ j l e. let r = g .sound j l e in (r .0, omega (arith, r .1), r .2, r .3);
-    complete = λ j u l m w e. ⊎-elim (λ b. g .complete j u l b w e) (λ q. contrary e (ap (has answered) q ∙ off)) (last-or-before u t m);
-  }
-
-  pub gathered-add : (t reach set : ℕ) → Gathered net vectors answered t reach → has answered t ≡ true → at vectors t ≢ extra-vector net
-      → Names net (at vectors t) set → Gathered net vectors answered (t + 1) (bitOr reach set)
-  gathered-add t reach set g on other (inside, names) = record {
-    inside = or-lt (net .nets) reach set (g .inside) inside;
-    driven = λ u l e. ⊎-elim (λ m. g .driven u m e) (λ q. rw q other) (last-or-before u t l);
-    sound = λ j l e. from j l (or-cases (has reach j) (has set j) (sym (has-or reach set j) ∙ e));
-    complete = λ j u l m w e. has-or reach set j ∙ ⊎-elim
-        (λ b. ap (λ (x : Bool). x || has set j) (g .complete j u l b w e))
-        (λ q. or-right (has reach j) (has set j) (names j l .1 (ap (at vectors) (sym q) ∙ w))) (last-or-before u t m);
+  pub gathering-next : (t rest reach set : ℕ) → Gathering rest reach → t < length vectors → has rest t ≡ true
+      → at vectors t ≢ extra-vector net → Names net (at vectors t) set → Gathering (rest - 2 ^ t) (bitOr reach set)
+  gathering-next t rest reach set w lt on other (inside, names) = record {
+    seen = bitOr (w .seen) (2 ^ t);
+    parts = λ u. w .parts u
+        ∙ moved (has (w .seen) u) (has rest u) (eqb t u) (λ e. ap (has rest) (sym (eqb-true t u e)) ∙ on)
+        ∙ ap₂ (λ (a b : Bool). a || b) (sym (now-seen u)) (sym (has-without t rest u on));
+    so-far = record {
+      inside = or-lt (net .nets) reach set (g .inside) inside;
+      driven = λ u l e. ⊎-elim (λ f. g .driven u l f) (λ q. subst (λ (x : ℕ). at vectors x ≢ extra-vector net) q other) (seen-at u e);
+      sound = λ j l e. from j l (or-cases (has reach j) (has set j) (sym (has-or reach set j) ∙ e));
+      complete = λ j u l m v e. has-or reach set j ∙ ⊎-elim
+          (λ f. ap (λ (x : Bool). x || has set j) (g .complete j u l m v f))
+          (λ q. or-right (has reach j) (has set j) (names j l .1 (ap (at vectors) q ∙ v))) (seen-at u e);
+    };
   }
     where
+      g : Gathered net vectors (w .seen) (length vectors) reach
+      g = w .so-far
+
+      now-seen : (u : ℕ) → has (bitOr (w .seen) (2 ^ t)) u ≡ has (w .seen) u || eqb t u
+      now-seen u = has-or (w .seen) (2 ^ t) u ∙ ap (λ (b : Bool). has (w .seen) u || b) (has-power t u)
+
+      seen-at : (u : ℕ) → has (bitOr (w .seen) (2 ^ t)) u ≡ true → (has (w .seen) u ≡ true) ⊎ (t ≡ u)
+      seen-at u e = ⊎-elim inl (λ q. inr (eqb-true t u q)) (or-cases (has (w .seen) u) (eqb t u) (sym (now-seen u) ∙ e))
+
       from : (j : ℕ) → j < net .nets → (has reach j ≡ true) ⊎ (has set j ≡ true)
-          → (u : ℕ) × (u < t + 1) × (at vectors u ≡ walking-vector net j) × (has answered u ≡ true)
-      from j l (inl e) = let r = g .sound j l e in (r .0, omega (arith, r .1), r .2, r .3)
-      from j l (inr e) = (t, omega arith, names j l .0 e, on)
+          → (u : ℕ) × (u < length vectors) × (at vectors u ≡ walking-vector net j) × (has (bitOr (w .seen) (2 ^ t)) u ≡ true)
+      from j l (inl e) =
+          let r = g .sound j l e in
+          (r .0, r .1, r .2, now-seen (r .0) ∙ ap (λ (b : Bool). b || eqb t (r .0)) (r .3))
+      from j l (inr e) = (t, lt, names j l .0 e, now-seen t ∙ or-right (has (w .seen) t) (eqb t t) (eq-eqb t t refl))
+
+  -- no answer of 1 is left
+  pub gathering-last : (rest reach : ℕ) → Gathering rest reach → ((u : ℕ) → u < length vectors → has rest u ≡ false)
+      → Gathered net vectors answered (length vectors) reach
+  gathering-last rest reach w none = record {
+    inside = g .inside;
+    driven = λ u l e. g .driven u l (sym (same u l) ∙ e);
+    sound = λ j l e. let r = g .sound j l e in (r .0, r .1, r .2, same (r .0) (r .1) ∙ r .3);
+    complete = λ j u l m v e. g .complete j u l m v (sym (same u m) ∙ e);
+  }
+    where
+      g : Gathered net vectors (w .seen) (length vectors) reach
+      g = w .so-far
+
+      or-false : (b : Bool) → b || false ≡ b
+      or-false true = refl
+      or-false false = refl
+
+      same : (u : ℕ) → u < length vectors → has answered u ≡ has (w .seen) u
+      same u l = w .parts u ∙ ap (λ (b : Bool). has (w .seen) u || b) (none u l) ∙ or-false (has (w .seen) u)
 
   module _ (set : ℕ) (reads-so : sequential-response net vectors set ≡ answered) where
     answer-at : (t : ℕ) → t < length vectors → reads net set (at vectors t) ≡ has answered t

@@ -1,4 +1,4 @@
 pub mod ReadingBack
 pub mod DiagnosisLaws
 pub mod Gathering
-pub mod Noting
+pub mod PassedSets

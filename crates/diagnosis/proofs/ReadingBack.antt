@@ -26,7 +26,8 @@ use Rattle.network.specs.States.{DriverSet, State, Fits, few-drivers, has-confl
 use Rattle.network.proofs.Reading.{decides-reads, has-sequential, sequential-below, sequential-alike, response-is, response-determined}
 use Rattle.network.proofs.States.{few-drivers-at, few-drivers-of, no-conflict, conflict-free}
 use Rattle.checker.proofs.Separation.{SetsApart}
-use Rattle.diagnosis.specs.ReadBack.{reach-read, read-back, no-state-fits, OnlyAnswer}
+use Rattle.diagnosis.specs.ReadBack.{reach-read, read-back, no-state-fits}
+use Rattle.checker.specs.Seen.{OnlyAnswer}
 
 -- ---- answers of single receivers
 

@@ -10,7 +10,7 @@ use Rattle.words.specs.Turning.{tabulate, column}
 use Rattle.words.specs.declared.Search.{Search}
 use Rattle.network.specs.declared.Network.{Network}
 use Rattle.network.specs.Reading.{sequential-response}
-use Rattle.network.specs.States.{DriverSet, few-drivers, has-conflict}
+use Rattle.network.specs.States.{few-drivers, has-conflict}
 use Rattle.network.specs.Rows.{SetRows}
 use Rattle.checker.specs.declared.Verdict.the-variants.{Pass}
 use Rattle.checker.specs.Rule.{Rule}
@@ -30,10 +30,6 @@ unfoldable pub no-state-fits : Network → ℕ → (vectors responses : List ℕ
 no-state-fits net k vectors responses =
     let conflict = has-conflict net (read-back net k vectors responses) in
     any (net .nets) (λ i. not (is-found (reach-read net k vectors (column responses i)))) || conflict
-
--- no other set of the class can have answered so
-abbrev pub OnlyAnswer : Network → ℕ → List ℕ → ℕ → ℕ → Type 0
-OnlyAnswer net k vectors answered reach = (set : ℕ) → DriverSet net k set → sequential-response net vectors set ≡ answered → set ≡ reach
 
 -- a test set that rows 5 to 8 admit and the checker's rule passes
 abbrev pub Passed : Network → ℕ → List ℕ → Type 0

@@ -6,7 +6,7 @@ ghost use Prim.Native.Nat.{ℕ, _<_, _≤_, _^_};
 ghost use lib.ListN.{length};
 ghost use Rattle.words.specs.Bits.{at};
 ghost use Rattle.words.specs.Answers.{Decides};
-ghost use Rattle.words.specs.Turning.{column};
+ghost use Rattle.words.specs.Turning.{Columns};
 ghost use Rattle.network.specs.Reading.{response};
 use network::Network;
 use words::Ptv;
@@ -14,16 +14,9 @@ use words::Ptv;
 // The sequential word of each receiver: bit t is its bit in response t.
 pub fn answers_of(net: Network, responses: &[u64]) -> [u64; 48]
     requires { ⌜ (net .nets ≤ 48) × (length (now responses) ≤ 64) ⌝ }
-    ensures { λ r. ⌜ (length r ≡ 48) × ((i : ℕ) → i < net .nets → at r i ≡ column (now (responses .entry)) i) ⌝ }
+    ensures { λ r. ⌜ (length r ≡ 48) × Columns (net .nets) (now (responses .entry)) r ⌝ }
 {
-    let mut answers = [0u64; 48];
-    let mut i: u64 = 0;
-    while i < net.nets {
-        let answered = words::turning::sequential_word(responses, i);
-        answers[i as usize] = answered.0;
-        i += 1;
-    }
-    answers
+    words::turning::columns(responses, net.nets)
 }
 
 // The state's response compared with the whole response.

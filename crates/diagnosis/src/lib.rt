@@ -6,7 +6,8 @@ ghost use Rattle.words.specs.Bits.{at};
 ghost use Rattle.words.specs.Answers.{«count-of», «lent-after»};
 ghost use Rattle.words.specs.Turning.{column};
 ghost use Rattle.network.specs.Rows.{HighBit};
-ghost use Rattle.diagnosis.specs.ReadBack.{OnlyAnswer, Passed};
+ghost use Rattle.checker.specs.Seen.{OnlyAnswer};
+ghost use Rattle.diagnosis.specs.ReadBack.{Passed};
 ghost use Rattle.diagnosis.specs.Diagnosis.{«fit-answer», «diagnosis-answer», meaning};
 
 mod classes;

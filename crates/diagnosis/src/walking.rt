@@ -2,50 +2,34 @@
 // it. `walking_reach` needs no more than 48 nets and 64 vectors, and says what the answers show. `walking_reaches`
 // needs a test set that is passed for class n, and gives the only reaches that can have answered so.
 ghost use mathlib.Core.Path.{_≡_};
-ghost use mathlib.Core.Logic.{_↔_};
-ghost use mathlib.Core.Bool.{true};
-ghost use Prim.Native.Nat.{ℕ, _<_, _≤_, _^_};
+ghost use Prim.Native.Nat.{ℕ, _<_, _≤_};
 ghost use lib.ListN.{length};
-ghost use Rattle.words.specs.Bits.{has, at};
-ghost use Rattle.network.specs.Reading.{«walking-vector»};
-ghost use Rattle.diagnosis.specs.ReadBack.{OnlyAnswer, Passed};
+ghost use Rattle.words.specs.Bits.{at};
+ghost use Rattle.checker.specs.Seen.{OnlyAnswer};
+ghost use Rattle.diagnosis.specs.ReadBack.{Passed};
 ghost use Rattle.diagnosis.specs.Walking.{Walked};
 use network::Network;
 use words::Stv;
 
-// The driver that a walking vector names, as a set; the empty set for any other vector. Its trailing zeros are the net.
-fn walked_driver(net: Network, vector: u64) -> u64
-    requires { ⌜ net .nets ≤ 48 ⌝ }
-    ensures { λ r. ⌜ (r < 2 ^ (net .nets)) × ((i : ℕ) → i < net .nets → (has r i ≡ true) ↔ (vector ≡ walking-vector net i)) ⌝ }
-{
-    let i = words::sets::lowest_net(vector);
-    if net.nets <= i {
-        return 0;
-    }
-    let walking = network::drivers::walking_vector(net, i);
-    if vector != walking.0 {
-        return 0;
-    }
-    words::sets::bit_word(i)
-}
-
-// The drivers whose walking vectors the receiver answered with 1, or none if it answered so to the extra vector.
+// The drivers whose walking vectors the receiver answered with 1, or none if it answered so to the extra vector. Only
+// the answers of 1 are gone through.
 pub fn walking_reach(net: Network, vectors: &[u64], answered: Stv) -> u64
     requires { ⌜ (net .nets ≤ 48) × (length (now vectors) ≤ 64) ⌝ }
     ensures { λ r. ⌜ Walked net (now (vectors .entry)) (answered .0) r ⌝ }
 {
     let extra = network::drivers::extra_vector(net);
+    let count = vectors.len() as u64;
     let mut reach: u64 = 0;
-    let mut t: usize = 0;
-    while t < vectors.len() {
-        let vector = vectors[t];
-        if (answered.0 >> t) % 2 == 1 {
-            if vector == extra.0 {
-                return 0;
-            }
-            reach |= walked_driver(net, vector);
+    let mut rest = answered.0;
+    let mut t = words::sets::lowest_net(rest);
+    while t < count {
+        let vector = vectors[t as usize];
+        if vector == extra.0 {
+            return 0;
         }
-        t += 1;
+        reach |= network::drivers::walked_driver(net, vector);
+        rest -= words::sets::bit_word(t);
+        t = words::sets::lowest_net(rest);
     }
     reach
 }

@@ -1,4 +1,5 @@
 pub mod Reading
+pub mod Joint
 pub mod States
 pub mod Rows
 pub mod Respond

@@ -1,6 +1,9 @@
 // Driver sets and vectors by name. Helpers between crates: the nets are those that row 5 admits.
 ghost use mathlib.Core.Path.{_≡_};
-ghost use Prim.Native.Nat.{_<_, _≤_};
+ghost use mathlib.Core.Logic.{_↔_};
+ghost use mathlib.Core.Bool.{true};
+ghost use Prim.Native.Nat.{ℕ, _<_, _≤_, _^_};
+ghost use Rattle.words.specs.Bits.{has};
 ghost use Rattle.network.specs.Reading.{«all-drivers», «all-but», «walking-vector», «extra-vector»};
 use crate::Network;
 use words::Ptv;
@@ -34,4 +37,20 @@ pub fn extra_vector(net: Network) -> Ptv
     ensures { λ r. ⌜ r .0 ≡ extra-vector net ⌝ }
 {
     Ptv(0)
+}
+
+// The driver that a walking vector names, as a set; the empty set for any other vector. Its trailing zeros are the net.
+pub fn walked_driver(net: Network, vector: u64) -> u64
+    requires { ⌜ net .nets ≤ 48 ⌝ }
+    ensures { λ r. ⌜ (r < 2 ^ (net .nets)) × ((i : ℕ) → i < net .nets → (has r i ≡ true) ↔ (vector ≡ walking-vector net i)) ⌝ }
+{
+    let i = words::sets::lowest_net(vector);
+    if net.nets <= i {
+        return 0;
+    }
+    let walking = walking_vector(net, i);
+    if vector != walking.0 {
+        return 0;
+    }
+    vector
 }

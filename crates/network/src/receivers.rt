@@ -4,6 +4,7 @@ ghost use Prim.Native.Nat.{ℕ, _<_, _≤_, _^_};
 ghost use lib.ListN.{length};
 ghost use Rattle.words.specs.Bits.{at};
 ghost use Rattle.words.specs.Answers.{«lent-after», full};
+ghost use Rattle.network.specs.Joint.{«no-drivers», «with-driver»};
 ghost use Rattle.network.specs.Reading.{meets, reads, «sequential-response», «response-word», response};
 use crate::Network;
 use words::Ptv;
@@ -42,6 +43,20 @@ pub fn sequential_response(net: Network, vectors: &[u64], reach: u64) -> Stv
         t += 1;
     }
     Stv(w)
+}
+
+// What no drivers drive together along the vectors.
+pub fn no_drivers(net: Network, vectors: &[u64]) -> Stv
+    ensures { λ r. ⌜ r .0 ≡ no-drivers net (now (vectors .entry)) ⌝ }
+{
+    Stv(0)
+}
+
+// What some drivers drive together along the vectors, with one driver more.
+pub fn with_driver(net: Network, word: Stv, column: Stv) -> Stv
+    ensures { λ r. ⌜ r .0 ≡ with-driver net (word .0) (column .0) ⌝ }
+{
+    Stv(word.0 | column.0)
 }
 
 // Bit i is what receiver i reads on the vector.

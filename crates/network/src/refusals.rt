@@ -4,7 +4,7 @@ ghost use mathlib.Core.Path.{_≡_};
 ghost use Prim.Native.Nat.{ℕ, _<_, _≤_, _^_};
 ghost use lib.ListN.{length};
 ghost use Rattle.words.specs.Bits.{at};
-ghost use Rattle.network.specs.States.{«few-drivers», «has-wrong-reach», conflicts, «has-conflict», «not-a-state»};
+ghost use Rattle.network.specs.States.{«few-drivers», «has-wrong-reach», «has-conflict», «not-a-state»};
 ghost use Rattle.network.specs.Rows.{«bad-net-count», «bad-class», «bad-vector-count», «has-high-bit»};
 ghost use Rattle.network.specs.Rows.{«bad-response-count», «no-room», «set-admission», admission};
 use crate::Admission;
@@ -97,32 +97,27 @@ fn has_wrong_reach(net: Network, class: u64, state: &[u64]) -> bool
     false
 }
 
-// A reach that meets this one and differs from it.
-fn conflicts(net: Network, state: &[u64], reach: u64) -> bool
-    requires { ⌜ reach < 2 ^ (net .nets) ⌝ }
-    ensures { λ r. ⌜ r ≡ conflicts net (now (state .entry)) reach ⌝ }
-{
-    let mut j: usize = 0;
-    while j < state.len() {
-        let other = state[j];
-        if crate::receivers::meets(net, reach, other) & (reach != other) {
-            return true;
-        }
-        j += 1;
-    }
-    false
-}
-
-// Two reaches that meet and differ.
+// Two reaches that meet and differ. Reaches that do not are equal or disjoint, so each is known by its lowest driver:
+// `taken` has the drivers of the reaches so far, `owners` at a driver the reach whose lowest it is.
 fn has_conflict(net: Network, state: &[u64]) -> bool
+    requires { ⌜ net .nets ≤ 48 ⌝ }
     requires { ⌜ ((i : ℕ) → i < length (now state) → at (now state) i < 2 ^ (net .nets)) ⌝ }
     ensures { λ r. ⌜ r ≡ has-conflict net (now (state .entry)) ⌝ }
 {
+    let mut owners = [0u64; 48];
+    let mut taken: u64 = 0;
     let mut i: usize = 0;
     while i < state.len() {
-        if conflicts(net, state, state[i]) {
-            return true;
+        let reach = state[i];
+        if reach & taken != 0 {
+            let owner = owners[words::sets::lowest_net(reach) as usize];
+            if owner != reach {
+                return true;
+            }
+        } else if reach != 0 {
+            owners[words::sets::lowest_net(reach) as usize] = reach;
         }
+        taken |= reach;
         i += 1;
     }
     false

@@ -1,18 +1,19 @@
 -- Laws of a word's bits. What stands above goes by `has` and these laws, and not by `/` and `%`.
-use mathlib.Core.Path.{_≡_, refl, sym, ap, _∙_}
+use mathlib.Core.Path.{_≡_, refl, sym, ap, ap₂, _∙_}
 use mathlib.Core.Bool.{Bool, true, false, not, _&&_, _||_, true≢false, false≢true}
 use mathlib.Core.Logic.{_≢_}
 use Prim.Native.Nat.{ℕ, zero, suc, _+_, _-_, _*_, _/_, _%_, _^_, _≤_, _<_, zero-le, min, max}
-use native.Mathlib.Nat.{mod-lt, zero-div, zero-lt-suc, div-one, le-of-suc-le-suc, not-suc-le-zero}
+use native.Mathlib.Nat.{mod-lt, zero-div, zero-lt-suc, div-one, le-of-suc-le-suc, lt-of-not-le, not-suc-le-zero}
 use native.Mathlib.Numerals.{one-add}
 use native.Mathlib.Omega.{arith}
 use lib.Dec.{eqb, eqb·zero-suc, eqb·suc-zero, eqb·suc-suc}
 use lib.Arith.{digits-mod, lt-one}
-use lib.Bits.{bitAnd, bitOr, and-step, or-step, and-shr, or-shr}
-use lib.Pow.{pow-pos, pow-lt, shr-shr}
-use borrow.Author.Tests.{eq-eqb, eqb-true}
+use lib.Bits.{bitAnd, bitOr, and-step, or-step, and-shr, or-shr, or-shifted}
+use lib.Pow.{pow-pos, pow-lt, pow-mono, shr-shr, split}
+use borrow.Author.Tests.{eq-eqb, ne-eqb, eqb-true}
 use mir.Val.{boolByte}
 use Rattle.words.specs.Bits.{bit, has, bit-value}
+use Rattle.words.proofs.Tests.{and-true, and-false}
 
 pub two-positive : zero < 2
 two-positive = zero-lt-suc 1
@@ -55,11 +56,11 @@ pub has-zero : (i : ℕ) → has 0 i ≡ false
 unfolding has
 has-zero i = rw zero-div
 
-has-half : (w i : ℕ) → has w (suc i) ≡ has (w / 2) i
+pub has-half : (w i : ℕ) → has w (suc i) ≡ has (w / 2) i
 unfolding has
 has-half w i = ap (λ (x : ℕ). eqb x 1) (bit-half w i)
 
-has-low : (w : ℕ) → has w 0 ≡ eqb (w % 2) 1
+pub has-low : (w : ℕ) → has w 0 ≡ eqb (w % 2) 1
 unfolding has
 has-low w = ap (λ (x : ℕ). eqb x 1) (bit-low w)
 
@@ -145,24 +146,57 @@ has-all (suc n) zero l = ap (λ (x : ℕ). has x 0) (all-suc n) ∙ has-lowest 1
 has-all (suc n) (suc i) l = ap (λ (x : ℕ). has x (suc i)) (all-suc n) ∙ has-rest 1 (2 ^ n - 1) i (omega arith)
     ∙ has-all n i (le-of-suc-le-suc l)
 
-but-zero : (n : ℕ) → 2 ^ suc n - 1 - 2 ^ 0 ≡ 0 + 2 * (2 ^ n - 1)
-but-zero n = let h = pow-pos n in omega arith
+less-suc : (n w : ℕ) → w < 2 ^ suc n → 2 ^ suc n - 1 - w ≡ 1 - w % 2 + 2 * (2 ^ n - 1 - w / 2)
+less-suc n w l = let h = pow-pos n in omega arith
 
-but-suc : (n i : ℕ) → i < n → 2 ^ suc n - 1 - 2 ^ suc i ≡ 1 + 2 * (2 ^ n - 1 - 2 ^ i)
-but-suc n i l = let h = pow-lt l in omega arith
+other-bit : (d : ℕ) → d < 2 → eqb (1 - d) 1 ≡ not (eqb d 1)
+other-bit zero l = refl
+other-bit (suc zero) l = refl
+other-bit (suc (suc d)) l = absurd (not-suc-le-zero {n = 0} (omega arith))
+
+-- all bits but those of a word
+pub has-all-less : (n w j : ℕ) → w < 2 ^ n → j < n → has (2 ^ n - 1 - w) j ≡ not (has w j)
+has-all-less zero w j l m = absurd (not-suc-le-zero m)
+has-all-less (suc n) w zero l m =
+    ap (λ (x : ℕ). has x 0) (less-suc n w l) ∙ has-lowest (1 - w % 2) (2 ^ n - 1 - w / 2) (omega arith)
+    ∙ other-bit (w % 2) (mod-lt w two-positive) ∙ sym (ap not (has-low w))
+has-all-less (suc n) w (suc j) l m =
+    ap (λ (x : ℕ). has x (suc j)) (less-suc n w l) ∙ has-rest (1 - w % 2) (2 ^ n - 1 - w / 2) j (omega arith)
+    ∙ has-all-less n (w / 2) j (half-below n l) (le-of-suc-le-suc m) ∙ sym (ap not (has-half w j))
 
 pub has-all-but : (n i j : ℕ) → i < n → j < n → has (2 ^ n - 1 - 2 ^ i) j ≡ not (eqb i j)
-has-all-but zero i j l m = absurd (not-suc-le-zero l)
-has-all-but (suc n) zero zero l m = ap (λ (x : ℕ). has x 0) (but-zero n) ∙ has-lowest 0 (2 ^ n - 1) (omega arith)
-has-all-but (suc n) zero (suc j) l m =
-    ap (λ (x : ℕ). has x (suc j)) (but-zero n) ∙ has-rest 0 (2 ^ n - 1) j (omega arith)
-    ∙ has-all n j (le-of-suc-le-suc m) ∙ sym (ap not (eqb·zero-suc j))
-has-all-but (suc n) (suc i) zero l m =
-    ap (λ (x : ℕ). has x 0) (but-suc n i (le-of-suc-le-suc l)) ∙ has-lowest 1 (2 ^ n - 1 - 2 ^ i) (omega arith)
-    ∙ sym (ap not (eqb·suc-zero i))
-has-all-but (suc n) (suc i) (suc j) l m =
-    ap (λ (x : ℕ). has x (suc j)) (but-suc n i (le-of-suc-le-suc l)) ∙ has-rest 1 (2 ^ n - 1 - 2 ^ i) j (omega arith)
-    ∙ has-all-but n i j (le-of-suc-le-suc l) (le-of-suc-le-suc m) ∙ sym (ap not (eqb·suc-suc i j))
+has-all-but n i j l m = has-all-less n (2 ^ i) j (pow-lt l) m ∙ ap not (has-power i j)
+
+-- ---- a bit taken out of a word
+
+-- a word that has bit i is at least 2 ^ i
+pub has-at-least : (i w : ℕ) → has w i ≡ true → 2 ^ i ≤ w
+has-at-least zero w e = let h : w % 2 ≡ 1 = eqb-true _ _ (sym (has-low w) ∙ e) in omega arith
+has-at-least (suc i) w e = let h = has-at-least i (w / 2) (sym (has-half w i) ∙ e) in omega arith
+
+-- and it is a bit of the word's length
+pub has-inside : (n w i : ℕ) → w < 2 ^ n → has w i ≡ true → i < n
+has-inside n w i h e = lt-of-not-le (λ l. let p = pow-mono {i = n} {j = i} l in let q = has-at-least i w e in omega arith)
+
+pub has-without : (i w j : ℕ) → has w i ≡ true → has (w - 2 ^ i) j ≡ has w j && not (eqb i j)
+has-without zero w zero e =
+    let h : w % 2 ≡ 1 = eqb-true _ _ (sym (has-low w) ∙ e) in
+    has-low (w - 1) ∙ ne-eqb _ _ (λ (q : (w - 1) % 2 ≡ 1). omega arith) ∙ sym (and-false (has w 0))
+has-without zero w (suc j) e =
+    let h : w % 2 ≡ 1 = eqb-true _ _ (sym (has-low w) ∙ e) in
+    let half : (w - 1) / 2 ≡ w / 2 = omega arith in
+    has-half (w - 1) j ∙ ap (λ (x : ℕ). has x j) half ∙ sym (has-half w j) ∙ sym (and-true (has w (suc j)))
+    ∙ ap (λ (b : Bool). has w (suc j) && not b) (sym (eqb·zero-suc j))
+has-without (suc i) w zero e =
+    let h = has-at-least (suc i) w e in
+    let low : (w - 2 ^ suc i) % 2 ≡ w % 2 = omega arith in
+    has-low (w - 2 ^ suc i) ∙ ap (λ (x : ℕ). eqb x 1) low ∙ sym (has-low w) ∙ sym (and-true (has w 0))
+    ∙ ap (λ (b : Bool). has w 0 && not b) (sym (eqb·suc-zero i))
+has-without (suc i) w (suc j) e =
+    let h = has-at-least (suc i) w e in
+    let half : (w - 2 ^ suc i) / 2 ≡ w / 2 - 2 ^ i = omega arith in
+    has-half (w - 2 ^ suc i) j ∙ ap (λ (x : ℕ). has x j) half ∙ has-without i (w / 2) j (sym (has-half w i) ∙ e)
+    ∙ ap₂ (λ (a b : Bool). a && not b) (sym (has-half w j)) (sym (eqb·suc-suc i j))
 
 -- ---- two words that differ
 
@@ -240,3 +274,10 @@ unfolding has
 has-or a b i =
     ap (λ (x : ℕ). eqb (x % 2) 1) (or-shr a b i) ∙ ap (λ (x : ℕ). eqb x 1) (or-low (a / 2 ^ i) (b / 2 ^ i))
     ∙ max-or (bit a i) (bit b i) (bit-below-two a i) (bit-below-two b i)
+
+-- a bit below all bits of a word, put into it
+pub has-with : (limit c s j : ℕ) → c < limit → s % 2 ^ limit ≡ 0 → has (s + 2 ^ c) j ≡ has s j || eqb c j
+has-with limit c s j h e =
+    let q : s / 2 ^ limit * 2 ^ limit ≡ s = omega (arith, split s limit) in
+    let joined : bitOr s (2 ^ c) ≡ s + 2 ^ c = rw q at (or-shifted (s / 2 ^ limit) limit (2 ^ c) (pow-lt h)) in
+    ap (λ (x : ℕ). has x j) (sym joined) ∙ has-or s (2 ^ c) j ∙ ap (λ (b : Bool). has s j || b) (has-power c j)

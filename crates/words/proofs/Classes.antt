@@ -1,13 +1,16 @@
--- Counts of ones, trailing zeros, and the next word of a class.
+-- Counts of ones, and trailing zeros.
 use mathlib.Core.Path.{_≡_, refl, sym, ap, ap₂, _∙_}
-use Prim.Native.Nat.{ℕ, zero, suc, _+_, _-_, _*_, _/_, _%_, _^_, _≤_, _<_, zero-le}
-use native.Mathlib.Nat.{mod-eq-of-lt, lt-of-not-le, mod-lt, not-suc-le-zero, pow-suc, mod-one, add-zero}
+use mathlib.Core.Bool.{true, false}
+use Prim.Native.Nat.{ℕ, zero, suc, _+_, _-_, _*_, _/_, _%_, _^_, _≤_, _<_, zero-le, min}
+use native.Mathlib.Nat.{mod-eq-of-lt, lt-of-not-le, mod-lt, not-suc-le-zero, le-of-suc-le-suc, pow-suc, mod-one, add-zero, one-mul}
 use native.Mathlib.Omega.{arith}
 use lib.Arith.{lt-one, mod-mul, bin-ind}
+use lib.Bits.{bitAnd, and-step, and-self}
 use lib.Pow.{pow-pos, split}
 use lib.Count.{ones, onesIn, ones-step, ones-cat, trailingZeros, under}
-use Rattle.words.specs.Bits.{ones-of, Next}
-use Rattle.words.proofs.Bits.{two-positive}
+use borrow.Author.Tests.{eq-eqb, ne-eqb}
+use Rattle.words.specs.Bits.{has, ones-of}
+use Rattle.words.proofs.Bits.{two-positive, has-half, has-low}
 
 -- the count in n steps is the count of ones
 pub ones-counted : (n w : ℕ) → w < 2 ^ n → ones-of n w ≡ ones w
@@ -26,7 +29,7 @@ ones-of-zero zero = refl
 ones-of-zero (suc n) = let h = ones-of-zero n in omega arith
 
 -- a word that is not 0 has a one
-ones-positive : (n : ℕ) → 0 < n → 0 < ones n
+pub ones-positive : (n : ℕ) → 0 < n → 0 < ones n
 ones-positive = bin-ind (λ (n : ℕ). 0 < n → 0 < ones n) (λ h. absurd (not-suc-le-zero h)) (λ n ih h. step n ih h)
   where
     step : (n : ℕ) → (0 < n / 2 → 0 < ones (n / 2)) → 0 < n → 0 < ones n
@@ -35,11 +38,6 @@ ones-positive = bin-ind (λ (n : ℕ). 0 < n → 0 < ones n) (λ h. absurd (not-
         go : (d : ℕ) → n % 2 ≡ d → 0 < n % 2 + ones (n / 2)
         go zero e = omega (arith, ih (omega arith))
         go (suc d) e = omega arith
-
-pub positive-of-ones : (n : ℕ) → 0 < ones n → 0 < n
-unfolding ones
-positive-of-ones zero h = h
-positive-of-ones (suc n) h = omega arith
 
 -- ---- trailing zeros
 
@@ -70,6 +68,52 @@ lowest-one-at-most k n p =
     lt-of-not-le (λ h. let z : n ≡ 0 = sym (mod-eq-of-lt h) ∙ trailing-multiple k n in omega arith) in
     omega arith
 
+-- the lowest one is a one
+pub has-where-zeros-end : (k n : ℕ) → trailingZeros k n < k → has n (trailingZeros k n) ≡ true
+unfolding trailingZeros
+has-where-zeros-end zero n l = absurd (not-suc-le-zero l)
+has-where-zeros-end (suc k) n l = go (n % 2) refl l (has-where-zeros-end k (n / 2))
+  where
+    go : (d : ℕ) → n % 2 ≡ d → under d (trailingZeros k (n / 2)) < suc k
+        → (trailingZeros k (n / 2) < k → has (n / 2) (trailingZeros k (n / 2)) ≡ true)
+        → has n (under d (trailingZeros k (n / 2))) ≡ true
+    go zero e m ih = has-half n _ ∙ ih (le-of-suc-le-suc m)
+    go (suc d) e m ih = let odd : n % 2 ≡ 1 = let r = mod-lt n two-positive in omega arith in has-low n ∙ eq-eqb _ _ odd
+
+pub has-lowest-one : (k n : ℕ) → 0 < n → n < 2 ^ k → has n (trailingZeros k n) ≡ true
+has-lowest-one k n p h = has-where-zeros-end k n (trailing-inside k n p h)
+
+-- and there is none below it
+pub none-below-lowest : (k n z : ℕ) → z < trailingZeros k n → has n z ≡ false
+unfolding trailingZeros
+none-below-lowest zero n z l = absurd (not-suc-le-zero l)
+none-below-lowest (suc k) n z l = go (n % 2) z refl l (none-below-lowest k (n / 2))
+  where
+    go : (d y : ℕ) → n % 2 ≡ d → y < under d (trailingZeros k (n / 2)) → ((x : ℕ) → x < trailingZeros k (n / 2) → has (n / 2) x ≡ false)
+        → has n y ≡ false
+    go zero zero e m ih = has-low n ∙ ne-eqb _ _ (λ (q : n % 2 ≡ 1). omega arith)
+    go zero (suc y) e m ih = has-half n y ∙ ih y (le-of-suc-le-suc m)
+    go (suc d) y e m ih = absurd (not-suc-le-zero m)
+
+-- `w & (w - 1)` takes the lowest one out
+pub lowest-one-out : (k n : ℕ) → 0 < n → n < 2 ^ k → bitAnd n (n - 1) ≡ n - 2 ^ trailingZeros k n
+unfolding trailingZeros
+lowest-one-out zero n p h = absurd (not-suc-le-zero {n = 0} (omega arith))
+lowest-one-out (suc k) n p h = and-step n (n - 1) ∙ go (n % 2) refl (lowest-one-out k (n / 2))
+  where
+    go : (d : ℕ) → n % 2 ≡ d → (0 < n / 2 → n / 2 < 2 ^ k → bitAnd (n / 2) (n / 2 - 1) ≡ n / 2 - 2 ^ trailingZeros k (n / 2))
+        → bitAnd (n / 2) ((n - 1) / 2) * 2 + min (n % 2) ((n - 1) % 2) ≡ n - 2 ^ under d (trailingZeros k (n / 2))
+    go zero e ih =
+        let half : (n - 1) / 2 ≡ n / 2 - 1 = omega arith in
+        let t = trailingZeros k (n / 2) in
+        let rest : bitAnd (n / 2) ((n - 1) / 2) ≡ n / 2 - 2 ^ t = ap (bitAnd (n / 2)) half ∙ ih (omega arith) (omega arith) in
+        let whole : bitAnd (n / 2) ((n - 1) / 2) * 2 + min (n % 2) ((n - 1) % 2) ≡ n - 2 ^ suc t = omega arith in
+        whole
+    go (suc d) e ih =
+        let half : (n - 1) / 2 ≡ n / 2 = omega arith in
+        let rest : bitAnd (n / 2) ((n - 1) / 2) ≡ n / 2 = ap (bitAnd (n / 2)) half ∙ and-self (n / 2) in
+        omega arith
+
 -- the trailing zeros of a walking vector name its net
 pub trailing-of-power : (k i : ℕ) → i < k → trailingZeros k (2 ^ i) ≡ i
 unfolding trailingZeros
@@ -81,10 +125,10 @@ trailing-of-power (suc k) (suc i) h = go (2 ^ suc i % 2) (2 ^ suc i / 2) (omega 
     go zero x e f ih = ap suc (ap (trailingZeros k) f ∙ ih)
     go (suc d) x e f ih = absurd (not-suc-le-zero {n = 0} (omega arith))
 
--- ---- one more, and a carry out of the lowest one
+-- ---- ones of a sum
 
 -- r on top of a multiple of 2 ^ t, r below 2 ^ t: their ones add up
-ones-on-top : (t x r : ℕ) → x % 2 ^ t ≡ 0 → r < 2 ^ t → ones (x + r) ≡ ones x + ones r
+pub ones-on-top : (t x r : ℕ) → x % 2 ^ t ≡ 0 → r < 2 ^ t → ones (x + r) ≡ ones x + ones r
 unfolding ones
 ones-on-top t x r e h =
     let q : x / 2 ^ t * 2 ^ t ≡ x = omega (arith, split x t) in
@@ -92,56 +136,11 @@ ones-on-top t x r e h =
     let b : ones (x / 2 ^ t * 2 ^ t + 0) ≡ ones x = ap ones (add-zero _ ∙ q) in
     omega (arith, ones-cat t (x / 2 ^ t) r h, ones-cat t (x / 2 ^ t) 0 (pow-pos t))
 
-ones-one-more : (x : ℕ) → ones (x + 1) ≤ ones x + 1
+-- one bit more, at the top
+pub ones-top : (n z : ℕ) → z < 2 ^ n → ones (2 ^ n + z) ≡ suc (ones z)
 unfolding ones
-ones-one-more = bin-ind (λ (n : ℕ). ones (n + 1) ≤ ones n + 1) (omega arith) (λ n ih. step n ih (n % 2) refl)
-  where
-    step : (n : ℕ) → ones (n / 2 + 1) ≤ ones (n / 2) + 1 → (d : ℕ) → n % 2 ≡ d → ones (n + 1) ≤ ones n + 1
-    step n ih zero e =
-        let h : (n + 1) / 2 ≡ n / 2 = omega arith in
-        omega (arith, ones-step n, ones-step (n + 1), ap ones h)
-    step n ih (suc d) e =
-        let h : (n + 1) / 2 ≡ n / 2 + 1 = omega arith in
-        omega (arith, ones-step n, ones-step (n + 1), ap ones h)
+ones-top n z l = let e = rw (one-mul (2 ^ n)) at (ones-cat n 1 z l) in omega arith
 
-ones-carried : (k n : ℕ) → 0 < n → n < 2 ^ k → ones (n + 2 ^ trailingZeros k n) ≤ ones n
-unfolding trailingZeros
-ones-carried zero n p h = absurd (omega arith)
-ones-carried (suc k) n p h = go (n % 2) refl (ones-carried k (n / 2))
-  where
-    go : (d : ℕ) → n % 2 ≡ d → (0 < n / 2 → n / 2 < 2 ^ k → ones (n / 2 + 2 ^ trailingZeros k (n / 2)) ≤ ones (n / 2))
-        → ones (n + 2 ^ under d (trailingZeros k (n / 2))) ≤ ones n
-    go zero e ih =
-        let t = trailingZeros k (n / 2) in
-        let h2 : (n + 2 ^ suc t) / 2 ≡ n / 2 + 2 ^ t = omega arith in
-        omega (arith, ih (omega arith) (omega arith), ones-step n, ones-step (n + 2 ^ suc t), ap ones h2)
-    go (suc d) e ih =
-        let h2 : (n + 1) / 2 ≡ n / 2 + 1 = omega arith in
-        omega (arith, ones-one-more (n / 2), ones-step n, ones-step (n + 1), ap ones h2)
-
--- ---- the next word of a class, as the code finds it
-
-module _ (k w : ℕ) where
-  -- below the full count: one more
-  pub next-up : ones w < k → Next k w (w + 1)
-  next-up h = record {
-    above = omega arith;
-    few = omega (arith, ones-one-more w);
-    smallest = λ y l m. absurd (not-suc-le-zero {n = 0} (omega arith));
-  }
-
-  -- at the full count: a carry out of the lowest one
-  pub next-carried : 0 < w → w < 2 ^ 64 → k ≤ ones w → ones w ≤ k → Next k w (w + 2 ^ trailingZeros 64 w)
-  next-carried p h least most = record {
-    above = omega (arith, pow-pos (trailingZeros 64 w));
-    few = omega (arith, ones-carried 64 w p h);
-    smallest = λ y l m. between y l m;
-  }
-    where
-      between : (y : ℕ) → w < y → y < w + 2 ^ trailingZeros 64 w → k < ones y
-      between y l m =
-          let r = y - w in
-          let y-is : w + r ≡ y = omega arith in
-          let small : r < 2 ^ trailingZeros 64 w = omega arith in
-          let more : ones y ≡ ones w + ones r = ap ones (sym y-is) ∙ ones-on-top (trailingZeros 64 w) w r (trailing-multiple 64 w) small in
-          omega (arith, ones-positive r (omega arith))
+pub ones-power : (c : ℕ) → ones (2 ^ c) ≡ 1
+unfolding ones
+ones-power c = ap ones (sym (add-zero (2 ^ c))) ∙ ones-top c 0 (pow-pos c)

@@ -1,27 +1,28 @@
--- How many words a class has, and the search in their list.
-use mathlib.Core.Path.{_≡_, refl, ap, _∙_}
+-- How many words a class has, the entries of their list, and the search in it.
+use mathlib.Core.Path.{_≡_, refl, sym, ap, _∙_}
+use mathlib.Core.Logic.{_⊎_, inl, inr}
 use mathlib.Core.Bool.{Bool, true, false, _&&_}
 use mathlib.Core.List.{List, [], _∷_, _++_}
-use Prim.Native.Nat.{ℕ, zero, suc, _+_, _^_, _≤_, _<_, zero-le}
-use native.Mathlib.Nat.{not-suc-le-zero, le-of-suc-le-suc, one-mul}
+use Prim.Native.Nat.{ℕ, zero, suc, _+_, _-_, _^_, _≤_, _<_}
+use native.Mathlib.Nat.{not-suc-le-zero, le-of-suc-le-suc, le-refl}
 use native.Mathlib.Omega.{arith}
-use lib.Dec.{leb, leb·zero, leb·suc-zero, leb·suc-suc}
-use lib.Count.{ones, ones-cat}
+use lib.Dec.{leb, leb·zero, leb·suc-suc}
+use lib.Pow.{pow-pos, pow-mono}
+use lib.Count.{ones}
 use lib.ListN.{length}
-use borrow.Author.Tests.{le-leb, lt-leb}
+use lib.Seq.{getD-take}
+use borrow.Author.Tests.{leb-true, le-leb, lt-leb}
 use Rattle.words.specs.declared.Search.the-variants.{Found, Missing}
-use Rattle.words.specs.Bits.{at, Next}
-use Rattle.words.specs.Searching.{least, passing}
-use Rattle.words.proofs.Passing.{passing-same, count-parts, passing-yes, passing-gap, count-grows-past, least-in, none-in}
-
--- the words below b with at most k ones
-unfoldable pub sets-of-class : ℕ → ℕ → List ℕ
-sets-of-class k b = passing (λ z. leb (ones z) k) b
+use Rattle.words.specs.Bits.{at}
+use Rattle.words.specs.Searching.{least, passing, sets-of-class}
+use Rattle.words.proofs.Classes.{ones-top, ones-positive}
+use Rattle.words.proofs.Passing.{passing-same, passing-yes, passing-gap, passing-front}
+use Rattle.words.proofs.Passing.{count-parts, count-grows, count-grows-past, Entry, entry-of, entry-is, least-in, none-in}
 
 -- ---- the size of a class
 
 -- how many words of n bits have at most k ones
-class-size : ℕ → ℕ → ℕ
+unfoldable pub class-size : ℕ → ℕ → ℕ
 class-size n zero = 1
 class-size zero (suc k) = 1
 class-size (suc n) (suc k) = class-size n (suc k) + class-size n k
@@ -50,20 +51,20 @@ class-size-largest : class-size 48 3 ≡ 18473
 unfolding class-size
 class-size-largest = refl
 
--- one bit more, at the top
-ones-top : (n z : ℕ) → z < 2 ^ n → ones (2 ^ n + z) ≡ suc (ones z)
-unfolding ones
-ones-top n z l = let e = rw (one-mul (2 ^ n)) at (ones-cat n 1 z l) in omega arith
-
-sets-double : (n k : ℕ) → length (sets-of-class k (2 ^ suc n))
-    ≡ length (sets-of-class k (2 ^ n)) + length (passing (λ z. leb (suc (ones z)) k) (2 ^ n))
+-- below 2 ^ n + z: those below 2 ^ n, and with bit n those below z of the class below
+sets-above : (n k z : ℕ) → z ≤ 2 ^ n
+    → length (sets-of-class (suc k) (2 ^ n + z)) ≡ length (sets-of-class (suc k) (2 ^ n)) + length (sets-of-class k z)
 unfolding sets-of-class
+sets-above n k z l =
+    count-parts (λ y. leb (ones y) (suc k)) (2 ^ n) z
+    ∙ ap (λ (ws : List ℕ). length (sets-of-class (suc k) (2 ^ n)) + length ws)
+    (passing-same _ _ z (λ y m. ap (λ (x : ℕ). leb x (suc k)) (ones-top n y (omega arith)) ∙ leb·suc-suc (ones y) k))
+
+sets-double : (n k : ℕ)
+    → length (sets-of-class (suc k) (2 ^ suc n)) ≡ length (sets-of-class (suc k) (2 ^ n)) + length (sets-of-class k (2 ^ n))
 sets-double n k =
-    let p : ℕ → Bool = λ z. leb (ones z) k in
     let twice : 2 ^ suc n ≡ 2 ^ n + 2 ^ n = omega arith in
-    ap (λ (x : ℕ). length (passing p x)) twice ∙ count-parts p (2 ^ n) (2 ^ n)
-    ∙ ap (λ (x : List ℕ). length (passing p (2 ^ n)) + length x)
-    (passing-same _ _ (2 ^ n) (λ z l. ap (λ (x : ℕ). leb x k) (ones-top n z l)))
+    ap (λ (b : ℕ). length (sets-of-class (suc k) b)) twice ∙ sets-above n k (2 ^ n) (le-refl (2 ^ n))
 
 -- the word 0 alone
 sets-first : (k : ℕ) → sets-of-class k 1 ≡ 0 ∷ []
@@ -71,35 +72,137 @@ unfolding sets-of-class passing ones
 sets-first k = rw (leb·zero k)
 
 sets-counted : (n k : ℕ) → length (sets-of-class k (2 ^ n)) ≡ class-size n k
-unfolding sets-of-class class-size passing
-sets-counted zero zero = ap length (sets-first 0)
+unfolding sets-of-class class-size
+sets-counted n zero =
+    ap length (passing-gap _ 1 (2 ^ n) (pow-pos n) (λ z i j. lt-leb (ones z) 0 (ones-positive z i))) ∙ ap length (sets-first 0)
 sets-counted zero (suc k) = ap length (sets-first (suc k))
-sets-counted (suc n) zero =
-    let none : passing (λ z. leb (suc (ones z)) 0) (2 ^ n) ≡ [] = passing-gap _ 0 (2 ^ n) zero-le (λ z i j. leb·suc-zero (ones z)) in
-    sets-double n 0 ∙ rw (none, sets-counted n 0)
-sets-counted (suc n) (suc k) =
-    let less : passing (λ z. leb (suc (ones z)) (suc k)) (2 ^ n) ≡ sets-of-class k (2 ^ n) =
-    passing-same _ _ (2 ^ n) (λ z l. leb·suc-suc (ones z) k) in
-    sets-double n (suc k) ∙ rw (less, sets-counted n (suc k), sets-counted n k)
+sets-counted (suc n) (suc k) = sets-double n k ∙ rw (sets-counted n (suc k), sets-counted n k)
+
+pub sets-of-one : (n : ℕ) → length (sets-of-class 1 (2 ^ n)) ≡ n + 1
+unfolding class-size
+sets-of-one zero = sets-counted 0 1
+sets-of-one (suc n) = omega (arith, sets-double n 0, sets-of-one n, sets-counted n 0)
+
+pub sets-of-two : length (sets-of-class 2 (2 ^ 48)) ≡ 1177
+unfolding class-size
+sets-of-two = sets-counted 48 2
+
+pub sets-of-three : length (sets-of-class 3 (2 ^ 48)) ≡ 18473
+sets-of-three = sets-counted 48 3 ∙ class-size-largest
+
+-- more than the word 0: some bit
+pub sets-some : (n k i : ℕ) → 0 < i → i < length (sets-of-class k (2 ^ n)) → n ≡ suc (n - 1)
+sets-some zero k i p l = absurd (not-suc-le-zero {n = 0} (omega (arith, ap length (sets-first k))))
+sets-some (suc n) k i p l = omega arith
+
+-- a bit less
+pub sets-less : (n d k : ℕ) → n ≡ suc d
+    → length (sets-of-class (suc k) (2 ^ n)) ≡ length (sets-of-class (suc k) (2 ^ d)) + length (sets-of-class k (2 ^ d))
+sets-less n d k e = rw e (sets-double d k)
 
 -- ---- the bound
 
-sets-bound : (n k : ℕ) → n ≤ 48 → k ≤ 3 → length (sets-of-class k (2 ^ n)) ≤ 18473
+pub sets-bound : (n k : ℕ) → n ≤ 48 → k ≤ 3 → length (sets-of-class k (2 ^ n)) ≤ 18473
 sets-bound n k h l = omega (arith, sets-counted n k, class-size-grows n k 48 3 h l, class-size-largest)
 
--- there is room for one more
-pub sets-room : (n k b : ℕ) → n ≤ 48 → k ≤ 3 → b < 2 ^ n → ones b ≤ k → length (sets-of-class k b) < 18473
-unfolding sets-of-class
-sets-room n k b h l m e =
-    omega (arith, count-grows-past (λ z. leb (ones z) k) b (2 ^ n) m (le-leb (ones b) k e), sets-bound n k h l)
+-- no more than with more bits and more ones
+pub sets-most : (n k m j size : ℕ) → n ≤ m → k ≤ j → class-size m j ≤ size → length (sets-of-class k (2 ^ n)) ≤ size
+sets-most n k m j size h l room = omega (arith, sets-counted n k, class-size-grows n k m j h l, room)
 
--- ---- the next word of a class, and a search in a class
-
-pub sets-next : (k w next : ℕ) → Next k w next → ones w ≤ k → sets-of-class k next ≡ sets-of-class k w ++ w ∷ []
+-- a word of the class has fewer words of the class below it than a larger bound
+pub sets-fewer : (k a b : ℕ) → a < b → ones a ≤ k → length (sets-of-class k a) < length (sets-of-class k b)
 unfolding sets-of-class
-sets-next k w next n l =
+sets-fewer k a b l e = count-grows-past (λ z. leb (ones z) k) a b l (le-leb (ones a) k e)
+
+-- ---- the entries
+
+pub sets-below : (k b i : ℕ) → i < length (sets-of-class k b) → at (sets-of-class k b) i < b
+unfolding sets-of-class
+sets-below k b i l = entry-is (λ z. leb (ones z) k) b i l .below
+
+-- those below a stand at the front of those below b
+pub sets-front : (k a b i : ℕ) → a ≤ b → i < length (sets-of-class k a) → at (sets-of-class k a) i ≡ at (sets-of-class k b) i
+unfolding sets-of-class
+sets-front k a b i l m =
     let p : ℕ → Bool = λ z. leb (ones z) k in
-    passing-gap p (suc w) next (n .above) (λ z i j. lt-leb (ones z) k (n .smallest z i j)) ∙ passing-yes p w (le-leb (ones w) k l)
+    ap (λ (ws : List ℕ). at ws i) (sym (passing-front p a b l)) ∙ getD-take (length (passing p a)) (passing p b) i 0 m
+
+pub sets-zero : (k n : ℕ) → at (sets-of-class k (2 ^ n)) 0 ≡ 0
+sets-zero k n = sym (sets-front k 1 (2 ^ n) 0 (pow-pos n) (rw (sets-first k) (omega arith))) ∙ rw (sets-first k)
+
+-- after those below 2 ^ c come those of the class below, with bit c
+sets-entry : (k c i j : ℕ) → i ≡ length (sets-of-class (suc k) (2 ^ c)) + j → j < length (sets-of-class k (2 ^ c))
+    → at (sets-of-class (suc k) (2 ^ suc c)) i ≡ 2 ^ c + at (sets-of-class k (2 ^ c)) j
+unfolding sets-of-class
+sets-entry k c i j e l =
+    let y = at (sets-of-class k (2 ^ c)) j in
+    let r : Entry (λ z. leb (ones z) k) (2 ^ c) j y = entry-is (λ z. leb (ones z) k) (2 ^ c) j l in
+    let few : ones (2 ^ c + y) ≤ suc k = omega (arith, ones-top c y (r .below), leb-true (ones y) k (r .passes)) in
+    let index : i ≡ length (sets-of-class (suc k) (2 ^ c + y)) = omega (arith, e, sets-above c k y (omega (arith, r .below)), r .index) in
+    rw index (entry-of (λ z. leb (ones z) (suc k)) (2 ^ suc c) (2 ^ c + y) (omega (arith, r .below)) (le-leb _ _ few))
+
+-- one bit: after the word 0 the single bits
+pub sets-single : (n i : ℕ) → i < n → at (sets-of-class 1 (2 ^ n)) (suc i) ≡ 2 ^ i
+unfolding class-size
+sets-single n i l =
+    let entry = sets-entry 0 i (suc i) 0 (omega (arith, sets-of-one i)) (omega (arith, sets-counted i 0)) in
+    let front = sets-front 1 (2 ^ suc i) (2 ^ n) (suc i) (pow-mono {i = suc i} {j = n} l) (omega (arith, sets-of-one (suc i))) in
+    omega (arith, entry, front, sets-zero 0 i)
+
+-- at most one bit: an entry of the class 0 is one of the class 1
+pub sets-few : (k n i : ℕ) → k ≤ 1 → i < length (sets-of-class k (2 ^ n))
+    → (i ≤ n) × (at (sets-of-class 1 (2 ^ n)) i ≡ at (sets-of-class k (2 ^ n)) i)
+unfolding class-size
+sets-few zero n zero h l = (omega arith, sets-zero 1 n ∙ sym (sets-zero 0 n))
+sets-few zero n (suc i) h l = absurd (not-suc-le-zero {n = 0} (omega (arith, sets-counted n 0)))
+sets-few (suc zero) n i h l = (omega (arith, sets-of-one n), refl)
+sets-few (suc (suc k)) n i h l = absurd (not-suc-le-zero (le-of-suc-le-suc h))
+
+-- the entry i of the words below 2 ^ n with at most k + 1 ones has no bit above bit c
+pub record Top (k n i c : ℕ) : Type 0 where
+  pub low : c ≤ n
+  inside : i < length (sets-of-class (suc k) (2 ^ suc c))
+  same : at (sets-of-class (suc k) (2 ^ n)) i ≡ at (sets-of-class (suc k) (2 ^ suc c)) i
+
+pub top-first : (k n i : ℕ) → i < length (sets-of-class (suc k) (2 ^ n)) → Top k n i n
+top-first k n i l = record {
+  low = le-refl n;
+  inside = omega (arith, sets-double n k);
+  same = sets-front (suc k) (2 ^ n) (2 ^ suc n) i (omega arith) l;
+}
+
+module _ (k n i c : ℕ) (t : Top k n i c) where
+  -- not bit c
+  pub top-less : (d : ℕ) → c ≡ suc d → i < length (sets-of-class (suc k) (2 ^ c)) → Top k n i d
+  top-less d e l = record {
+    low = omega (arith, t .low);
+    inside = rw e at l;
+    same =
+        t .same ∙ sym (sets-front (suc k) (2 ^ c) (2 ^ suc c) i (omega arith) l) ∙ ap (λ (b : ℕ). at (sets-of-class (suc k) (2 ^ b)) i) e;
+  }
+
+  -- bit c: the rest is a word of the class below
+  pub top-rest : (s : ℕ) → s ≡ length (sets-of-class (suc k) (2 ^ c)) → s ≤ i → i - s < length (sets-of-class k (2 ^ c))
+  top-rest s e l = omega (arith, t .inside, sets-double c k)
+
+  pub top-is : (s : ℕ) → s ≡ length (sets-of-class (suc k) (2 ^ c)) → s ≤ i
+      → at (sets-of-class (suc k) (2 ^ n)) i ≡ 2 ^ c + at (sets-of-class k (2 ^ c)) (i - s)
+  top-is s e l = t .same ∙ sets-entry k c i (i - s) (omega arith) (top-rest s e l)
+
+-- ---- one number more, and a search in a class
+
+-- a set of the class, and numbers that are none
+pub sets-with : (k w : ℕ) → ones w ≤ k → sets-of-class k (suc w) ≡ sets-of-class k w ++ w ∷ []
+unfolding sets-of-class
+sets-with k w l = passing-yes (λ z. leb (ones z) k) w (le-leb (ones w) k l)
+
+pub sets-gap : (k a b : ℕ) → a ≤ b → ((z : ℕ) → a ≤ z → z < b → k < ones z) → sets-of-class k b ≡ sets-of-class k a
+unfolding sets-of-class
+sets-gap k a b l h = passing-gap (λ z. leb (ones z) k) a b l (λ z i j. lt-leb (ones z) k (h z i j))
+
+pub sets-grow : (k a b : ℕ) → a ≤ b → length (sets-of-class k a) ≤ length (sets-of-class k b)
+unfolding sets-of-class
+sets-grow k = count-grows (λ z. leb (ones z) k)
 
 module _ (k b : ℕ) (q : ℕ → Bool) where
   pub least-in-class : (m : ℕ) → m < length (sets-of-class k b) → q (at (sets-of-class k b) m) ≡ true

@@ -76,13 +76,13 @@ map-more f xs t h = rw (add-one, take-suc xs t 0) (map-snoc f (take t xs) (at xs
 length-map-take : {B : Type 0} (f : ℕ → B) (xs : List ℕ) (t : ℕ) → t ≤ length xs → length (map f (take t xs)) ≡ t
 length-map-take f xs t h = length-map (take t xs) f ∙ length-take-le t xs h
 
-word-more : (f : ℕ → Bool) (xs : List ℕ) (t : ℕ) → t < length xs
+pub word-more : (f : ℕ → Bool) (xs : List ℕ) (t : ℕ) → t < length xs
     → word (map f (take (t + 1) xs)) ≡ word (map f (take t xs)) + bit-value (f (at xs t)) * 2 ^ t
 word-more f xs t h =
     ap word (map-more f xs t h) ∙ word-snoc (map f (take t xs)) (f (at xs t))
     ∙ ap (λ (n : ℕ). word (map f (take t xs)) + bit-value (f (at xs t)) * 2 ^ n) (length-map-take f xs t (omega arith))
 
-word-small : (f : ℕ → Bool) (xs : List ℕ) (t : ℕ) → t ≤ length xs → word (map f (take t xs)) < 2 ^ t
+pub word-small : (f : ℕ → Bool) (xs : List ℕ) (t : ℕ) → t ≤ length xs → word (map f (take t xs)) < 2 ^ t
 word-small f xs t h = rw (length-map-take f xs t h) at (word-below (map f (take t xs)))
 
 -- `w | 1 << t` above all of w's bits

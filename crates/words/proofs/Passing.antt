@@ -59,7 +59,7 @@ module _ (p : ℕ → Bool) where
       (λ m. let n = le-of-suc-le-suc m in passing-no b (h b n (le-refl (suc b))) ∙ passing-gap a b n (λ z i j. h z i (omega arith)))
       (eq-or-lt-of-le l)
 
-  count-grows : (a b : ℕ) → a ≤ b → length (passing p a) ≤ length (passing p b)
+  pub count-grows : (a b : ℕ) → a ≤ b → length (passing p a) ≤ length (passing p b)
   count-grows a zero l = let e : a ≡ 0 = omega arith in rw e (le-refl _)
   count-grows a (suc b) l =
       ⊎-elim (λ e. rw e (le-refl _)) (λ m. omega (arith, count-step p b, count-grows a b (le-of-suc-le-suc m))) (eq-or-lt-of-le l)

@@ -31,9 +31,3 @@ at ws i = getD ws i 0
 -- document 01's "count of ones" of a word below 2 ^ n, counted in n steps
 abbrev pub ones-of : ℕ → ℕ → ℕ
 ones-of n w = onesIn n w
-
--- The next word of a class in ascending order: the smallest above w with at most k ones.
-pub record Next (k w next : ℕ) : Type 0 where
-  pub above : w < next
-  pub few : ones next ≤ k
-  pub smallest : (y : ℕ) → w < y → y < next → k < ones y

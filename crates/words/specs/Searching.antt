@@ -2,7 +2,8 @@
 use Prim.Native.Nat.{ℕ, zero, suc}
 use mathlib.Core.Bool.{Bool, true, false, cond}
 use mathlib.Core.List.{List, [], _∷_, _++_}
-use lib.Dec.{eqb}
+use lib.Count.{ones}
+use lib.Dec.{eqb, leb}
 use lib.ListN.{length}
 use Rattle.words.specs.Bits.{at}
 use Rattle.words.specs.declared.Search.{Search}
@@ -26,6 +27,10 @@ or-zero Missing = 0
 unfoldable pub passing : (ℕ → Bool) → ℕ → List ℕ
 passing p zero = []
 passing p (suc n) = let before = passing p n in cond (p n) (before ++ n ∷ []) before
+
+-- the driver sets of class k below b, ascending: the words with at most k ones
+unfoldable pub sets-of-class : ℕ → ℕ → List ℕ
+sets-of-class k b = passing (λ set. leb (ones set) k) b
 
 -- some number below n passes
 unfoldable pub any : ℕ → (ℕ → Bool) → Bool

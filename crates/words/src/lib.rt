@@ -1,5 +1,6 @@
 // Words of bits: parallel words across the nets, sequential words along the vectors.
 pub mod lists;
+pub mod ranks;
 pub mod sets;
 pub mod turning;
 

@@ -1,9 +1,7 @@
-// Driver sets as words: single bits, counts of ones, the sets of a class in order. Helpers between crates: some have a
-// requires.
+// Driver sets as words: single bits, counts of ones, trailing zeros. Helpers between crates: `bit_word` has a requires.
 ghost use mathlib.Core.Path.{_≡_};
-ghost use Prim.Native.Nat.{_<_, _≤_, _^_};
+ghost use Prim.Native.Nat.{_<_, _^_};
 ghost use lib.Count.{ones, trailingZeros};
-ghost use Rattle.words.specs.Bits.{Next};
 
 // The word with bit i alone.
 pub fn bit_word(i: u64) -> u64
@@ -25,16 +23,4 @@ pub fn lowest_net(vector: u64) -> u64
     ensures { λ r. ⌜ r ≡ trailingZeros 64 vector ⌝ }
 {
     u64::trailing_zeros(vector) as u64
-}
-
-// The next set of at most `class` drivers, in ascending order.
-pub fn next_in_class(set: u64, class: u64) -> u64
-    requires { ⌜ (set < 2 ^ 48) × (0 < class) × (ones set ≤ class) ⌝ }
-    ensures { λ r. ⌜ Next class set r ⌝ }
-{
-    if count_of_ones(set) < class {
-        set + 1
-    } else {
-        set + bit_word(lowest_net(set))
-    }
 }

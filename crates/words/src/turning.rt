@@ -1,21 +1,23 @@
-// Turning: from parallel words the sequential word of a net, from sequential words the parallel word of a vector. The
-// two are one exchange of rows and columns. Helpers between crates: at most 64 words, and an index below 64.
+// Turning: from parallel words the sequential words of the nets, from sequential words the parallel word of a vector.
+// The two are one exchange of rows and columns. Helpers between crates: at most 64 words, an index below 64, at most 48
+// nets.
 ghost use mathlib.Core.Path.{_≡_};
-ghost use Prim.Native.Nat.{_<_, _≤_};
+ghost use Prim.Native.Nat.{ℕ, _+_, _*_, _^_, _<_, _≤_};
 ghost use lib.ListN.{length};
-ghost use Rattle.words.specs.Turning.{column};
+ghost use Rattle.words.specs.Bits.{has, «bit-value», at};
+ghost use Rattle.words.specs.Turning.{column, Columns};
 use crate::Ptv;
 use crate::Stv;
 
-// Bit t is bit i of word t.
-fn column(words: &[u64], i: u64) -> u64
-    requires { ⌜ (length (now words) ≤ 64) × (i < 64) ⌝ }
-    ensures { λ r. ⌜ r ≡ column (now (words .entry)) i ⌝ }
+// Bit t is bit i of row t.
+fn column(rows: &[u64], i: u64) -> u64
+    requires { ⌜ (length (now rows) ≤ 64) × (i < 64) ⌝ }
+    ensures { λ r. ⌜ r ≡ column (now (rows .entry)) i ⌝ }
 {
     let mut w: u64 = 0;
     let mut t: usize = 0;
-    while t < words.len() {
-        if (words[t] >> i) % 2 == 1 {
+    while t < rows.len() {
+        if (rows[t] >> i) % 2 == 1 {
             w |= 1u64 << t;
         }
         t += 1;
@@ -23,12 +25,44 @@ fn column(words: &[u64], i: u64) -> u64
     w
 }
 
-// The sequential word of a net: bit t is its bit in vector t.
-pub fn sequential_word(vectors: &[u64], net: u64) -> Stv
-    requires { ⌜ (length (now vectors) ≤ 64) × (net < 64) ⌝ }
-    ensures { λ r. ⌜ r .0 ≡ column (now (vectors .entry)) net ⌝ }
+// Bit t into the column of each net whose driver drives 1 on the vector.
+fn add_row(vector: Ptv, t: u64, columns: &mut [u64; 48])
+    requires { ⌜ (vector .0 < 2 ^ 48) × (t < 64) × (length (now columns) ≡ 48) × ((i : ℕ) → i < 48 → at (now columns) i < 2 ^ t) ⌝ }
+    ensures { λ r. ⌜ (length (now (columns .exit)) ≡ 48) × ((i : ℕ) → i < 48
+        → at (now (columns .exit)) i ≡ at (now (columns .entry)) i + «bit-value» (has (vector .0) i) * 2 ^ t) ⌝ }
 {
-    Stv(column(vectors, net))
+    let row = crate::sets::bit_word(t);
+    let mut rest = vector.0;
+    while rest != 0 {
+        let i = crate::sets::lowest_net(rest);
+        columns[i as usize] += row;
+        rest &= rest - 1;
+    }
+}
+
+// All columns of parallel words below bit n: entry i is the sequential word of net i. Only the bits that are set are
+// gone through.
+pub fn columns(words: &[u64], n: u64) -> [u64; 48]
+    requires { ⌜ (length (now words) ≤ 64) × (n ≤ 48) ⌝ }
+    ensures { λ r. ⌜ (length r ≡ 48) × Columns n (now (words .entry)) r ⌝ }
+{
+    let inside = crate::sets::bit_word(n) - 1;
+    let mut columns = [0u64; 48];
+    let mut t: usize = 0;
+    while t < words.len() {
+        let word = words[t] & inside;
+        add_row(Ptv(word), t as u64, &mut columns);
+        t += 1;
+    }
+    columns
+}
+
+// The sequential word of a net, of columns turned before.
+pub fn sequential_word(columns: &[u64; 48], net: u64) -> Stv
+    requires { ⌜ net < 48 ⌝ }
+    ensures { λ r. ⌜ r .0 ≡ at (now (columns .entry)) net ⌝ }
+{
+    Stv(columns[net as usize])
 }
 
 // The parallel word of a vector: bit i is its bit in the sequential word of net i.

@@ -14,34 +14,36 @@ use std::hint::black_box;
 use timing::{print_head, print_lines};
 
 const N: u64 = 48;
+const FEW: u64 = 4;
 const SESSIONS: usize = 1000;
 const STATES: usize = 1000;
 
-/// Vector 0 and the walking vectors.
-fn walking() -> Vec<u64> {
-    std::iter::once(0).chain((0..N).map(|i| 1 << i)).collect()
+/// Vector 0 and the walking vectors of n nets.
+fn walking(n: u64) -> Vec<u64> {
+    std::iter::once(0).chain((0..n).map(|i| 1 << i)).collect()
 }
 
-/// Measures the check of one set for one class.
-fn bench_check(set: &str, vectors: &[u64], k: u64) {
+/// Measures the check of one set of n nets for one class.
+fn bench_check(n: u64, set: &str, vectors: &[u64], k: u64) {
     let (mut ours, mut theirs) = ([7; 3], [7; 3]);
-    assert_eq!(raw::check(N, k, vectors, &mut ours), plain::checker::check(pairs, N, k, vectors, &mut theirs));
+    assert_eq!(raw::check(n, k, vectors, &mut ours), plain::checker::check(pairs, n, k, vectors, &mut theirs));
     assert_eq!(ours, theirs);
-    assert_eq!(plain::checker::check(hash, N, k, vectors, &mut theirs), 0);
+    assert_eq!(plain::checker::check(hash, n, k, vectors, &mut theirs), 0);
     assert_eq!(ours, theirs);
     let verdict = if ours[0] == 0 { "pass" } else { "pair" };
     let mut by_pairs = [0; 3];
     let mut call = || {
-        black_box(raw::check(N, k, black_box(vectors), black_box(&mut ours)));
+        black_box(raw::check(n, k, black_box(vectors), black_box(&mut ours)));
     };
     let mut call_hash = || {
-        black_box(plain::checker::check(hash, N, k, black_box(vectors), black_box(&mut theirs)));
+        black_box(plain::checker::check(hash, n, k, black_box(vectors), black_box(&mut theirs)));
     };
     let mut call_pairs = || {
-        black_box(plain::checker::check(pairs, N, k, black_box(vectors), black_box(&mut by_pairs)));
+        black_box(plain::checker::check(pairs, n, k, black_box(vectors), black_box(&mut by_pairs)));
     };
-    let job = format!("check, k = {k}, {set}: {verdict}");
-    if k == N {
+    let nets = if n == N { String::new() } else { format!("n = {n}, ") };
+    let job = format!("check, {nets}k = {k}, {set}: {verdict}");
+    if k == n {
         print_lines(&job, &mut call, &mut [("rule", &mut call_hash)]);
     } else {
         print_lines(&job, &mut call, &mut [("pairs", &mut call_pairs), ("hash", &mut call_hash)]);
@@ -49,7 +51,7 @@ fn bench_check(set: &str, vectors: &[u64], k: u64) {
 }
 
 fn bench_diagnosis(k: u64, g: &mut Generator) {
-    let vectors = walking();
+    let vectors = walking(N);
     let state = g.state(N, k);
     let responses: Vec<u64> = vectors.iter().map(|vector| plain::read(&state, *vector)).collect();
     let (mut ours, mut theirs) = ([7; N as usize], [7; N as usize]);
@@ -169,13 +171,16 @@ fn bench_reader(g: &mut Generator) {
 
 fn main() {
     let g = &mut Generator(2024);
-    let walking = walking();
+    let (few, walking) = (walking(FEW), walking(N));
     let random: Vec<u64> = (0..20).map(|_| g.sparse(N)).collect();
     print_head();
     for k in [1, 2, 3, N] {
-        bench_check("walking", &walking, k);
-        bench_check("walking without the last", &walking[..N as usize], k);
-        bench_check("20 random", &random, k);
+        bench_check(N, "walking", &walking, k);
+        bench_check(N, "walking without the last", &walking[..N as usize], k);
+        bench_check(N, "20 random", &random, k);
+    }
+    for k in [1, 2, 3] {
+        bench_check(FEW, "walking", &few, k);
     }
     for k in [1, 2, 3, N] {
         bench_diagnosis(k, g);

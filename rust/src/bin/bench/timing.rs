@@ -45,6 +45,15 @@ fn shown(seconds: f64) -> String {
     }
 }
 
+/// Two digits after the point, and four where the first two would tell little.
+fn shown_ratio(ratio: f64) -> String {
+    if ratio < 0.1 {
+        format!("{ratio:.4}")
+    } else {
+        format!("{ratio:.2}")
+    }
+}
+
 pub fn print_head() {
     println!("| Job | Ours | Baseline | Its time | Ratio |");
     println!("|---|---|---|---|---|");
@@ -59,7 +68,7 @@ pub fn print_lines(job: &str, ours: &mut dyn FnMut(), baselines: &mut [Version])
     let ours = shown(median(rounds.iter().map(|times| times[0])));
     for (i, name) in (1..).zip(&names) {
         let theirs = shown(median(rounds.iter().map(|times| times[i])));
-        let ratio = median(rounds.iter().map(|times| times[0] / times[i]));
-        println!("| {job} | {ours} | {name} | {theirs} | {ratio:.2} |");
+        let ratio = shown_ratio(median(rounds.iter().map(|times| times[0] / times[i])));
+        println!("| {job} | {ours} | {name} | {theirs} | {ratio} |");
     }
 }

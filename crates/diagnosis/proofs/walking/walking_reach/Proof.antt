@@ -1,27 +1,43 @@
 use borrow.Author.Needs.{needs}
-use borrow.Author.Tests.{eq-eqb, ne-eqb}
-use Prim.Native.Nat.{ℕ, _≤_, _-_, _+_}
+use Prim.Native.Nat.{ℕ, _-_}
 use native.Mathlib.Omega.{arith}
-use mathlib.Core.Path.{_≡_, refl, sym, _∙_, subst}
-use mathlib.Core.Logic.{inl, inr, ⊎-elim}
-use lib.ListN.{length}
+use mathlib.Core.Path.{_≡_, refl, sym, ap, _∙_, subst}
+use mathlib.Core.Bool.{true}
+use mathlib.Core.Logic.{inl, inr}
+use lib.Bits.{bitOr}
+use lib.Count.{trailingZeros}
+use lib.Pow.{pow-pos}
 use Rattle.words.specs.Bits.{has}
-use Rattle.diagnosis.specs.Walking.{Gathered}
-use Rattle.diagnosis.proofs.Gathering.{gathered-first, gathered-skip, gathered-add}
+use Rattle.words.proofs.Tests.{or-right}
+use Rattle.words.proofs.Bits.{has-at-least}
+use Rattle.words.proofs.Classes.{has-where-zeros-end, none-below-lowest}
+use Rattle.diagnosis.proofs.Gathering.{Gathering, gathering-first, gathering-next, gathering-last}
 use Rattle.diagnosis.proofs.walking.walking_reach.Statement.{statement}
 use Rattle.diagnosis.proofs.walking.walking_reach.Tie as tie
 
+-- t is the first answer of 1 that is still to be looked at
 abbrev Inv-loop : tie.InvT-loop
-Inv-loop net vectors answered extra reach₀ t₀ reach t = (t ≤ length vectors) × Gathered net vectors (answered .0) t reach
+Inv-loop net vectors extra count reach₀ rest₀ t₀ reach rest t = (t ≡ trailingZeros 64 rest) × Gathering net vectors rest₀ rest reach
 
 abbrev μ-loop : tie.MeasureT-loop
-μ-loop net vectors answered extra reach₀ t₀ reach t = length vectors - t
+μ-loop net vectors extra count reach₀ rest₀ t₀ reach rest t = rest
 
 extra-vector-requires : tie.Need-extra-vector-requires Inv-loop μ-loop
 extra-vector-requires c κs = search needs
 
+lowest-net-requires : tie.Need-lowest-net-requires Inv-loop μ-loop
+lowest-net-requires c κs = search needs
+
 loop-holds : tie.Need-loop-holds Inv-loop μ-loop
-loop-holds c = let a = c .before .before .args in (search needs, gathered-first (a .net) (a .vectors .now) (a .answered .0))
+loop-holds c =
+    let a = c .before .before .before .args in
+    (c .lowest-net .ensures, gathering-first (a .net) (a .vectors .now) (a .answered .0))
+
+-- in the loop, the answer to vector t is 1
+on : (c : tie.In-loop Inv-loop μ-loop) → has (c .before .loop .rest) (c .before .loop .t) ≡ true
+on c =
+    let l = c .before .loop in
+    ap (has (l .rest)) (l .inv .0) ∙ has-where-zeros-end 64 (l .rest) (omega (arith, l .inv .0))
 
 mul-vector : tie.Need-mul-vector Inv-loop μ-loop
 mul-vector c = search needs
@@ -29,52 +45,61 @@ mul-vector c = search needs
 shared-slice-read-vector : tie.Need-shared-slice-read-vector Inv-loop μ-loop
 shared-slice-read-vector c = search needs
 
-shr-if1 : tie.Need-shr-if1 Inv-loop μ-loop
-shr-if1 c = omega arith
-
 returns : tie.Need-returns Inv-loop μ-loop
-unfolding has
 returns c =
-    let g = c .before .before .before .before .before .before in
+    let i = c .before .before .before in
+    let g = i .before in
+    let l = g .loop in
     inl (
-      g .loop .t,
-      c .before .before .before .before .before .loop-test .taken,
-      c .if2 .taken ∙ g .before .extra-vector .ensures,
-      eq-eqb _ 1 (c .before .before .if1 .taken),
+      l .t,
+      i .loop-test .taken,
+      c .if1 .taken ∙ g .before .before .extra-vector .ensures,
+      l .inv .1 .parts (l .t) ∙ or-right (has (l .inv .1 .seen) (l .t)) _ (on i),
       refl,
     )
 
 walked-driver-requires : tie.Need-walked-driver-requires Inv-loop μ-loop
 walked-driver-requires c κs = search needs
 
-add-t : tie.Need-add-t Inv-loop μ-loop
-add-t c = search needs
+bit-word-requires : tie.Need-bit-word-requires Inv-loop μ-loop
+bit-word-requires c κs = omega arith
+
+sub-rest : tie.Need-sub-rest Inv-loop μ-loop
+sub-rest c =
+    let i = c .before .before .before .before .before in
+    rw (c .bit-word .ensures) (has-at-least (i .before .loop .t) (i .before .loop .rest) (on i))
+
+lowest-net-requires-2 : tie.Need-lowest-net-requires-2 Inv-loop μ-loop
+lowest-net-requires-2 c κs = search needs
 
 loop-less : tie.Need-loop-less Inv-loop μ-loop
-loop-less c = search needs
+loop-less c =
+    let i = c .before .before .before .before .before .before in
+    let l = i .before .loop in
+    omega (arith, c .before .bit-word .ensures, pow-pos (l .t), has-at-least (l .t) (l .rest) (on i))
 
 loop-again : tie.Need-loop-again Inv-loop μ-loop
-unfolding has
 loop-again c =
-    let g = c .before .before .before .before in
-    let a = g .before .before .before .args in
-    let l = g .loop in (
-      search needs,
-      ⊎-elim
-          (λ w. subst (λ (x : ℕ). Gathered (a .net) (a .vectors .now) (a .answered .0) (l .t + 1) x) (sym (w .4))
-          (gathered-add (a .net) (a .vectors .now) (a .answered .0) (l .t) (l .reach) (w .3 .result) (l .inv .1) (eq-eqb _ 1 (w .0 .taken))
-          (λ q. w .2 .left (q ∙ sym (g .before .extra-vector .ensures))) (w .3 .ensures)))
-          (λ w. subst (λ (x : ℕ). Gathered (a .net) (a .vectors .now) (a .answered .0) (l .t + 1) x) (sym (w .1))
-          (gathered-skip (a .net) (a .vectors .now) (a .answered .0) (l .t) (l .reach) (l .inv .1) (ne-eqb _ 1 (w .0 .left))))
-          (c .if1 .came),
+    let i = c .before .before .before .before .before .before in
+    let g = i .before in
+    let a = g .before .before .before .before .args in
+    let l = g .loop in
+    let w = c .before .before in (
+      c .lowest-net2 .ensures,
+      subst (λ (x : ℕ). Gathering (a .net) (a .vectors .now) (a .answered .0) (l .rest - x) (bitOr (l .reach) (w .walked-driver .result)))
+          (sym (c .before .bit-word .ensures))
+          (gathering-next (a .net) (a .vectors .now) (a .answered .0) (l .t) (l .rest) (l .reach) (w .walked-driver .result) (l .inv .1)
+          (i .loop-test .taken) (on i) (λ q. w .before .if1 .left (q ∙ sym (g .before .before .extra-vector .ensures)))
+          (w .walked-driver .ensures)),
     )
 
 returns-2 : tie.Need-returns-2 Inv-loop μ-loop
 returns-2 c =
     let g = c .before in
-    let a = g .before .before .before .args in
-    let end : g .loop .t ≡ length (a .vectors .now) = omega arith in
-    inr (subst (λ (x : ℕ). Gathered (a .net) (a .vectors .now) (a .answered .0) x (g .loop .reach)) end (g .loop .inv .1))
+    let a = g .before .before .before .before .args in
+    let l = g .loop in
+    inr (gathering-last (a .net) (a .vectors .now) (a .answered .0) (l .rest) (l .reach) (l .inv .1)
+    (λ u m. none-below-lowest 64 (l .rest) u (omega (arith, l .inv .0))))
 
 pub walking-reach-spec : {M : Type 1} → statement M
 walking-reach-spec =
@@ -83,13 +108,15 @@ walking-reach-spec =
     Inv-loop
     μ-loop
     extra-vector-requires
+    lowest-net-requires
     loop-holds
     mul-vector
     shared-slice-read-vector
-    shr-if1
     returns
     walked-driver-requires
-    add-t
+    bit-word-requires
+    sub-rest
+    lowest-net-requires-2
     loop-less
     loop-again
     returns-2)

@@ -9,7 +9,7 @@ use lib.Seq.{getD-set-same, getD-set-other}
 use Rattle.words.specs.Bits.{at}
 use Rattle.words.proofs.Tests.{less-or-not}
 use Rattle.network.proofs.Rows.{AdmittedSet, admitted-set}
-use Rattle.diagnosis.specs.ReadBack.{OnlyAnswer}
+use Rattle.checker.specs.Seen.{OnlyAnswer}
 use Rattle.diagnosis.proofs.Gathering.{walked-only, full-of-rule}
 use Rattle.diagnosis.proofs.walking.walking_reaches.Statement.{statement}
 use Rattle.diagnosis.proofs.walking.walking_reaches.Tie as tie

@@ -1,45 +1,104 @@
-use borrow.Author.Count.{below-more}
 use borrow.Author.Needs.{needs}
-use mathlib.Core.Path.{_≡_, sym, _∙_}
-use mathlib.Core.Bool.{false}
-use Prim.Native.Nat.{ℕ, _≤_, _<_, _-_}
-use native.Mathlib.Nat.{not-suc-le-zero}
+use mathlib.Core.Path.{_≡_, refl, sym, ap, _∙_, subst}
+use mathlib.Core.Logic.{_≢_, ⊎-elim}
+use mathlib.Core.List.{List}
+use Prim.Native.Nat.{ℕ, _+_, _-_, _^_, _≤_, _<_}
+use native.Mathlib.Nat.{lt-of-lt-of-le}
 use native.Mathlib.Omega.{arith}
-use lib.ListN.{length}
+use lib.Bits.{bitAnd, bitOr}
+use lib.ListN.{length, set, length-set}
+use lib.Pow.{pow-mono}
 use Rattle.words.specs.Bits.{at}
-use Rattle.words.proofs.Searching.{any-at, any-none}
-use Rattle.network.specs.States.{conflicts, has-conflict}
+use Rattle.network.proofs.Owners.{Owned, lowest, lowest-inside, meets-not-zero, owned-none, owned-empty, owned-new}
+use Rattle.network.proofs.Owners.{owned-known, owned-conflict, owned-all}
 use Rattle.network.proofs.refusals.has_conflict.Statement.{statement}
 use Rattle.network.proofs.refusals.has_conflict.Tie as tie
 
 abbrev Inv-loop : tie.InvT-loop
-Inv-loop net state i₀ i = (i ≤ length state) × ((z : ℕ) → z < i → conflicts net state (at state z) ≡ false)
+Inv-loop state owners₀ taken₀ i₀ owners taken i = (i ≤ length state) × (length owners ≡ 48) × Owned state owners taken i
 
 abbrev μ-loop : tie.MeasureT-loop
-μ-loop net state i₀ i = length state - i
+μ-loop state owners₀ taken₀ i₀ owners taken i = length state - i
+
+-- the receiver at hand
+module _ (c : tie.After-shared-slice-known2 Inv-loop μ-loop) where
+  abbrev state : List ℕ
+  state = c .before .before .before .before .args .state .now
+
+  abbrev i : ℕ
+  i = c .before .before .loop .i
+
+  abbrev reach : ℕ
+  reach = at state i
+
+  abbrev owners : List ℕ
+  owners = c .before .before .loop .owners
+
+  abbrev taken : ℕ
+  taken = c .before .before .loop .taken
+
+  small : (a : ℕ) → a < length state → at state a < 2 ^ 48
+  small a l = lt-of-lt-of-le (c .before .before .before .before .pre .1 a l) (pow-mono (c .before .before .before .before .pre .0))
+
+  abbrev Next : List ℕ → Type 0
+  Next after = (length after ≡ 48) × Owned state after (bitOr taken reach) (i + 1)
+
+  known : (d : ℕ) → d ≡ lowest reach → bitAnd reach taken ≢ 0 → at owners d ≡ reach → Next owners
+  known d q n e = (
+    c .before .before .loop .inv .1,
+    owned-known state owners taken i (c .before .before .loop .inv .2) small (c .before .loop-test .taken) n (ap (at owners) (sym q) ∙ e),
+  )
+
+  new : (d : ℕ) → d ≡ lowest reach → bitAnd reach taken ≡ 0 → reach ≢ 0 → Next (set owners d reach)
+  new d q none n = (
+    length-set owners d reach ∙ c .before .before .loop .inv .1,
+    rw q (owned-new state owners taken i (c .before .before .loop .inv .2) small (c .before .loop-test .taken)
+        (c .before .before .loop .inv .1) none n),
+  )
+
+  empty : reach ≡ 0 → Next owners
+  empty e = (c .before .before .loop .inv .1, owned-empty state owners taken i (c .before .before .loop .inv .2) e)
+
+  driver : (d : ℕ) → d ≡ lowest reach → reach ≢ 0 → d < 48
+  driver d q n = rw q (lowest-inside reach (small i (c .before .loop-test .taken)) n)
+
+  met : bitAnd reach taken ≢ 0 → reach ≢ 0
+  met n = meets-not-zero reach taken n (small i (c .before .loop-test .taken))
 
 loop-holds : tie.Need-loop-holds Inv-loop μ-loop
-loop-holds c = (search needs, λ z l. absurd (not-suc-le-zero l))
+loop-holds c = (search needs, refl, owned-none (c .before .args .state .now))
 
-mul-conflicts : tie.Need-mul-conflicts Inv-loop μ-loop
-mul-conflicts c = search needs
+mul-reach : tie.Need-mul-reach Inv-loop μ-loop
+mul-reach c = search needs
 
-shared-slice-read-conflicts : tie.Need-shared-slice-read-conflicts Inv-loop μ-loop
-shared-slice-read-conflicts c = search needs
+shared-slice-read-reach : tie.Need-shared-slice-read-reach Inv-loop μ-loop
+shared-slice-read-reach c = search needs
 
-conflicts-requires : tie.Need-conflicts-requires Inv-loop μ-loop
-conflicts-requires c κs =
-    let g = c .before .before in
-    g .before .before .pre (g .loop .i) (c .before .loop-test .taken)
+lowest-net-requires : tie.Need-lowest-net-requires Inv-loop μ-loop
+lowest-net-requires c κs = search needs
+
+array-read-owner : tie.Need-array-read-owner Inv-loop μ-loop
+array-read-owner c = driver (c .before .before) _ (c .lowest-net .ensures) (met (c .before .before) (c .before .if1 .taken))
+
+mul-owner : tie.Need-mul-owner Inv-loop μ-loop
+mul-owner c = omega (arith, array-read-owner c)
 
 returns : tie.Need-returns Inv-loop μ-loop
-unfolding has-conflict
 returns c =
-    let g = c .before .before .before .before in
-    let a = g .before .before .args in
-    sym (any-at (λ z. conflicts (a .net) (a .state .now) (at (a .state .now) z)) (length (a .state .now)) (g .loop .i)
-    (c .before .before .before .loop-test .taken)
-    (sym (c .before .conflicts .ensures) ∙ c .if1 .taken))
+    let g = c .before .before .before in
+    let start = g .before .before .before .before in
+    sym (owned-conflict (state g) (owners g) (taken g) (i g) (g .before .before .loop .inv .2) (small g) (g .before .loop-test .taken)
+    (start .args .net) (start .pre .1 (i g) (g .before .loop-test .taken)) (c .before .before .if1 .taken)
+    (λ e. c .if2 .taken (ap (at (owners g)) (c .before .lowest-net .ensures) ∙ e)))
+
+lowest-net-requires-2 : tie.Need-lowest-net-requires-2 Inv-loop μ-loop
+lowest-net-requires-2 c κs = search needs
+
+array-write-owners : tie.Need-array-write-owners Inv-loop μ-loop
+array-write-owners c = driver (c .before .before .before) _ (c .lowest-net2 .ensures) (c .before .if3 .taken)
+
+mul-owners : tie.Need-mul-owners Inv-loop μ-loop
+mul-owners c = omega (arith, array-write-owners c)
 
 add-i : tie.Need-add-i Inv-loop μ-loop
 add-i c = search needs
@@ -49,20 +108,17 @@ loop-less c = search needs
 
 loop-again : tie.Need-loop-again Inv-loop μ-loop
 loop-again c =
-    let g = c .before .before .before .before in
-    let a = g .before .before .args in (
-      search needs,
-      below-more (λ z. conflicts (a .net) (a .state .now) (at (a .state .now) z) ≡ false) (g .loop .i) (g .loop .inv .1)
-          (sym (c .before .conflicts .ensures) ∙ c .if1 .left),
-    )
+    let next : Next (c .before) (c .if1 .owners) =
+    ⊎-elim (λ w. subst (Next (c .before)) (sym (w .3)) (known (c .before) _ (w .1 .ensures) (w .0 .taken) (w .2 .left)))
+    (⊎-elim (λ w. subst (Next (c .before)) (sym (w .3)) (new (c .before) _ (w .2 .ensures) (w .0 .left) (w .1 .taken)))
+    (λ w. subst (Next (c .before)) (sym (w .2)) (empty (c .before) (w .1 .left)))) (c .if1 .came) in
+    (search needs, next .0, next .1)
 
 returns-2 : tie.Need-returns-2 Inv-loop μ-loop
-unfolding has-conflict
 returns-2 c =
     let g = c .before in
     let a = g .before .before .args in
-    sym (any-none (λ z. conflicts (a .net) (a .state .now) (at (a .state .now) z)) (length (a .state .now))
-    (λ z l. g .loop .inv .1 z (omega arith)))
+    sym (owned-all (a .state .now) (g .loop .owners) (g .loop .taken) (g .loop .i) (g .loop .inv .2) (a .net) (c .loop-test .left))
 
 pub has-conflict-spec : {M : Type 1} → statement M
 has-conflict-spec =
@@ -71,10 +127,15 @@ has-conflict-spec =
     Inv-loop
     μ-loop
     loop-holds
-    mul-conflicts
-    shared-slice-read-conflicts
-    conflicts-requires
+    mul-reach
+    shared-slice-read-reach
+    lowest-net-requires
+    mul-owner
+    array-read-owner
     returns
+    lowest-net-requires-2
+    mul-owners
+    array-write-owners
     add-i
     loop-less
     loop-again

@@ -31,13 +31,16 @@ returns-2 c =
 
 has-conflict-requires : tie.Need-has-conflict-requires
 unfolding has-wrong-reach
-has-conflict-requires c κs = λ i l.
-    let a = c .before .before .before .before .before .args in
-    let wrong : ℕ → Bool = λ z. not
-    (ltb (at (a .state .now) z) (2 ^ (a .net .nets))
-    && few-drivers (a .net) (a .class) (at (a .state .now) z)) in
-    let right = any-false wrong (length (a .state .now)) i l (sym (c .before .has-wrong-reach .ensures) ∙ c .if2 .left) in
-    few→set (a .net) (a .class) (at (a .state .now) i) (not-false _ right) .inside
+has-conflict-requires c κs = (
+  search needs,
+  λ i l.
+      let a = c .before .before .before .before .before .args in
+      let wrong : ℕ → Bool = λ z. not
+      (ltb (at (a .state .now) z) (2 ^ (a .net .nets))
+      && few-drivers (a .net) (a .class) (at (a .state .now) z)) in
+      let right = any-false wrong (length (a .state .now)) i l (sym (c .before .has-wrong-reach .ensures) ∙ c .if2 .left) in
+      few→set (a .net) (a .class) (at (a .state .now) i) (not-false _ right) .inside,
+)
 
 returns-3 : tie.Need-returns-3
 unfolding not-a-state

@@ -13,10 +13,10 @@ use Rattle.words.proofs.turning.column.Statement.{statement}
 use Rattle.words.proofs.turning.column.Tie as tie
 
 abbrev Inv-loop : tie.InvT-loop
-Inv-loop words i w₀ t₀ w t = (t ≤ length words) × (w ≡ word (map (λ v. has v i) (take t words)))
+Inv-loop rows i w₀ t₀ w t = (t ≤ length rows) × (w ≡ word (map (λ v. has v i) (take t rows)))
 
 abbrev μ-loop : tie.MeasureT-loop
-μ-loop words i w₀ t₀ w t = length words - t
+μ-loop rows i w₀ t₀ w t = length rows - t
 
 loop-holds : tie.Need-loop-holds Inv-loop μ-loop
 unfolding word
@@ -47,9 +47,9 @@ loop-again c =
     let l = c .before .before .before .loop in (
       omega arith,
       ⊎-elim
-          (λ w. w .1 ∙ word-set (λ v. has v (a .i)) (a .words .now) (l .t) (l .w) (l .inv .1) (omega arith)
+          (λ w. w .1 ∙ word-set (λ v. has v (a .i)) (a .rows .now) (l .t) (l .w) (l .inv .1) (omega arith)
           (omega arith) (eq-eqb _ 1 (w .0 .taken)))
-          (λ w. w .1 ∙ word-keep (λ v. has v (a .i)) (a .words .now) (l .t) (l .w) (l .inv .1) (omega arith) (ne-eqb _ 1 (w .0 .left)))
+          (λ w. w .1 ∙ word-keep (λ v. has v (a .i)) (a .rows .now) (l .t) (l .w) (l .inv .1) (omega arith) (ne-eqb _ 1 (w .0 .left)))
           (c .if1 .came),
     )
 
@@ -57,7 +57,7 @@ returns : tie.Need-returns Inv-loop μ-loop
 unfolding column
 returns c =
     let a = c .before .before .args in
-    c .before .loop .inv .1 ∙ word-whole (λ v. has v (a .i)) (a .words .now) (c .before .loop .t) (c .loop-test .left)
+    c .before .loop .inv .1 ∙ word-whole (λ v. has v (a .i)) (a .rows .now) (c .before .loop .t) (c .loop-test .left)
 
 pub column-spec : {M : Type 1} → statement M
 column-spec =
