@@ -1,6 +1,5 @@
 // The search through the sets of a class in ascending order, by their highest drivers: the sets whose highest driver is
 // c are that driver alone, and with it each set of one driver less below c. Helpers: there is room for all sets.
-ghost use mathlib.Core.Path.{_≡_};
 ghost use Prim.Native.Nat.{_+_, _-_, _^_, _≤_};
 ghost use lib.Count.{ones};
 ghost use lib.ListN.{length};

@@ -10,14 +10,14 @@ use Rattle.words.specs.Bits.{at}
 use Rattle.words.specs.Searching.{position, sets-of-class}
 use Rattle.network.specs.Joint.{with-driver}
 use Rattle.network.specs.Reading.{sequential-response}
-use Rattle.checker.specs.declared.search.Visited.the-variants.{Confused, Count}
+use Rattle.checker.specs.declared.search.Visited.the-variants.{Confused}
 use Rattle.checker.proofs.Visits.{seen-pair, seen-next, seen-moved, outcome-confused, outcome-count, outcome-moved}
 use lib.Pow.{pow-mono}
 use Rattle.words.proofs.Counting.{sets-grow}
 use Rattle.checker.proofs.Branches.{narrower, next-small, next-inside, next-few, next-reads, next-room, next-place}
 use Rattle.checker.proofs.Branches.{next-twice, deeper-room, deeper-at, fewer-left, none-between}
 use Rattle.chains.specs.Chains.{Chains}
-use Rattle.checker.specs.Seen.{Seen, Branch, Outcome}
+use Rattle.checker.specs.Seen.{Seen, Branch}
 use borrow.Fn.Kinds.{In}
 use borrow.Fn.PlainCycle.{Measures, is, falls, and}
 use Rattle.checker.proofs.search.visit_below.Reads as visit-below
