@@ -105,6 +105,12 @@ apart-one-fits net k vectors h responses s u p q =
     (λ i l. h (at s i) (at u i) (p .of-class .reach i l) (q .of-class .reach i (rw size at l))
     (response-alike net s u vectors size (p .gives ∙ sym (q .gives)) i l))
 
+-- two different states of the class with equal responses: both fit
+pub not-one-fits : (net : Network) (k : ℕ) (vectors s u : List ℕ) → State net k s → State net k u → s ≢ u
+    → response net s vectors ≡ response net u vectors → ¬ (AtMostOneFits net k vectors)
+not-one-fits net k vectors s u p q differ e one =
+    differ (one (response net u vectors) s u (record { of-class = p; gives = e }) (record { of-class = q; gives = refl }))
+
 module _ (net : Network) (k : ℕ) (two : 2 ≤ net .nets) where
   shown-first : (set : ℕ) → at (shown-state net set) 0 ≡ set
   unfolding shown-state

@@ -5,7 +5,6 @@ use Prim.Native.Nat.{ℕ}
 use Rattle.words.specs.Answers.{NoneHolds}
 use Rattle.words.proofs.Answers.{table-implies}
 use Rattle.network.specs.declared.Network.{Network}
-use Rattle.network.specs.Reading.{response}
 use Rattle.network.specs.States.{AtMostOneFits}
 use Rattle.network.specs.Rows.{SetRows}
 use Rattle.network.proofs.Rows.{admitted-set}
@@ -13,7 +12,7 @@ use Rattle.checker.specs.declared.Verdict.{Verdict}
 use Rattle.checker.specs.declared.Verdict.the-variants.{Pass, Pair}
 use Rattle.checker.specs.Rule.{Rule, shown-state}
 use Rattle.checker.specs.Check.{check-answer}
-use Rattle.checker.proofs.Separation.{SetsAlike, Shows, rule-shows, apart-one-fits, shown-is-state, shown-differ, shown-alike}
+use Rattle.checker.proofs.Separation.{SetsAlike, Shows, rule-shows, apart-one-fits, not-one-fits, shown-is-state, shown-differ, shown-alike}
 use Rattle.checker.proofs.Checking.{check-by-table, check-determined}
 use Rattle.checker.proofs.Verdicts.{pair-not-pass}
 use Rattle.demands.specs.Demand3.{CheckProgram, ShownPair, Judged, Checks}
@@ -21,10 +20,9 @@ use Rattle.demands.specs.Determined.{ChecksByRule}
 
 -- a pair's two states both fit the response that they give
 pub pair-not-one : (net : Network) (k : ℕ) (vectors : List ℕ) (a b : ℕ) → ShownPair net k vectors a b → ¬ (AtMostOneFits net k vectors)
-pair-not-one net k vectors a b h one =
-    h .different
-    (one (response net (shown-state net b) vectors) (shown-state net a) (shown-state net b)
-    (record { of-class = h .first-state; gives = h .equal-responses }) (record { of-class = h .second-state; gives = refl }))
+pair-not-one net k vectors a b h =
+    not-one-fits net k vectors (shown-state net a) (shown-state net b) (h .first-state) (h .second-state) (h .different)
+    (h .equal-responses)
 
 module _ (net : Network) (k : ℕ) (vectors : List ℕ) (none : NoneHolds (SetRows net k vectors)) where
   shown-pair : (a b : ℕ) → SetsAlike net k vectors a b → ShownPair net k vectors a b

@@ -26,23 +26,27 @@ use Rattle.network.specs.Reading.{ReadAlike, sequential-response, respon
 -- ---- driver sets and vectors by name
 
 module _ (net : Network) where
-  has-walking : (i j : ℕ) → has (walking-vector net i) j ≡ eqb i j
+  pub has-walking : (i j : ℕ) → has (walking-vector net i) j ≡ eqb i j
   unfolding walking-vector
   has-walking i j = has-power i j
 
-  walking-below : (i : ℕ) → i < net .nets → walking-vector net i < 2 ^ (net .nets)
+  pub walking-below : (i : ℕ) → i < net .nets → walking-vector net i < 2 ^ (net .nets)
   unfolding walking-vector
   walking-below i l = pow-lt l
 
-  has-extra : (j : ℕ) → has (extra-vector net) j ≡ false
+  pub has-extra : (j : ℕ) → has (extra-vector net) j ≡ false
   unfolding extra-vector
   has-extra j = has-zero j
+
+  pub extra-below : extra-vector net < 2 ^ (net .nets)
+  unfolding extra-vector
+  extra-below = pow-pos (net .nets)
 
   pub all-below : all-drivers net < 2 ^ (net .nets)
   unfolding all-drivers
   all-below = let h = pow-pos (net .nets) in omega arith
 
-  has-every : (i : ℕ) → i < net .nets → has (all-drivers net) i ≡ true
+  pub has-every : (i : ℕ) → i < net .nets → has (all-drivers net) i ≡ true
   unfolding all-drivers
   has-every i l = has-all (net .nets) i l
 
@@ -114,6 +118,16 @@ module _ (net : Network) where
       back : reads net reach vector ≡ false → ¬ (Reads1 net reach vector)
       back e (inl q) = contrary (ap (λ (x : ℕ). reads net x vector) q ∙ reads-floating vector) e
       back e (inr (j, l, p, q)) = contrary (reads-driven reach vector j l p q) e
+
+  -- a receiver reads what the n drivers drive, and nothing else of a vector
+  pub reads-same : (reach v w : ℕ) → ((j : ℕ) → j < net .nets → has v j ≡ has w j) → reads net reach v ≡ reads net reach w
+  reads-same reach v w h = same-truth (reads net reach v) (reads net reach w) (there v w h) (there w v (λ j l. sym (h j l)))
+    where
+      there : (v w : ℕ) → ((j : ℕ) → j < net .nets → has v j ≡ has w j) → reads net reach v ≡ true → reads net reach w ≡ true
+      there v w h e =
+          ⊎-elim (λ q. ap (λ (x : ℕ). reads net x w) (eqb-true reach 0 q) ∙ reads-floating w)
+          (λ q. let r = reads-only reach v (eqb-false reach 0 q) e in
+          reads-driven reach w (r .0) (r .1) (r .2) (sym (h (r .0) (r .1)) ∙ r .3)) (cases (eqb reach 0))
 
   -- the walking vector of a net tells whether its driver is in a reach that is not empty
   pub reads-walking : (reach i : ℕ) → i < net .nets → reach ≢ 0 → reads net reach (walking-vector net i) ≡ has reach i

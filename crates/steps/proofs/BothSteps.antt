@@ -202,15 +202,15 @@ module _ (net : Network) (answers : List ℕ) where
 -- ---- the vectors of step two
 
 module _ (net : Network) where
-  settling-size : (nets : List ℕ) → length nets ≢ 0 → length (settling-vectors net nets) ≡ length nets + 1
+  pub settling-size : (nets : List ℕ) → length nets ≢ 0 → length (settling-vectors net nets) ≡ length nets + 1
   settling-size [] some = absurd (some refl)
   settling-size (i ∷ nets) some = let e = length-map (i ∷ nets) (walking-vector net) in omega (arith, e)
 
-  settling-extra : (nets : List ℕ) → length nets ≢ 0 → at (settling-vectors net nets) 0 ≡ extra-vector net
+  pub settling-extra : (nets : List ℕ) → length nets ≢ 0 → at (settling-vectors net nets) 0 ≡ extra-vector net
   settling-extra [] some = absurd (some refl)
   settling-extra (i ∷ nets) some = refl
 
-  settling-walking : (nets : List ℕ) (u : ℕ) → u < length nets → at (settling-vectors net nets) (suc u) ≡ walking-vector net (at nets u)
+  pub settling-walking : (nets : List ℕ) (u : ℕ) → u < length nets → at (settling-vectors net nets) (suc u) ≡ walking-vector net (at nets u)
   settling-walking [] u l = absurd (not-suc-le-zero l)
   settling-walking (i ∷ nets) u l = map-at (walking-vector net) 0 (i ∷ nets) u l
 

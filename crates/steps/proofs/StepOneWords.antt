@@ -45,10 +45,10 @@ unfoldable some-gapless : ℕ → List ℕ → Bool
 some-gapless p words = any (length words) (λ i. gapless p (at words i))
 
 -- of words of p bits, a has every 1 of b
-unfoldable covers : ℕ → ℕ → ℕ → Bool
+unfoldable pub covers : ℕ → ℕ → ℕ → Bool
 covers p a b = not (any p (λ t. let a-has = has a t in has b t && not a-has))
 
-unfoldable some-covers : ℕ → List ℕ → Bool
+unfoldable pub some-covers : ℕ → List ℕ → Bool
 some-covers p words = any (length words) (λ i. any (length words) (λ j. let c = covers p (at words i) (at words j) in not (eqb i j) && c))
 
 none-wrong-count : any 7 (λ m. wrong-count (2 + m)) ≡ false
@@ -86,6 +86,20 @@ central-is : (p : ℕ) → p ≤ 8 → at central-numbers p ≡ binomial p (p / 
 unfolding wrong-central
 central-is p l = eqb-true _ _ (not-false _ (any-false wrong-central 9 p (omega arith) none-wrong-central))
 
+-- words of which none covers another, by the test: another has a 1 where one has a 0
+pub apart-by-test : (p : ℕ) (words : List ℕ) → some-covers p words ≡ false → (i j : ℕ) → i < length words → j < length words → i ≢ j
+    → (t : ℕ) × (t < p) × (has (at words j) t ≡ true) × (has (at words i) t ≡ false)
+unfolding some-covers covers
+apart-by-test p words none i j l m d =
+    let test : ℕ → ℕ → Bool = λ x y. not (eqb x y) && covers p (at words x) (at words y) in
+    let here : test i j ≡ false =
+    any-false (test i) (length words) j m
+    (any-false (λ x. any (length words) (test x)) (length words) i l none) in
+    let r = any-some (λ t. has (at words j) t && not (has (at words i) t)) p (not-false _ (rw (ne-eqb i j d) at here)) in
+    let b = has (at words j) (r .0) in
+    let a = has (at words i) (r .0) in
+    (r .0, r .1, and-left b (not a) (r .2), not-true a (and-right b (not a) (r .2)))
+
 -- ---- the balanced words of p bits
 
 module _ (p : ℕ) (two : 2 ≤ p) (eight : p ≤ 8) where
@@ -104,18 +118,8 @@ module _ (p : ℕ) (two : 2 ≤ p) (eight : p ≤ 8) where
 
   balanced-apart : (i j : ℕ) → i < length (balanced-words p) → j < length (balanced-words p) → i ≢ j
       → (t : ℕ) × (t < p) × (has (at (balanced-words p) j) t ≡ true) × (has (at (balanced-words p) i) t ≡ false)
-  unfolding some-covers covers
-  balanced-apart i j l m d =
-      let words = balanced-words p in
-      let test : ℕ → ℕ → Bool = λ x y. not (eqb x y) && covers p (at words x) (at words y) in
-      let none : some-covers p words ≡ false = none-from-two (λ q. some-covers q (balanced-words q)) 7 none-covers p two (omega arith) in
-      let here : test i j ≡ false =
-      any-false (test i) (length words) j m
-      (any-false (λ x. any (length words) (test x)) (length words) i l none) in
-      let r = any-some (λ t. has (at words j) t && not (has (at words i) t)) p (not-false _ (rw (ne-eqb i j d) at here)) in
-      let b = has (at words j) (r .0) in
-      let a = has (at words i) (r .0) in
-      (r .0, r .1, and-left b (not a) (r .2), not-true a (and-right b (not a) (r .2)))
+  balanced-apart =
+      apart-by-test p (balanced-words p) (none-from-two (λ q. some-covers q (balanced-words q)) 7 none-covers p two (omega arith))
 
 -- a number with p/2 ones, for the network's p
 abbrev pub balanced : Network → ℕ → Bool

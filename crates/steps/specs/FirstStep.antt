@@ -1,4 +1,4 @@
--- The first step of a session: each net has a sequential word (STV) of its own, and no two words cover each other.
+-- The first step of a session: each net has a sequential word (STV) of its own, and none covers another.
 use Prim.Native.Nat.{ℕ, zero, suc, _+_, _/_, _^_, _<_, _≤_}
 use mathlib.Core.Path.{_≡_}
 use mathlib.Core.Logic.{_⊎_}

@@ -1,5 +1,6 @@
 pub mod Tests
 pub mod Searching
+pub mod Places
 pub mod Bits
 pub mod Making
 pub mod Columns

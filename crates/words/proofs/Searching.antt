@@ -8,12 +8,12 @@ use native.Mathlib.Nat.{not-suc-le-zero, eq-or-lt-of-le, le-refl, zero-add}
 use native.Mathlib.Omega.{arith}
 use lib.Dec.{eqb}
 use lib.ListN.{length}
-use borrow.Author.Tests.{eqb-true, eqb-false}
+use borrow.Author.Tests.{eq-eqb, eqb-true, eqb-false}
 use Rattle.words.specs.declared.Search.{Search}
 use Rattle.words.specs.declared.Search.the-variants.{Found, Missing}
 use Rattle.words.specs.Answers.{Decides}
 use Rattle.words.specs.Bits.{at}
-use Rattle.words.specs.Searching.{least, is-found, any, position, among}
+use Rattle.words.specs.Searching.{least, is-found, or-zero, any, position, among}
 use Rattle.words.proofs.Tests.{contrary, same-truth, or-right, or-cases, less-or-not}
 
 module _ (p : ℕ → Bool) where
@@ -127,6 +127,14 @@ module _ (w : ℕ) (ws : List ℕ) where
   pub position-is : Least (λ t. eqb (at ws t) w) 0 (length ws) (position w ws)
   unfolding position
   position-is = least-below (λ t. eqb (at ws t) w) (length ws)
+
+  pub position-found : (t : ℕ) × (t < length ws) × (at ws t ≡ w)
+      → (or-zero (position w ws) < length ws) × (at ws (or-zero (position w ws)) ≡ w)
+  position-found (t, l, e) = go (position w ws) position-is
+    where
+      go : (s : Search) → Least (λ x. eqb (at ws x) w) 0 (length ws) s → (or-zero s < length ws) × (at ws (or-zero s) ≡ w)
+      go (Found x) (first a b c g) = (b, eqb-true _ _ c)
+      go Missing (nowhere g) = contrary (eq-eqb _ _ e) (g t zero-le l)
 
   pub decides-among : Decides (among w ws) ((t : ℕ) × (t < length ws) × (at ws t ≡ w))
   unfolding among position any
