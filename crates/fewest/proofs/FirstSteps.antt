@@ -1,14 +1,14 @@
 -- No first step is shorter than the session's.
 use mathlib.Core.Path.{_≡_, subst}
 use mathlib.Core.Bool.{true, false}
-use mathlib.Core.Logic.{⊎-elim, _≢_}
+use mathlib.Core.Logic.{_≢_}
 use mathlib.Core.List.{List}
 use Prim.Native.Nat.{ℕ, _^_, _<_}
 use native.Mathlib.Omega.{arith}
 use lib.ListN.{length}
 use Rattle.words.specs.Bits.{has, at}
 use Rattle.words.specs.Turning.{transpose}
-use Rattle.words.proofs.Tests.{contrary, less-or-not}
+use Rattle.words.proofs.Tests.{contrary, not-less}
 use Rattle.words.proofs.Columns.{transpose-size, transpose-below, transpose-back}
 use Rattle.network.specs.declared.Network.{Network}
 use Rattle.network.proofs.Rows.{nets-admitted}
@@ -61,9 +61,8 @@ module _ (net : Network) (admitted : AdmittedNetwork net) where
 pub shortest-words : ShortestWords
 shortest-words = record {
   own = own-words;
-  at-least = λ net admitted q words h. ⊎-elim
-      (λ short. absurd (h .none-covers (too-short net admitted q words (h .one-a-net) (h .below) short))) (λ l. l)
-      (less-or-not q (word-length net));
+  at-least = λ net admitted q words h. not-less q (word-length net)
+      (λ short. h .none-covers (too-short net admitted q words (h .one-a-net) (h .below) short));
   else-covered = too-short;
 }
 
@@ -71,6 +70,6 @@ pub first-step : Fewest Uncovered first-vectors word-length
 first-step = record {
   of-kind = λ net admitted. rw (own-turned net admitted) (own-words net admitted .none-covers);
   exactly = λ net admitted. first-size net;
-  at-least = λ net admitted vectors none. ⊎-elim (λ short. absurd (none (two-nets net admitted vectors short))) (λ l. l)
-      (less-or-not (length vectors) (word-length net));
+  at-least = λ net admitted vectors none. not-less (length vectors) (word-length net)
+      (λ short. none (two-nets net admitted vectors short));
 }

@@ -1,7 +1,7 @@
 -- No set that is passed for k = n is smaller than the extra vector and the walking vectors.
 use mathlib.Core.Path.{_≡_, refl, sym, ap, _∙_, subst}
 use mathlib.Core.Bool.{true}
-use mathlib.Core.Logic.{inl, inr, ⊎-elim, _≢_}
+use mathlib.Core.Logic.{inl, inr, _≢_}
 use mathlib.Core.List.{List, map}
 use Prim.Native.Nat.{ℕ, zero, suc, _+_, _^_, _≤_, _<_}
 use native.Mathlib.Omega.{arith}
@@ -10,7 +10,7 @@ use borrow.Author.Tests.{eq-eqb, eqb-true}
 use Rattle.words.specs.Bits.{has, at}
 use Rattle.words.specs.Answers.{full, ByTable}
 use Rattle.words.specs.Turning.{tabulate}
-use Rattle.words.proofs.Tests.{contrary, less-or-not}
+use Rattle.words.proofs.Tests.{contrary, not-less}
 use Rattle.words.proofs.Making.{map-at}
 use Rattle.words.proofs.Answers.{table-full, table-none-holds}
 use Rattle.words.proofs.Columns.{length-tabulate, tabulate-at}
@@ -136,8 +136,7 @@ module _ (net : Network) (admitted : AdmittedNetwork net) where
 
   separating-size : (vectors : List ℕ) → Separates net vectors → walking-count net ≤ length vectors
   separating-size vectors one =
-      ⊎-elim (λ short. absurd (two-states-fit net vectors (two-states vectors short) one)) (λ l. l)
-      (less-or-not (length vectors) (walking-count net))
+      not-less (length vectors) (walking-count net) (λ short. two-states-fit net vectors (two-states vectors short) one)
 
   -- ---- and what the call says
 

@@ -11,7 +11,7 @@ use lib.ListN.{length}
 use borrow.Author.Tests.{eqb-true, eqb-false}
 use Rattle.words.specs.Bits.{at}
 use Rattle.words.specs.Searching.{or-zero, any, position}
-use Rattle.words.proofs.Tests.{cases, less-or-not}
+use Rattle.words.proofs.Tests.{cases, not-less}
 use Rattle.words.proofs.Searching.{any-some, any-false, position-found}
 
 -- two of the things 0 to n - 1 that have the same place
@@ -89,7 +89,7 @@ pub no-longer : (wanted words : List ℕ)
     → ((i j : ℕ) → i < length wanted → j < length wanted → at wanted i ≡ at wanted j → i ≡ j)
     → ((i : ℕ) → i < length wanted → (t : ℕ) × (t < length words) × (at words t ≡ at wanted i))
     → length wanted ≤ length words
-no-longer wanted words once there = ⊎-elim (λ more. absurd (twice (shared more))) (λ l. l) (less-or-not (length words) (length wanted))
+no-longer wanted words once there = not-less (length words) (length wanted) (λ more. twice (shared more))
   where
     place : ℕ → ℕ
     place i = or-zero (position (at wanted i) words)

@@ -60,6 +60,9 @@ same-truth false false f g = refl
 pub less-or-not : (a b : ℕ) → (a < b) ⊎ (b ≤ a)
 less-or-not a b = ⊎-elim (λ e. inl (ltb-true a b e)) (λ e. inr (ltb-false a b e)) (cases (ltb a b))
 
+pub not-less : (a b : ℕ) → ¬ (a < b) → b ≤ a
+not-less a b n = ⊎-elim (λ l. absurd (n l)) (λ l. l) (less-or-not a b)
+
 pub three-ways : (a b : ℕ) → (a < b) ⊎ ((a ≡ b) ⊎ (b < a))
 three-ways a b = ⊎-elim inl (λ l. inr (⊎-elim (λ q. inl (sym q)) inr (eq-or-lt-of-le l))) (less-or-not a b)
 
