@@ -2,8 +2,9 @@
  *
  * Link with libexports.a, which `rt staticlib exports` writes to target/staticlib. It wants memcpy and memset.
  *
- * A call returns 0 if it is accepted, else the number of the first row of the table of refusals that holds. After a
- * refusal every list is as it was. A result goes to the front of a list; a longer list keeps its tail.
+ * A call returns 0 if it is accepted, else the number of the first row of the table of refusals that holds; beside each
+ * call stand its rows, in the table's order. After a refusal every list is as it was. A result goes to the front of a
+ * list; a longer list keeps its tail.
  *
  * A list is a pointer and a length in elements. One that always has the same length (verdict, session, job) is a
  * pointer alone, and its length stands in the brackets. Any numbers, any bytes and any lengths are ordinary inputs.
@@ -20,7 +21,8 @@
  * 128 KB with musl. A program whose threads have less makes the call on a thread to which it gives as much, with
  * pthread_attr_setstacksize.
  *
- * nets is n, 2 to 48. class_ is k: 1, 2, 3 or n. Bit i of a word stands for net i. */
+ * nets is n, 2 to 48. level is the soft level, 0 or 1: what a receiver reads that no driver reaches. class_ is k:
+ * 1, 2, 3 or n. Bit i of a word stands for net i. */
 
 #ifndef FONTARELGA_H
 #define FONTARELGA_H
@@ -47,17 +49,19 @@ extern "C" {
 #define FONTARELGA_VERDICT_A 1
 #define FONTARELGA_VERDICT_B 2
 
-/* Can the test set tell all states of the class apart? Rows 5 to 8. */
-uint64_t fontarelga_check(uint64_t nets, uint64_t class_, const uint64_t *vectors, size_t vectors_len,
+/* Can the test set tell all states of the class apart? Rows 5, 6, 17, 7, 8. */
+uint64_t fontarelga_check(uint64_t nets, uint64_t level, uint64_t class_, const uint64_t *vectors, size_t vectors_len,
                           uint64_t verdict[FONTARELGA_VERDICT_WORDS]);
 
-/* The response of a wiring state of nets words: a word a vector. Rows 5 to 8, 11, 12. */
-uint64_t fontarelga_respond(uint64_t nets, uint64_t class_, const uint64_t *vectors, size_t vectors_len,
-                            const uint64_t *state, size_t state_len, uint64_t *response, size_t response_len);
+/* The response of a wiring state of nets words: a word a vector. Rows 5, 6, 17, 7, 8, 11, 12. */
+uint64_t fontarelga_respond(uint64_t nets, uint64_t level, uint64_t class_, const uint64_t *vectors,
+                            size_t vectors_len, const uint64_t *state, size_t state_len, uint64_t *response,
+                            size_t response_len);
 
-/* The only state of the class that gives the responses: a word a net. Rows 5 to 10, 12 to 14. */
-uint64_t fontarelga_diagnose(uint64_t nets, uint64_t class_, const uint64_t *vectors, size_t vectors_len,
-                             const uint64_t *responses, size_t responses_len, uint64_t *state, size_t state_len);
+/* The only state of the class that gives the responses: a word a net. Rows 5, 6, 17, 7 to 10, 12 to 14. */
+uint64_t fontarelga_diagnose(uint64_t nets, uint64_t level, uint64_t class_, const uint64_t *vectors,
+                             size_t vectors_len, const uint64_t *responses, size_t responses_len, uint64_t *state,
+                             size_t state_len);
 
 /* A finding: kind (0 sound, 1 open, 2 short, 3 both), reach, partners. A net is open if its own driver does not reach
  * its receiver, and a short if it has partners. Another net j is a partner of net i, bit j of i's word, if one driver
@@ -69,30 +73,31 @@ uint64_t fontarelga_diagnose(uint64_t nets, uint64_t class_, const uint64_t *vec
 #define FONTARELGA_FINDING_PARTNERS 2
 
 /* What is found on each net of a state: a finding a net. A table has room for a third as many findings as it has words.
- * Rows 5, 11, 12. */
-uint64_t fontarelga_findings(uint64_t nets, const uint64_t *state, size_t state_len, uint64_t *table,
+ * The level is tested and has no part in what is found. Rows 5, 17, 11, 12. */
+uint64_t fontarelga_findings(uint64_t nets, uint64_t level, const uint64_t *state, size_t state_len, uint64_t *table,
                              size_t table_len);
 
-/* A session record: step, nets, 8 words of first answers, 48 reaches, vectors spent. What a step does not use is 0. A
- * record of any content may be given to begin. */
-#define FONTARELGA_SESSION_WORDS 59
+/* A session record: step, nets, level, 8 words of first answers, 48 reaches, vectors spent. What a step does not use is
+ * 0. A record of any content may be given to begin. */
+#define FONTARELGA_SESSION_WORDS 60
 #define FONTARELGA_SESSION_STEP 0
 #define FONTARELGA_SESSION_NETS 1
-#define FONTARELGA_SESSION_FIRST_ANSWERS 2
-#define FONTARELGA_SESSION_REACHES 10
-#define FONTARELGA_SESSION_SPENT 58
+#define FONTARELGA_SESSION_LEVEL 2
+#define FONTARELGA_SESSION_FIRST_ANSWERS 3
+#define FONTARELGA_SESSION_REACHES 11
+#define FONTARELGA_SESSION_SPENT 59
 
 /* The steps of a session: it waits for first answers, it waits for second answers, it is finished. */
 #define FONTARELGA_STEP_FIRST 1
 #define FONTARELGA_STEP_SECOND 2
 #define FONTARELGA_STEP_FINISHED 3
 
-/* The most vectors of step one, and of step two. */
+/* The most vectors of step one, and of step two, which at level 0 has one less. */
 #define FONTARELGA_MOST_FIRST_VECTORS 8
 #define FONTARELGA_MOST_SECOND_VECTORS 49
 
-/* Starts the record anew, and writes the vectors of step one. Rows 5, 12. */
-uint64_t fontarelga_begin(uint64_t session[FONTARELGA_SESSION_WORDS], uint64_t nets, uint64_t *first,
+/* Starts the record anew, and writes the vectors of step one. Rows 5, 17, 12. */
+uint64_t fontarelga_begin(uint64_t session[FONTARELGA_SESSION_WORDS], uint64_t nets, uint64_t level, uint64_t *first,
                           size_t first_len);
 
 /* Takes the answers to step one. Writes the vectors of step two if a net is unclear; else the session is finished.
@@ -108,21 +113,23 @@ uint64_t fontarelga_second_answers(uint64_t session[FONTARELGA_SESSION_WORDS], c
 uint64_t fontarelga_to_drive(const uint64_t session[FONTARELGA_SESSION_WORDS], const uint64_t *first,
                              size_t first_len, const uint64_t *second, size_t second_len);
 
-/* A job: nets, class, number of vectors, number of responses. */
-#define FONTARELGA_JOB_WORDS 4
+/* A job: nets, level, class, number of vectors, number of responses. */
+#define FONTARELGA_JOB_WORDS 5
 #define FONTARELGA_JOB_NETS 0
-#define FONTARELGA_JOB_CLASS 1
-#define FONTARELGA_JOB_VECTORS 2
-#define FONTARELGA_JOB_RESPONSES 3
+#define FONTARELGA_JOB_LEVEL 1
+#define FONTARELGA_JOB_CLASS 2
+#define FONTARELGA_JOB_VECTORS 3
+#define FONTARELGA_JOB_RESPONSES 4
 
-/* Reads a job file. Rows 1 to 3, 5 to 10, 12. */
+/* Reads a job file. Rows 1 to 3, 5, 6, 17, 7 to 10, 12. */
 uint64_t fontarelga_read_job(const uint8_t *file, size_t file_len, uint64_t *vectors, size_t vectors_len,
                              uint64_t *responses, size_t responses_len, uint64_t job[FONTARELGA_JOB_WORDS]);
 
-/* Writes a job file, with two entries if there are no responses. size: one word, how many bytes. Rows 5 to 10, 12. */
-uint64_t fontarelga_write_job(uint64_t nets, uint64_t class_, const uint64_t *vectors, size_t vectors_len,
-                              const uint64_t *responses, size_t responses_len, uint8_t *file, size_t file_len,
-                              uint64_t *size);
+/* Writes a job file, with two entries if there are no responses. size: one word, how many bytes.
+ * Rows 5, 6, 17, 7 to 10, 12. */
+uint64_t fontarelga_write_job(uint64_t nets, uint64_t level, uint64_t class_, const uint64_t *vectors,
+                              size_t vectors_len, const uint64_t *responses, size_t responses_len, uint8_t *file,
+                              size_t file_len, uint64_t *size);
 
 #ifdef __cplusplus
 }

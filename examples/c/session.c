@@ -1,5 +1,5 @@
 /* Finds the wiring state of a simulated board of four nets in a session, and prints what is driven and read, the
- * reaches found, and the number of vectors spent.
+ * reaches found, and the number of vectors spent. Its soft level is 1; with -DLEVEL=0 it is 0.
  *
  * At the repository's root, after `rt staticlib exports`:
  *
@@ -11,17 +11,21 @@
 #include <inttypes.h>
 #include <stdio.h>
 
+#ifndef LEVEL
+#define LEVEL 1
+#endif
+
 enum { NETS = 4, FIRST = FONTARELGA_MOST_FIRST_VECTORS, SECOND = FONTARELGA_MOST_SECOND_VECTORS };
 
 /* The board: nets 0 and 1 are tied together, and receiver 2 floats. */
 static const uint64_t board[NETS] = {3, 3, 0, 8};
 
-/* What the board's receivers read: 1 if the receiver floats, or if a driver in its reach drives 1. */
+/* What the board's receivers read: 1 if a driver in the reach drives 1, or if the reach is empty and the level is 1. */
 static uint64_t read_board(uint64_t vector)
 {
     uint64_t word = 0;
     for (int net = 0; net < NETS; net++) {
-        if (board[net] == 0 || (board[net] & vector) != 0) {
+        if ((board[net] & vector) != 0 || (board[net] == 0 && LEVEL == 1)) {
             word |= UINT64_C(1) << net;
         }
     }
@@ -62,7 +66,7 @@ int main(void)
     uint64_t session[FONTARELGA_SESSION_WORDS] = {0};
     uint64_t first[FIRST] = {0}, second[SECOND] = {0};
 
-    uint64_t refusal = fontarelga_begin(session, NETS, first, FIRST);
+    uint64_t refusal = fontarelga_begin(session, NETS, LEVEL, first, FIRST);
     while (refusal == 0 && session[FONTARELGA_SESSION_STEP] != FONTARELGA_STEP_FINISHED) {
         refusal = do_step(session, first, second);
     }

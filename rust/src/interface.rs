@@ -10,6 +10,7 @@ mod c {
     extern "C" {
         pub fn fontarelga_check(
             nets: u64,
+            level: u64,
             class: u64,
             vectors: *const u64,
             vectors_len: usize,
@@ -18,6 +19,7 @@ mod c {
 
         pub fn fontarelga_respond(
             nets: u64,
+            level: u64,
             class: u64,
             vectors: *const u64,
             vectors_len: usize,
@@ -29,6 +31,7 @@ mod c {
 
         pub fn fontarelga_diagnose(
             nets: u64,
+            level: u64,
             class: u64,
             vectors: *const u64,
             vectors_len: usize,
@@ -40,13 +43,14 @@ mod c {
 
         pub fn fontarelga_findings(
             nets: u64,
+            level: u64,
             state: *const u64,
             state_len: usize,
             table: *mut u64,
             table_len: usize,
         ) -> u64;
 
-        pub fn fontarelga_begin(session: *mut u64, nets: u64, first: *mut u64, first_len: usize) -> u64;
+        pub fn fontarelga_begin(session: *mut u64, nets: u64, level: u64, first: *mut u64, first_len: usize) -> u64;
 
         pub fn fontarelga_first_answers(
             session: *mut u64,
@@ -78,6 +82,7 @@ mod c {
 
         pub fn fontarelga_write_job(
             nets: u64,
+            level: u64,
             class: u64,
             vectors: *const u64,
             vectors_len: usize,
@@ -96,15 +101,26 @@ mod c {
 
 /// Pass is 0 0 0 in `verdict`, a pair 1 A B.
 pub fn check(network: impl Into<Network>, class: u64, vectors: &[u64], verdict: &mut [u64; VERDICT_WORDS]) -> u64 {
-    let nets = network.into().nets();
-    unsafe { c::fontarelga_check(nets, class, vectors.as_ptr(), vectors.len(), verdict.as_mut_ptr()) }
+    let network = network.into();
+    unsafe {
+        c::fontarelga_check(
+            network.nets(),
+            network.level(),
+            class,
+            vectors.as_ptr(),
+            vectors.len(),
+            verdict.as_mut_ptr(),
+        )
+    }
 }
 
 /// A word a vector into the front of `response`.
 pub fn respond(network: impl Into<Network>, class: u64, vectors: &[u64], state: &[u64], response: &mut [u64]) -> u64 {
+    let network = network.into();
     unsafe {
         c::fontarelga_respond(
-            network.into().nets(),
+            network.nets(),
+            network.level(),
             class,
             vectors.as_ptr(),
             vectors.len(),
@@ -118,9 +134,11 @@ pub fn respond(network: impl Into<Network>, class: u64, vectors: &[u64], state: 
 
 /// A word a net into the front of `state`.
 pub fn diagnose(network: impl Into<Network>, class: u64, vectors: &[u64], responses: &[u64], state: &mut [u64]) -> u64 {
+    let network = network.into();
     unsafe {
         c::fontarelga_diagnose(
-            network.into().nets(),
+            network.nets(),
+            network.level(),
             class,
             vectors.as_ptr(),
             vectors.len(),
@@ -134,14 +152,25 @@ pub fn diagnose(network: impl Into<Network>, class: u64, vectors: &[u64], respon
 
 /// Three words a net, kind, reach and partners, into the front of `table`. It has room for a third of its words.
 pub fn findings(network: impl Into<Network>, state: &[u64], table: &mut [u64]) -> u64 {
-    let nets = network.into().nets();
-    unsafe { c::fontarelga_findings(nets, state.as_ptr(), state.len(), table.as_mut_ptr(), table.len()) }
+    let network = network.into();
+    unsafe {
+        c::fontarelga_findings(
+            network.nets(),
+            network.level(),
+            state.as_ptr(),
+            state.len(),
+            table.as_mut_ptr(),
+            table.len(),
+        )
+    }
 }
 
 /// The vectors of step one into the front of `first`.
 pub fn begin(session: &mut [u64; RECORD_WORDS], network: impl Into<Network>, first: &mut [u64]) -> u64 {
-    let nets = network.into().nets();
-    unsafe { c::fontarelga_begin(session.as_mut_ptr(), nets, first.as_mut_ptr(), first.len()) }
+    let network = network.into();
+    unsafe {
+        c::fontarelga_begin(session.as_mut_ptr(), network.nets(), network.level(), first.as_mut_ptr(), first.len())
+    }
 }
 
 /// The vectors of step two, if a net is unclear, into the front of `second`.
@@ -168,7 +197,7 @@ pub fn to_drive(session: &[u64; RECORD_WORDS], first: &[u64], second: &[u64]) ->
     unsafe { c::fontarelga_to_drive(session.as_ptr(), first.as_ptr(), first.len(), second.as_ptr(), second.len()) }
 }
 
-/// The words into the fronts of `vectors` and `responses`; nets, class and the two counts into `job`.
+/// The words into the fronts of `vectors` and `responses`; nets, level, class and the two counts into `job`.
 pub fn read_job(file: &[u8], vectors: &mut [u64], responses: &mut [u64], job: &mut [u64; JOB_WORDS]) -> u64 {
     unsafe {
         c::fontarelga_read_job(
@@ -192,9 +221,11 @@ pub fn write_job(
     file: &mut [u8],
     size: &mut u64,
 ) -> u64 {
+    let network = network.into();
     unsafe {
         c::fontarelga_write_job(
-            network.into().nets(),
+            network.nets(),
+            network.level(),
             class,
             vectors.as_ptr(),
             vectors.len(),

@@ -5,8 +5,9 @@ use crate::sizes::{MOST_FIRST_VECTORS, MOST_SECOND_VECTORS, RECORD_WORDS};
 
 const STEP: usize = 0;
 const NETS: usize = 1;
-const REACHES: usize = 10;
-const SPENT: usize = 58;
+const LEVEL: usize = 2;
+const REACHES: usize = 11;
+const SPENT: usize = 59;
 
 /// What a session waits for.
 #[derive(Clone, Copy, Debug, PartialEq, Eq, Hash)]
@@ -23,6 +24,8 @@ pub enum Waits {
 ///
 /// It owns its record and the vectors of both steps. A refused call changes nothing.
 ///
+/// Step two drives a vector for each net that step one left unclear, and at soft level 1 vector 0 before them.
+///
 /// ```
 /// use fontarelga::{Network, Session, Waits};
 /// let mut session = Session::begin(Network::new(4))?;
@@ -33,6 +36,10 @@ pub enum Waits {
 /// assert_eq!(session.waits_for(), Waits::Nothing);
 /// assert_eq!(session.reaches(), Some(&[3, 3, 0, 8][..]));
 /// assert_eq!(session.spent(), Some(8));
+///
+/// session.begin_anew(Network::new(4).with_level(0))?;
+/// session.first_answers(&[11, 3, 3, 8])?;
+/// assert_eq!(session.to_drive(), [1, 2, 4]);
 /// # Ok::<(), fontarelga::Refusal>(())
 /// ```
 #[derive(Clone, Debug, PartialEq, Eq)]
@@ -45,7 +52,7 @@ pub struct Session {
 impl Session {
     /// A session on this network that waits for first answers.
     ///
-    /// Refused: 5.
+    /// Refused: 5, 17.
     pub fn begin(network: impl Into<Network>) -> Result<Session, Refusal> {
         let mut session =
             Session { record: [0; RECORD_WORDS], first: [0; MOST_FIRST_VECTORS], second: [0; MOST_SECOND_VECTORS] };
@@ -55,7 +62,7 @@ impl Session {
 
     /// Begins anew, whatever the session waited for. What it was told before counts no more.
     ///
-    /// Refused: 5.
+    /// Refused: 5, 17.
     pub fn begin_anew(&mut self, network: impl Into<Network>) -> Result<(), Refusal> {
         Refusal::from_code(raw::begin(&mut self.record, network, &mut self.first))
     }
@@ -96,7 +103,7 @@ impl Session {
 
     /// The network.
     pub fn network(&self) -> Network {
-        Network::new(self.nets())
+        Network::new(self.nets()).with_level(self.record[LEVEL])
     }
 
     /// The number of nets.
@@ -115,7 +122,7 @@ impl Session {
         self.finished().then(|| self.record[SPENT])
     }
 
-    /// The 59 words of the record.
+    /// The words of the record.
     pub fn record(&self) -> &[u64; RECORD_WORDS] {
         &self.record
     }

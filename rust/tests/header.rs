@@ -54,7 +54,7 @@ fn session() {
 
     assert_eq!(raw::begin(&mut record, 4, &mut first), 0);
     assert_eq!(step(&record), stated("STEP_FIRST"));
-    assert_eq!(record[stated("SESSION_NETS")], 4);
+    assert_eq!((record[stated("SESSION_NETS")], record[stated("SESSION_LEVEL")]), (4, 1));
 
     assert_eq!(raw::first_answers(&mut record, &[15, 7, 7, 12], &mut second), 0);
     assert_eq!(step(&record), stated("STEP_SECOND"));
@@ -72,5 +72,6 @@ fn job() {
     let (mut vectors, mut responses, mut job) = ([0; 2], [0; 0], [9; JOB_WORDS]);
     assert_eq!(raw::read_job(&written.write().unwrap(), &mut vectors, &mut responses, &mut job), 0);
     let word = |name: &str| job[stated(name)];
-    assert_eq!((word("JOB_NETS"), word("JOB_CLASS"), word("JOB_VECTORS"), word("JOB_RESPONSES")), (4, 3, 2, 0));
+    assert_eq!((word("JOB_NETS"), word("JOB_LEVEL"), word("JOB_CLASS")), (4, 1, 3));
+    assert_eq!((word("JOB_VECTORS"), word("JOB_RESPONSES")), (2, 0));
 }

@@ -3,10 +3,11 @@
 mod support;
 
 use model::jobfile::{bytes_of, laid_out};
-use model::{read_job, write_job, Job};
+use model::{read_job, write_job, Job, Network};
 use support::boards::{low_bits, state};
 use support::calls::*;
 use support::generator::Generator;
+use support::networks::at_each_level;
 
 /// Reads with lists long enough for any job, and compares.
 fn read_agrees(file: &[u8]) -> Result<Job, u64> {
@@ -17,9 +18,9 @@ fn read_agrees(file: &[u8]) -> Result<Job, u64> {
 
 fn small_files() -> [Vec<u8>; 3] {
     [
-        bytes_of(4, 4, &[0, 1, 2, 4, 8], &[4, 7, 7, 4, 12]),
-        bytes_of(2, 1, &[1, 3], &[]),
-        bytes_of(48, 3, &[1 << 47], &[(1 << 48) - 1]),
+        bytes_of(Network { nets: 4, level: 1 }, 4, &[0, 1, 2, 4, 8], &[4, 7, 7, 4, 12]),
+        bytes_of(Network { nets: 2, level: 0 }, 1, &[1, 3], &[]),
+        bytes_of(Network { nets: 48, level: 0 }, 3, &[1 << 47], &[(1 << 48) - 1]),
     ]
 }
 
@@ -31,7 +32,7 @@ fn random_job(g: &mut Generator) -> Job {
     let words = |g: &mut Generator| (0..count).map(|_| g.word() & low_bits(n)).collect::<Vec<u64>>();
     let vectors = words(g);
     let responses = if g.once_in(3) { vec![] } else { words(g) };
-    Job { n, k: *g.pick(&classes), vectors, responses }
+    Job { network: *g.pick(&at_each_level(n)), k: *g.pick(&classes), vectors, responses }
 }
 
 #[test]
@@ -39,11 +40,11 @@ fn written_files_are_read_back() {
     let g = &mut Generator::new(7);
     for _ in 0..2000 {
         let job = random_job(g);
-        let file = bytes_of(job.n, job.k, &job.vectors, &job.responses);
+        let file = bytes_of(job.network, job.k, &job.vectors, &job.responses);
         let longer = g.below(3);
-        write_job_gives(job.n, job.k, &job.vectors, &job.responses, file.len() + longer, &Ok(file.clone()));
+        write_job_gives(job.network, job.k, &job.vectors, &job.responses, file.len() + longer, &Ok(file.clone()));
         read_job_gives(&file, job.vectors.len() + longer, job.responses.len() + longer, &Ok(job.clone()));
-        write_job_gives(job.n, job.k, &job.vectors, &job.responses, file.len() - 1, &Err(12));
+        write_job_gives(job.network, job.k, &job.vectors, &job.responses, file.len() - 1, &Err(12));
         read_job_gives(&file, job.vectors.len() - 1, 64, &Err(12));
         if !job.responses.is_empty() {
             read_job_gives(&file, 64, job.responses.len() - 1, &Err(12));
@@ -63,11 +64,12 @@ fn jobs_that_are_seldom_admitted() {
         let count = *g.pick(&[0, 1, 2, 3, 5, 64, 65]);
         let vectors: Vec<u64> = (0..count).map(|_| g.word() & bits).collect();
         let responses: Vec<u64> = (0..*g.pick(&[0, count, count, count + 1])).map(|_| g.word() & bits).collect();
-        let room = *g.pick(&[0, 20, 30, 100, 1058, 2048]);
-        let answer = write_job(n, k, &vectors, &responses, room);
+        let room = *g.pick(&[0, 20, 30, 100, 1058, 1059, 2048]);
+        let net = Network { nets: n, level: *g.pick(&[0, 0, 1, 1, 2, u64::MAX]) };
+        let answer = write_job(net, k, &vectors, &responses, room);
         refused += usize::from(answer.is_err());
-        write_job_gives(n, k, &vectors, &responses, room, &answer);
-        let _ = read_agrees(&bytes_of(n, k, &vectors, &responses));
+        write_job_gives(net, k, &vectors, &responses, room, &answer);
+        let _ = read_agrees(&bytes_of(net, k, &vectors, &responses));
     }
     assert!((1..20_000).contains(&refused));
 }
@@ -116,35 +118,58 @@ fn cut_and_lengthened() {
     }
 }
 
-/// Bodies of every small length in a right layout.
+/// Bodies of every small length in a right layout, the nets body with the front of these bytes.
 #[test]
 fn bodies_of_every_length() {
-    for nets in 0..5 {
+    for nets in (0..=5).map(|length| [2, 2, 1, 0, 0][..length].to_vec()) {
         for vectors in 0..20 {
-            let _ = read_agrees(&laid_out(&[vec![2; nets], vec![1; vectors]]));
+            let _ = read_agrees(&laid_out(&[nets.clone(), vec![1; vectors]]));
             for responses in 0..20 {
-                let _ = read_agrees(&laid_out(&[vec![2; nets], vec![0; vectors], vec![0; responses]]));
+                let _ = read_agrees(&laid_out(&[nets.clone(), vec![0; vectors], vec![0; responses]]));
             }
         }
     }
-    assert_eq!(read_agrees(&laid_out(&[vec![2, 2], vec![0; 8], vec![]])), Err(9));
-    assert_eq!(read_agrees(&laid_out(&[vec![2, 2, 2], vec![0; 8]])), Err(3));
-    assert_eq!(read_agrees(&laid_out(&[vec![2, 2]])), Err(2));
-    assert_eq!(read_agrees(&laid_out(&[vec![2, 2], vec![0; 8], vec![0; 8], vec![]])), Err(2));
+    assert_eq!(read_agrees(&laid_out(&[vec![2, 2, 1], vec![0; 8], vec![]])), Err(9));
+    assert_eq!(read_agrees(&laid_out(&[vec![2, 2, 1]])), Err(2));
+    assert_eq!(read_agrees(&laid_out(&[vec![2, 2, 1], vec![0; 8], vec![0; 8], vec![]])), Err(2));
+}
+
+/// The nets body: its length, then its level, and what comes before and after that.
+#[test]
+fn nets_bodies() {
+    let read = |nets: &[u8], byte: u8| read_agrees(&laid_out(&[nets.to_vec(), vec![byte; 8]])).map(|job| job.network);
+    for level in 0..=255 {
+        let network = Network { nets: 2, level: level.into() };
+        assert_eq!(read(&[2, 2, level], 0), if level < 2 { Ok(network) } else { Err(17) });
+    }
+    assert_eq!([read(&[2, 2], 0), read(&[2, 2, 1, 0], 0), read(&[], 0)], [Err(3); 3]);
+    assert_eq!([read(&[1, 2, 2], 0), read(&[2, 0, 2], 0), read(&[2, 2, 2], 255)], [5, 6, 17].map(Err));
+}
+
+/// Files with the mark BSJ1, whose nets body had no level.
+#[test]
+fn files_without_a_level() {
+    let without = laid_out(&[vec![2, 2], vec![0; 8]]);
+    assert_eq!(read_agrees(&without), Err(3));
+    assert_eq!(read_agrees(&[b"BSJ1", &without[4..]].concat()), Err(1));
+    assert_eq!(small_files().map(|file| read_agrees(&[b"BSJ1", &file[4..]].concat())), [1, 1, 1].map(Err));
 }
 
 #[test]
 fn files_of_about_2048_bytes() {
-    let with_total = |total: usize| laid_out(&[vec![2, 2], vec![0; total - 25]]);
-    assert_eq!(read_agrees(&with_total(2041)), Err(7));
+    let with_total = |total: usize| laid_out(&[vec![2, 2, 1], vec![0; total - 26]]);
+    assert_eq!(read_agrees(&with_total(2042)), Err(7));
     assert_eq!(read_agrees(&with_total(2048)), Err(3));
     assert_eq!(read_agrees(&with_total(2049)), Err(2));
+    assert_eq!(read_agrees(&with_total(2050)), Err(2));
     // Whole words and 2,048 bytes: only a nets body of another length leaves that.
     assert_eq!(read_agrees(&laid_out(&[vec![2; 9], vec![0; 2016]])), Err(3));
-    assert_eq!(read_agrees(&[b"BSJ2", &with_total(2049)[4..]].concat()), Err(1));
+    assert_eq!(read_agrees(&[b"BSJ1", &with_total(2049)[4..]].concat()), Err(1));
     assert_eq!(read_agrees(&vec![b'B'; 5000]), Err(1));
-    let full = bytes_of(48, 48, &[1; 64], &[2; 64]);
-    assert_eq!((full.len(), read_agrees(&full).is_ok()), (1058, true));
+    for net in at_each_level(48) {
+        let full = bytes_of(net, 48, &[1; 64], &[2; 64]);
+        assert_eq!((full.len(), read_agrees(&full).is_ok()), (1059, true));
+    }
 }
 
 /// Puts a number into entry `entry` of the table: its offset (field 0) or its length (field 1).
@@ -196,9 +221,9 @@ fn any_bytes() {
     let g = &mut Generator::new(10);
     for _ in 0..20_000 {
         let length = g.below(80);
-        let mut file: Vec<u8> = (0..length).map(|_| *g.pick(&[0, 1, 2, 3, 8, 23, 25, 32, 34, 255])).collect();
+        let mut file: Vec<u8> = (0..length).map(|_| *g.pick(&[0, 1, 2, 3, 8, 23, 26, 32, 35, 255])).collect();
         if g.below(10) > 0 {
-            file.splice(..file.len().min(4), *b"BSJ1");
+            file.splice(..file.len().min(4), *b"BSJ2");
         }
         let _ = read_agrees(&file);
     }
@@ -209,12 +234,13 @@ fn any_bytes() {
 fn a_board_goes_through_a_file() {
     let g = &mut Generator::new(11);
     let vectors: Vec<u64> = std::iter::once(0).chain((0..48).map(|i| 1 << i)).collect();
-    for _ in 0..50 {
+    for case in 0..100 {
+        let network = fontarelga::Network::new(48).with_level(case % 2);
         let board = state(g, 48, 48);
-        let responses = fontarelga::respond(48, 48, &vectors, &board).unwrap();
-        let job = fontarelga::Job { network: 48.into(), class: 48, vectors: vectors.clone(), responses };
+        let responses = fontarelga::respond(network, 48, &vectors, &board).unwrap();
+        let job = fontarelga::Job { network, class: 48, vectors: vectors.clone(), responses };
         let read = fontarelga::Job::read(&job.write().unwrap()).unwrap();
         assert_eq!(read, job);
-        assert_eq!(fontarelga::diagnose(48, 48, &read.vectors, &read.responses), Ok(board));
+        assert_eq!(fontarelga::diagnose(read.network, 48, &read.vectors, &read.responses), Ok(board));
     }
 }

@@ -1,8 +1,8 @@
 //! The table "Where a call is turned away": every row of every call, and every two rows of a call at once.
 //!
-//! For each call there is an input that is accepted, and for each row some ways to make it hold. Every way is tried
-//! alone, and every two together. The model says which rows then hold; the library must return the first of them, and
-//! leave all lists as they were.
+//! For each call there is an input of each soft level that is accepted, and for each row some ways to make it hold.
+//! Every way is tried alone, and every two together. The model says which rows then hold; the library must return the
+//! first of them, and leave all lists as they were.
 
 mod support;
 
@@ -11,9 +11,10 @@ use model::diagnosis::{rows_of_diagnose, rows_of_findings};
 use model::jobfile::{laid_out, reader_rows_holding, rows_of_write_job};
 use model::responding::{respond, rows_of_respond};
 use model::session::{rows_of_begin, rows_of_first_answers, rows_of_second_answers};
-use model::{check, diagnose, findings, read_job, write_job, Record};
+use model::{check, diagnose, findings, read_job, write_job, Network, Record};
 use std::collections::BTreeSet;
 use support::calls::*;
+use support::networks::at_each_level;
 use support::session::{session_call_gives, Call};
 
 const HIGH: u64 = 1 << 63;
@@ -21,10 +22,10 @@ const HIGH: u64 = 1 << 63;
 /// A way to make a row hold.
 type Way<I> = (u64, fn(&mut I));
 
-/// A call's table: its rows in order, an accepted input, and ways to make each row hold.
+/// A call's table: its rows in order, accepted inputs, one a soft level, and ways to make each row hold.
 struct Table<I> {
     rows: &'static [u64],
-    accepted: I,
+    accepted: [I; 2],
     ways: Vec<Way<I>>,
 }
 
@@ -36,22 +37,33 @@ impl<I: Clone> Table<I> {
             make(input, rows.first().copied());
             rows
         };
-        assert!(tried(&self.accepted).is_empty());
-        for (row, way) in &self.ways {
-            assert!(tried(&changed(&self.accepted, &[*way])).contains(row), "row {row} does not hold");
+        for accepted in &self.accepted {
+            assert!(tried(accepted).is_empty());
+            self.try_alone(accepted, tried);
+            self.try_together(accepted, tried);
         }
-        let mut together = BTreeSet::new();
+        println!("rows {:?}: {} inputs", self.rows, 2 * (1 + self.ways.len() + self.ways.len().pow(2)));
+    }
+
+    /// Every way alone makes its row hold.
+    fn try_alone(&self, accepted: &I, tried: impl Fn(&I) -> Vec<u64>) {
         for (row, way) in &self.ways {
-            for (other, other_way) in &self.ways {
-                let rows = tried(&changed(&self.accepted, &[*way, *other_way]));
-                if rows.contains(row) && rows.contains(other) {
-                    together.insert((rows[0], *row));
-                    together.insert((rows[0], *other));
-                }
+            assert!(tried(&changed(accepted, &[*way])).contains(row), "row {row} does not hold");
+        }
+    }
+
+    /// Every two ways.
+    fn try_together(&self, accepted: &I, tried: impl Fn(&I) -> Vec<u64>) {
+        let mut together = BTreeSet::new();
+        let pairs = self.ways.iter().flat_map(|one| self.ways.iter().map(move |other| (one, other)));
+        for ((row, way), (other, other_way)) in pairs {
+            let rows = tried(&changed(accepted, &[*way, *other_way]));
+            if rows.contains(row) && rows.contains(other) {
+                together.insert((rows[0], *row));
+                together.insert((rows[0], *other));
             }
         }
         self.assert_all_tried(&together);
-        println!("rows {:?}: {} inputs", self.rows, 1 + self.ways.len() + self.ways.len().pow(2));
     }
 
     /// Every row was returned, and every two rows held at once with no earlier one. There are no two rows of a call
@@ -81,7 +93,7 @@ fn by_rows<T>(answer: Result<T, u64>, first: Option<u64>) -> Result<T, u64> {
 /// What the calls on test sets take and are lent.
 #[derive(Clone)]
 struct Set {
-    n: u64,
+    net: Network,
     k: u64,
     vectors: Vec<u64>,
     responses: Vec<u64>,
@@ -89,25 +101,42 @@ struct Set {
     room: usize,
 }
 
-/// Three nets, class 3, nets 0 and 1 tied and net 2 floating.
-fn accepted_set() -> Set {
-    Set { n: 3, k: 3, vectors: vec![0, 1, 2, 4], responses: vec![4, 7, 7, 4], state: vec![3, 3, 0], room: 4 }
+/// Three nets, class 3, nets 0 and 1 tied and net 2 floating, with this much room.
+fn accepted_sets(room: usize) -> [Set; 2] {
+    at_each_level(3).map(|net| Set {
+        net,
+        k: 3,
+        vectors: vec![0, 1, 2, 4],
+        responses: tied_and_floating(net.level),
+        state: vec![3, 3, 0],
+        room,
+    })
 }
 
-/// Ways for rows 5 to 8.
+/// What they answer to vectors 0 1 2 4.
+fn tied_and_floating(level: u64) -> Vec<u64> {
+    match level {
+        0 => vec![0, 3, 3, 0],
+        _ => vec![4, 7, 7, 4],
+    }
+}
+
+/// Ways for rows 5, 6, 17, 7 and 8.
 fn set_ways() -> Vec<Way<Set>> {
     vec![
-        (5, |i| i.n = 0),
-        (5, |i| i.n = 1),
-        (5, |i| i.n = 49),
-        (5, |i| i.n = 64),
-        (5, |i| i.n = u64::MAX),
+        (5, |i| i.net.nets = 0),
+        (5, |i| i.net.nets = 1),
+        (5, |i| i.net.nets = 49),
+        (5, |i| i.net.nets = 64),
+        (5, |i| i.net.nets = u64::MAX),
         (6, |i| i.k = 0),
         (6, |i| i.k = 4),
         (6, |i| i.k = 49),
         (6, |i| i.k = u64::MAX),
-        (6, |i| (i.n, i.k) = (2, 3)),
-        (6, |i| (i.n, i.k) = (5, 4)),
+        (6, |i| (i.net.nets, i.k) = (2, 3)),
+        (6, |i| (i.net.nets, i.k) = (5, 4)),
+        (17, |i| i.net.level = 2),
+        (17, |i| i.net.level = u64::MAX),
         (7, |i| (i.vectors, i.responses) = (vec![], vec![])),
         (7, |i| {
             i.vectors.resize(65, 0);
@@ -143,10 +172,10 @@ fn state_ways() -> Vec<Way<Set>> {
 
 #[test]
 fn checker() {
-    let table = Table { rows: &[5, 6, 7, 8], accepted: accepted_set(), ways: set_ways() };
+    let table = Table { rows: &[5, 6, 17, 7, 8], accepted: accepted_sets(0), ways: set_ways() };
     table.try_all(
-        |i| rows_of_check(i.n, i.k, &i.vectors).holding(),
-        |i, first| check_gives(i.n, i.k, &i.vectors, &by_rows(check(i.n, i.k, &i.vectors), first)),
+        |i| rows_of_check(i.net, i.k, &i.vectors).holding(),
+        |i, first| check_gives(i.net, i.k, &i.vectors, &by_rows(check(i.net, i.k, &i.vectors), first)),
     );
 }
 
@@ -155,15 +184,15 @@ fn response_from_a_state() {
     let more_drivers: Way<Set> = (11, |i| (i.k, i.state) = (1, vec![3, 3, 0]));
     let room: Vec<Way<Set>> = vec![(12, |i| i.room = 3), (12, |i| i.room = 0)];
     let table = Table {
-        rows: &[5, 6, 7, 8, 11, 12],
-        accepted: accepted_set(),
+        rows: &[5, 6, 17, 7, 8, 11, 12],
+        accepted: accepted_sets(4),
         ways: [set_ways(), state_ways(), vec![more_drivers], room].concat(),
     };
     table.try_all(
-        |i| rows_of_respond(i.n, i.k, &i.vectors, &i.state, i.room).holding(),
+        |i| rows_of_respond(i.net, i.k, &i.vectors, &i.state, i.room).holding(),
         |i, first| {
-            let answer = by_rows(respond(i.n, i.k, &i.vectors, &i.state, i.room), first);
-            respond_gives(i.n, i.k, &i.vectors, &i.state, i.room, &answer)
+            let answer = by_rows(respond(i.net, i.k, &i.vectors, &i.state, i.room), first);
+            respond_gives(i.net, i.k, &i.vectors, &i.state, i.room, &answer)
         },
     );
 }
@@ -173,27 +202,27 @@ fn diagnosis() {
     let own: Vec<Way<Set>> = vec![
         (12, |i| i.room = 2),
         (12, |i| i.room = 0),
-        // Without vector 0, and without a walking vector.
-        (13, |i| i.vectors = vec![1, 1, 2, 4]),
+        // Without a walking vector, and at level 1 without vector 0.
         (13, |i| i.vectors = vec![0, 1, 2, 2]),
+        (13, |i| i.vectors = if i.net.level == 1 { vec![1, 1, 2, 4] } else { vec![1, 1, 4, 4] }),
         (13, |i| {
             i.k = 2;
             i.vectors.fill(0);
         }),
-        // Reaches that meet and differ, and a receiver that reads 1 on vector 0 and 0 on another.
-        (14, |i| i.responses = vec![4, 5, 7, 4]),
-        (14, |i| i.responses.iter_mut().skip(1).for_each(|word| *word &= 3)),
+        // Reaches that meet and differ, and a receiver that floats, but for what it reads on vector 0.
+        (14, |i| *i.responses.get_mut(1).unwrap_or(&mut 0) &= !2),
+        (14, |i| *i.responses.get_mut(0).unwrap_or(&mut 0) ^= 4),
     ];
     let table = Table {
-        rows: &[5, 6, 7, 8, 9, 10, 12, 13, 14],
-        accepted: accepted_set(),
+        rows: &[5, 6, 17, 7, 8, 9, 10, 12, 13, 14],
+        accepted: accepted_sets(4),
         ways: [set_ways(), response_ways(), own].concat(),
     };
     table.try_all(
-        |i| rows_of_diagnose(i.n, i.k, &i.vectors, &i.responses, i.room).holding(),
+        |i| rows_of_diagnose(i.net, i.k, &i.vectors, &i.responses, i.room).holding(),
         |i, first| {
-            let answer = by_rows(diagnose(i.n, i.k, &i.vectors, &i.responses, i.room), first);
-            diagnose_gives(i.n, i.k, &i.vectors, &i.responses, i.room, &answer)
+            let answer = by_rows(diagnose(i.net, i.k, &i.vectors, &i.responses, i.room), first);
+            diagnose_gives(i.net, i.k, &i.vectors, &i.responses, i.room, &answer)
         },
     );
 }
@@ -202,39 +231,40 @@ fn diagnosis() {
 #[test]
 fn findings_of_a_state() {
     let mut ways = state_ways();
-    ways.extend::<[Way<Set>; 6]>([
-        (5, |i| i.n = 1),
-        (5, |i| i.n = 49),
-        (5, |i| i.n = u64::MAX),
+    ways.extend::<[Way<Set>; 8]>([
+        (5, |i| i.net.nets = 1),
+        (5, |i| i.net.nets = 49),
+        (5, |i| i.net.nets = u64::MAX),
+        (17, |i| i.net.level = 2),
+        (17, |i| i.net.level = u64::MAX),
         (12, |i| i.room = 8),
         (12, |i| i.room = 1),
         (12, |i| i.room = 0),
     ]);
-    let accepted = Set { room: 10, ..accepted_set() };
-    let table = Table { rows: &[5, 11, 12], accepted, ways };
+    let table = Table { rows: &[5, 17, 11, 12], accepted: accepted_sets(10), ways };
     table.try_all(
-        |i| rows_of_findings(i.n, &i.state, i.room / 3).holding(),
+        |i| rows_of_findings(i.net, &i.state, i.room / 3).holding(),
         |i, first| {
-            let answer = by_rows(findings(i.n, &i.state, i.room / 3), first);
-            findings_gives(i.n, &i.state, i.room, &answer)
+            let answer = by_rows(findings(i.net, &i.state, i.room / 3), first);
+            findings_gives(i.net, &i.state, i.room, &answer)
         },
     );
 }
 
-/// Room of the writer's file is in bytes; the accepted job needs 98 of them.
+/// Room of the writer's file is in bytes; the accepted job needs 99 of them.
 #[test]
 fn job_writer() {
-    let room: Vec<Way<Set>> = vec![(12, |i| i.room = 97), (12, |i| i.room = 0)];
+    let room: Vec<Way<Set>> = vec![(12, |i| i.room = 98), (12, |i| i.room = 0)];
     let table = Table {
-        rows: &[5, 6, 7, 8, 9, 10, 12],
-        accepted: Set { room: 98, ..accepted_set() },
+        rows: &[5, 6, 17, 7, 8, 9, 10, 12],
+        accepted: accepted_sets(99),
         ways: [set_ways(), response_ways(), room].concat(),
     };
     table.try_all(
-        |i| rows_of_write_job(i.n, i.k, &i.vectors, &i.responses, i.room).holding(),
+        |i| rows_of_write_job(i.net, i.k, &i.vectors, &i.responses, i.room).holding(),
         |i, first| {
-            let answer = by_rows(write_job(i.n, i.k, &i.vectors, &i.responses, i.room), first);
-            write_job_gives(i.n, i.k, &i.vectors, &i.responses, i.room, &answer)
+            let answer = by_rows(write_job(i.net, i.k, &i.vectors, &i.responses, i.room), first);
+            write_job_gives(i.net, i.k, &i.vectors, &i.responses, i.room, &answer)
         },
     );
 }
@@ -268,29 +298,30 @@ fn words(list: &[u64]) -> Vec<u8> {
     list.iter().flat_map(|word| word.to_le_bytes()).collect()
 }
 
-fn accepted_parts() -> Parts {
-    Parts {
-        mark: b"BSJ1".to_vec(),
-        nets: vec![3, 3],
+fn accepted_parts() -> [Parts; 2] {
+    [0, 1].map(|level| Parts {
+        mark: b"BSJ2".to_vec(),
+        nets: vec![3, 3, level],
         vectors: words(&[0, 1, 2, 4]),
-        responses: words(&[4, 7, 7, 4]),
+        responses: words(&tied_and_floating(level.into())),
         count: None,
         rest: vec![],
         rooms: (4, 4),
-    }
+    })
 }
 
 /// Ways to break a job file, each with the row that it makes hold.
 fn reader_ways() -> Vec<Way<Parts>> {
     vec![
-        (1, |i| i.mark = b"BSJ2".to_vec()),
-        (1, |i| i.mark = b"bSJ1".to_vec()),
+        (1, |i| i.mark = b"BSJ1".to_vec()),
+        (1, |i| i.mark = b"bSJ2".to_vec()),
         (2, |i| i.count = Some(2)),
         (2, |i| i.count = Some(4)),
         (2, |i| i.rest.push(0)),
         // Right layout, but over 2,048 bytes: rows on what the file says can hold too.
         (2, |i| i.responses.extend([0; 2048])),
         (3, |i| i.nets.push(0)),
+        (3, |i| i.nets.truncate(2)),
         (3, |i| i.nets.truncate(1)),
         (3, |i| i.vectors.push(0)),
         (3, |i| i.responses.push(0)),
@@ -298,8 +329,10 @@ fn reader_ways() -> Vec<Way<Parts>> {
         (5, |i| i.nets[0] = 1),
         (5, |i| i.nets[0] = 49),
         (5, |i| i.nets[0] = 255),
-        (6, |i| i.nets = vec![i.nets[0], 0]),
-        (6, |i| i.nets = vec![i.nets[0], 4]),
+        (6, |i| *i.nets.get_mut(1).unwrap_or(&mut 0) = 0),
+        (6, |i| *i.nets.get_mut(1).unwrap_or(&mut 0) = 4),
+        (17, |i| *i.nets.get_mut(2).unwrap_or(&mut 0) = 2),
+        (17, |i| *i.nets.get_mut(2).unwrap_or(&mut 0) = 255),
         (7, |i| i.vectors.clear()),
         (7, |i| i.vectors.resize(65 * 8, 0)),
         (8, |i| *i.vectors.get_mut(0).unwrap_or(&mut 0) |= 8),
@@ -317,7 +350,7 @@ fn reader_ways() -> Vec<Way<Parts>> {
 
 #[test]
 fn job_reader() {
-    let table = Table { rows: &[1, 2, 3, 5, 6, 7, 8, 9, 10, 12], accepted: accepted_parts(), ways: reader_ways() };
+    let table = Table { rows: &[1, 2, 3, 5, 6, 17, 7, 8, 9, 10, 12], accepted: accepted_parts(), ways: reader_ways() };
     table.try_all(
         |i| reader_rows_holding(&i.file(), i.rooms.0, i.rooms.1),
         |i, first| {
@@ -331,7 +364,7 @@ fn job_reader() {
 #[derive(Clone)]
 struct Step {
     record: Record,
-    n: u64,
+    net: Network,
     answers: Vec<u64>,
     room: usize,
 }
@@ -341,31 +374,42 @@ fn make(step: &Step, call: Call, first: Option<u64>) {
     session_call_gives(&step.record.words(), &call, &answer);
 }
 
-fn begun() -> Record {
-    model::begin(4, 4).unwrap().0
+fn begun(net: Network) -> Record {
+    model::begin(net, 4).unwrap().0
 }
 
 #[test]
 fn begin() {
     let ways: Vec<Way<Step>> = vec![
-        (5, |i| i.n = 0),
-        (5, |i| i.n = 1),
-        (5, |i| i.n = 49),
-        (5, |i| i.n = u64::MAX),
+        (5, |i| i.net.nets = 0),
+        (5, |i| i.net.nets = 1),
+        (5, |i| i.net.nets = 49),
+        (5, |i| i.net.nets = u64::MAX),
+        (17, |i| i.net.level = 2),
+        (17, |i| i.net.level = u64::MAX),
         (12, |i| i.room = 3),
         (12, |i| i.room = 0),
     ];
-    let mut junk = begun();
-    junk.spent = 77;
-    let accepted = Step { record: junk, n: 4, answers: vec![], room: 4 };
-    let table = Table { rows: &[5, 12], accepted, ways };
+    let accepted = at_each_level(4).map(|net| {
+        let junk = Record { spent: 77, ..begun(net) };
+        Step { record: junk, net, answers: vec![], room: 4 }
+    });
+    let table = Table { rows: &[5, 17, 12], accepted, ways };
     table.try_all(
-        |i| rows_of_begin(i.n, i.room).holding(),
-        |i, first| make(i, Call::Begin { n: i.n, room: i.room }, first),
+        |i| rows_of_begin(i.net, i.room).holding(),
+        |i, first| make(i, Call::Begin { net: i.net, room: i.room }, first),
     );
 }
 
-/// Ways for row 4: each unused field, and the net count.
+/// Four nets: 0 and 1 tied, 2 floating, 3 sound. What they answer to step one and to step two.
+fn answers(level: u64) -> [Vec<u64>; 2] {
+    match level {
+        0 => [vec![11, 3, 3, 8], vec![3, 3, 0]],
+        _ => [vec![15, 7, 7, 12], vec![4, 7, 7, 4]],
+    }
+}
+
+/// Ways for row 4: each unused field, the net count and the level.
 fn record_ways() -> Vec<Way<Step>> {
     vec![
         (4, |i| i.record.step = 0),
@@ -375,15 +419,17 @@ fn record_ways() -> Vec<Way<Step>> {
         (4, |i| i.record.reaches[0] = 1),
         (4, |i| i.record.reaches[47] = 1),
         (4, |i| i.record.answers[7] = 1),
-        (4, |i| i.record.nets = 1),
-        (4, |i| i.record.nets = 49),
+        (4, |i| i.record.network.nets = 1),
+        (4, |i| i.record.network.nets = 49),
+        (4, |i| i.record.network.level = 2),
+        (4, |i| i.record.network.level = u64::MAX),
     ]
 }
 
 /// Ways for rows 9 and 10.
 fn answer_ways() -> Vec<Way<Step>> {
     vec![
-        (9, |i| i.answers.truncate(3)),
+        (9, |i| _ = i.answers.pop()),
         (9, |i| i.answers.push(0)),
         (9, |i| i.answers.clear()),
         (10, |i| *i.answers.get_mut(0).unwrap_or(&mut 0) |= 16),
@@ -393,8 +439,11 @@ fn answer_ways() -> Vec<Way<Step>> {
 
 #[test]
 fn first_answers() {
-    let room: Vec<Way<Step>> = vec![(12, |i| i.room = 3), (12, |i| i.room = 0)];
-    let accepted = Step { record: begun(), n: 0, answers: vec![15, 7, 7, 12], room: 4 };
+    let room: Vec<Way<Step>> = vec![(12, |i| i.room = i.room.saturating_sub(1)), (12, |i| i.room = 0)];
+    let accepted = at_each_level(4).map(|net| {
+        let [first, second] = answers(net.level);
+        Step { record: begun(net), net, answers: first, room: second.len() }
+    });
     let table = Table { rows: &[4, 9, 10, 12], accepted, ways: [record_ways(), answer_ways(), room].concat() };
     table.try_all(
         |i| rows_of_first_answers(&i.record, &i.answers, i.room).holding(),
@@ -410,8 +459,11 @@ fn second_answers() {
         (14, |i| *i.answers.get_mut(1).unwrap_or(&mut 0) &= !2),
         (14, |i| i.record.answers[3] = 4),
     ];
-    let record = model::first_answers(&begun(), &[15, 7, 7, 12], 4).unwrap().0;
-    let accepted = Step { record, n: 0, answers: vec![4, 7, 7, 4], room: 0 };
+    let accepted = at_each_level(4).map(|net| {
+        let [first, second] = answers(net.level);
+        let record = model::first_answers(&begun(net), &first, 4).unwrap().0;
+        Step { record, net, answers: second, room: 0 }
+    });
     let table = Table { rows: &[4, 9, 10, 14], accepted, ways: [record_ways(), answer_ways(), unfit].concat() };
     table.try_all(
         |i| rows_of_second_answers(&i.record, &i.answers).holding(),

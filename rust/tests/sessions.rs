@@ -1,14 +1,16 @@
-//! Sessions: every list of a few calls on two nets, every state of up to four, damaged records and damaged answers.
+//! Sessions at both soft levels: every list of a few calls on two nets, every state of up to four, damaged records and
+//! damaged answers.
 
 mod support;
 
 use model::network::{all_lists, all_states, response};
 use model::session::{finished, left_waiting, FINISHED, FIRST, SECOND, WORDS};
-use model::Record;
+use model::{Network, Record};
 use std::collections::HashMap;
 use std::rc::Rc;
 use support::boards;
 use support::generator::Generator;
+use support::networks::at_each_level;
 use support::session::*;
 
 /// The most words that a call of the walk is lent.
@@ -76,19 +78,21 @@ impl Walk {
     }
 }
 
-/// Begins: accepted with room to spare, and refused by 12 and 5.
-fn begins() -> Vec<Call> {
-    [(2, 3), (2, 1), (1, 3), (49, 6)].map(|(n, room)| Call::Begin { n, room }).to_vec()
+/// Begins: accepted with room to spare, at the level and at the other one, and refused by 12, 5 and 17.
+fn begins(level: u64) -> Vec<Call> {
+    let calls = [(2, level, 3), (2, 1 - level, 2), (2, level, 1), (1, level, 3), (49, level, 6), (2, 2, 3)];
+    calls.map(|(nets, level, room)| Call::Begin { net: Network { nets, level }, room }).to_vec()
 }
 
 /// First answers: every two words below 4, right for some state or not; room exact, short and not needed; too few, too
 /// many, high bits.
-fn firsts() -> Vec<Call> {
+fn firsts(level: u64) -> Vec<Call> {
+    let most = 2 + level as usize;
     let mut calls: Vec<Call> = all_lists(4, 2).into_iter().map(|answers| Call::First { answers, room: 4 }).collect();
     let others: [(&[u64], usize); 8] = [
         (&[1, 2], 0),
-        (&[3, 3], 3),
-        (&[3, 3], 2),
+        (&[3, 3], most),
+        (&[3, 3], most - 1),
         (&[3], 4),
         (&[1, 2, 0], 4),
         (&[4, 1], 4),
@@ -99,12 +103,13 @@ fn firsts() -> Vec<Call> {
     calls
 }
 
-/// Second answers that some state gives after some first answers.
-fn right_seconds() -> Vec<Vec<u64>> {
+/// Second answers that some state gives after some first answers. Vector 0 is asked at level 1 only.
+fn right_seconds(level: u64) -> Vec<Vec<u64>> {
     let mut lists: Vec<Vec<u64>> = Vec::new();
     for state in all_states(2, 2) {
-        for second in [vec![0, 1, 2], vec![0, 1], vec![0, 2]] {
-            lists.push(response(&second, &state));
+        for asked in [[0, 1, 2].as_slice(), &[0, 1], &[0, 2]] {
+            let second = if level == 1 { asked } else { &asked[1..] };
+            lists.push(response(Network { nets: 2, level }, second, &state));
         }
     }
     lists.sort();
@@ -112,7 +117,7 @@ fn right_seconds() -> Vec<Vec<u64>> {
     lists
 }
 
-/// Second answers that are refused after any first ones: none, too few, too many, high bits.
+/// Second answers that are refused after any first ones: none, too few or given by no state, too many, high bits.
 fn odd_seconds() -> Vec<Vec<u64>> {
     vec![vec![], vec![3], vec![0, 1, 2, 0], vec![4, 1, 2], vec![0, 1 << 63], vec![4]]
 }
@@ -121,32 +126,29 @@ fn seconds(lists: Vec<Vec<u64>>) -> Vec<Call> {
     lists.into_iter().map(|answers| Call::Second { answers }).collect()
 }
 
-/// The record that accepted calls on two nets leave.
-fn after(first: &[u64], second: Option<&[u64]>) -> Record {
-    let (begun, _) = model::begin(2, 2).unwrap();
-    let (mut record, _) = model::first_answers(&begun, first, 3).unwrap();
-    if let Some(answers) = second {
-        record = model::second_answers(&record, answers).unwrap();
-    }
-    record
-}
-
-/// Records to start from: clean, junk, left by calls, and nearly so.
-fn starting_records() -> Vec<[u64; WORDS]> {
+/// Records to start from: clean, junk, left by calls, and nearly so, in the level too.
+fn starting_records(level: u64) -> Vec<[u64; WORDS]> {
     let mut g = Generator::new(59);
-    let begun = model::begin(2, 2).unwrap().0;
-    let waiting = after(&[3, 3], None);
+    let begun = model::begin(Network { nets: 2, level }, 2).unwrap().0;
+    let (waiting, second) = model::first_answers(&begun, &[3, 3], 3).unwrap();
+    let tied = model::second_answers(&waiting, &response(begun.network, &second, &[3, 3])).unwrap();
+    let with_level = |level: u64, record: &Record| Record { network: Network { nets: 2, level }, ..record.clone() };
     vec![
         [0; WORDS],
         [u64::MAX; WORDS],
         std::array::from_fn(|_| g.word() % 4),
         begun.words(),
         Record { spent: 1, ..begun.clone() }.words(),
+        with_level(2, &begun).words(),
         waiting.words(),
         Record { spent: 5, ..waiting.clone() }.words(),
+        with_level(2, &waiting).words(),
+        with_level(u64::MAX, &waiting).words(),
+        // Accepted calls at the other level leave this one.
+        with_level(1 - level, &waiting).words(),
         // Answers that leave no net unclear finish a session, so no call leaves this one waiting.
         Record { answers: [1, 2, 0, 0, 0, 0, 0, 0], ..waiting }.words(),
-        after(&[3, 3], Some(&[3, 3, 3])).words(),
+        tied.words(),
     ]
 }
 
@@ -159,26 +161,30 @@ fn walk(calls: Vec<Call>, depth: usize, records: &[[u64; WORDS]]) -> (usize, usi
 
 #[test]
 fn every_list_of_4_calls_on_2_nets() {
-    let calls = [begins(), firsts(), seconds(right_seconds()), seconds(odd_seconds())].concat();
-    let alphabet = calls.len();
-    let (made, accepted) = walk(calls, 4, &starting_records()[..3]);
-    println!("lists of up to 4 of {alphabet} calls: {made} calls, {accepted} accepted");
-    assert!(accepted > 0 && accepted < made);
+    for level in [0, 1] {
+        let calls = [begins(level), firsts(level), seconds(right_seconds(level)), seconds(odd_seconds())].concat();
+        let alphabet = calls.len();
+        let (made, accepted) = walk(calls, 4, &starting_records(level)[..3]);
+        println!("level {level}, lists of up to 4 of {alphabet} calls: {made} calls, {accepted} accepted");
+        assert!(accepted > 0 && accepted < made);
+    }
 }
 
 /// The same with every list of second answers, wrong ones included, and from more records.
 #[test]
 fn every_list_of_3_calls_on_2_nets() {
-    let every_second = [all_lists(4, 2), all_lists(4, 3), odd_seconds()].concat();
-    let calls = [begins(), firsts(), seconds(every_second)].concat();
-    let alphabet = calls.len();
-    let (made, accepted) = walk(calls, 3, &starting_records());
-    println!("lists of up to 3 of {alphabet} calls: {made} calls, {accepted} accepted");
-    assert!(accepted > 0 && accepted < made);
+    for level in [0, 1] {
+        let every_second = [all_lists(4, 1 + level as usize), all_lists(4, 2 + level as usize), odd_seconds()].concat();
+        let calls = [begins(level), firsts(level), seconds(every_second)].concat();
+        let alphabet = calls.len();
+        let (made, accepted) = walk(calls, 3, &starting_records(level));
+        println!("level {level}, lists of up to 3 of {alphabet} calls: {made} calls, {accepted} accepted");
+        assert!(accepted > 0 && accepted < made);
+    }
 }
 
 /// A session with these answers to step one and two, each call compared with the model. Gives the last record.
-fn run(n: u64, answer_first: &[u64], answer_second: impl FnOnce(&[u64]) -> Vec<u64>) -> Result<Record, u64> {
+fn run(net: Network, answer_first: &[u64], answer_second: impl FnOnce(&[u64]) -> Vec<u64>) -> Result<Record, u64> {
     let mut record = [0xBAD; WORDS];
     let mut make = |call: Call| -> Result<Left, u64> {
         let answer = call.answer(&Record::from_words(&record));
@@ -188,7 +194,7 @@ fn run(n: u64, answer_first: &[u64], answer_second: impl FnOnce(&[u64]) -> Vec<u
         part_to_drive_agrees(&record);
         Ok((left, written))
     };
-    make(Call::Begin { n, room: 9 })?;
+    make(Call::Begin { net, room: 9 })?;
     let (left, second) = make(Call::First { answers: answer_first.to_vec(), room: 50 })?;
     if left.step == FINISHED {
         return Ok(left);
@@ -196,27 +202,32 @@ fn run(n: u64, answer_first: &[u64], answer_second: impl FnOnce(&[u64]) -> Vec<u
     Ok(make(Call::Second { answers: answer_second(&second) })?.0)
 }
 
-/// A board that stays the same through both steps is the one reported, with p or p + F + 1 vectors spent.
-fn assert_reported(n: u64, state: &[u64]) {
-    let first = model::session::first_vectors(n);
-    let answers = response(&first, state);
-    let unclear = model::session::unclear_nets(n, &answers).len();
-    let record = run(n, &answers, |second| response(second, state)).expect("a state is never refused");
-    let spent = if unclear == 0 { first.len() } else { first.len() + unclear + 1 };
-    assert_eq!(record, finished(n, state, spent), "{n} {state:?}");
+/// A board that stays the same through both steps is the one reported. With p vectors spent if all nets are clear, else
+/// with p + F at level 0 and p + F + 1 at level 1.
+fn assert_reported(net: Network, state: &[u64]) {
+    let first = model::session::first_vectors(net.nets);
+    let answers = response(net, &first, state);
+    let unclear = model::session::unclear_nets(net.nets, &answers).len();
+    let record = run(net, &answers, |second| response(net, second, state)).expect("a state is never refused");
+    let spent = match (unclear, net.level) {
+        (0, _) => first.len(),
+        (_, 0) => first.len() + unclear,
+        _ => first.len() + unclear + 1,
+    };
+    assert_eq!(record, finished(net, state, spent), "{net:?} {state:?}");
 }
 
 #[test]
 fn every_state_of_up_to_4_nets_is_reported() {
     let mut boards = 0;
-    for n in 2..=4 {
-        for state in all_states(n, n) {
-            assert_reported(n, &state);
+    for net in (2..=4).flat_map(at_each_level) {
+        for state in all_states(net.nets, net.nets) {
+            assert_reported(net, &state);
             boards += 1;
         }
     }
-    println!("sessions over every state of 2 to 4 nets: {boards}");
-    assert!(boards > 1000);
+    println!("sessions over every state of 2 to 4 nets at both levels: {boards}");
+    assert!(boards > 2000);
 }
 
 #[test]
@@ -224,53 +235,61 @@ fn random_boards_of_2_to_48_nets_are_reported() {
     let g = &mut Generator::new(48);
     for case in 0..940 {
         let n = 2 + case % 47;
-        assert_reported(n, &boards::state(g, n, n));
+        let board = boards::state(g, n, n);
+        at_each_level(n).iter().for_each(|net| assert_reported(*net, &board));
     }
-    (2..=48).for_each(|n| assert_reported(n, &(0..n).map(|i| 1 << i).collect::<Vec<_>>()));
+    for net in (2..=48).flat_map(at_each_level) {
+        assert_reported(net, &(0..net.nets).map(|i| 1 << i).collect::<Vec<_>>());
+    }
 }
 
-/// Answers of a board with a bit turned in the first step, in the second, in both; and any words.
+/// A session over a random board with a bit turned in the first step, in the second, in both, or with any words.
+fn run_damaged(g: &mut Generator, net: Network, case: usize) -> Result<Record, u64> {
+    let n = net.nets;
+    let state = boards::state(g, n, n);
+    let mut first = response(net, &model::session::first_vectors(n), &state);
+    if case.is_multiple_of(2) {
+        first = g.one_bit_turned(&first, n);
+    }
+    run(net, &first, |second| match case % 5 {
+        0 => second.iter().map(|_| g.word() & boards::low_bits(n)).collect(),
+        1 | 2 => g.one_bit_turned(&response(net, second, &state), n),
+        _ => response(net, second, &state),
+    })
+}
+
 #[test]
 fn damaged_answers() {
     let g = &mut Generator::new(14);
-    let (mut cases, mut unfit) = (0, 0);
-    for n in [3, 4, 5, 6, 9, 17, 33, 48] {
-        for case in 0..300 {
-            let state = boards::state(g, n, n);
-            let mut first = response(&model::session::first_vectors(n), &state);
-            if case % 2 == 0 {
-                first = g.one_bit_turned(&first, n);
-            }
-            let outcome = run(n, &first, |second| match case % 5 {
-                0 => second.iter().map(|_| g.word() & boards::low_bits(n)).collect(),
-                1 | 2 => g.one_bit_turned(&response(second, &state), n),
-                _ => response(second, &state),
-            });
-            cases += 1;
-            unfit += usize::from(outcome == Err(14));
+    for level in [0, 1] {
+        let (mut cases, mut unfit) = (0, 0);
+        for nets in [3, 4, 5, 6, 9, 17, 33, 48] {
+            cases += 300;
+            let outcomes = (0..300).map(|case| run_damaged(g, Network { nets, level }, case));
+            unfit += outcomes.filter(|outcome| *outcome == Err(14)).count();
         }
+        println!("level {level}, sessions with damaged answers: {cases}, refused with 14: {unfit}");
+        assert!(unfit > cases / 10 && unfit < cases);
     }
-    println!("sessions with damaged answers: {cases}, refused with 14: {unfit}");
-    assert!(unfit > cases / 10 && unfit < cases);
 }
 
 /// Records left by calls, on few and many nets, with answers that suit each.
 fn left_records() -> Vec<(Record, Vec<u64>, Vec<u64>)> {
     let mut records = Vec::new();
-    for n in [2, 3, 4, 6, 7, 10, 48] {
-        let (begun, first) = model::begin(n, 8).unwrap();
-        let mut state: Vec<u64> = (0..n).map(|i| 1 << i).collect();
+    for net in [2, 3, 4, 6, 7, 10, 48].into_iter().flat_map(at_each_level) {
+        let (begun, first) = model::begin(net, 8).unwrap();
+        let mut state: Vec<u64> = (0..net.nets).map(|i| 1 << i).collect();
         state[0] = 0;
-        let answers = response(&first, &state);
+        let answers = response(net, &first, &state);
         let (waiting, second) = model::first_answers(&begun, &answers, 49).unwrap();
-        let answers_2 = response(&second, &state);
+        let answers_2 = response(net, &second, &state);
         let done = model::second_answers(&waiting, &answers_2).unwrap();
         records.extend([begun, waiting, done].map(|record| (record, answers.clone(), answers_2.clone())));
     }
     records
 }
 
-/// Numbers that a step, a net count or a word may be mistaken for, and the neighbours of the old one.
+/// Numbers that a step, a net count, a level or a word may be mistaken for, and the neighbours of the old one.
 fn values_near(old: u64) -> [u64; 17] {
     [0, 1, 2, 3, 4, 5, 47, 48, 49, 60, 71, old ^ 1, old ^ 2, old.wrapping_add(1), 1 << 47, 1 << 63, u64::MAX]
 }
@@ -289,7 +308,7 @@ fn records_with_any_word_changed() {
                 changed[place] = new;
                 let record = Record::from_words(&changed);
                 let calls = [
-                    Call::Begin { n: 3, room: 4 },
+                    Call::Begin { net: Network { nets: 3, level: 0 }, room: 4 },
                     Call::First { answers: first.clone(), room: 49 },
                     Call::Second { answers: second.clone() },
                 ];

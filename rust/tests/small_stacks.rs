@@ -1,11 +1,12 @@
-//! Every call at its largest, on a thread with no more stack than is stated for it. A call that takes more ends the
-//! whole test program, with the words that a thread has overflowed its stack.
+//! Every call at its largest, at both soft levels, on a thread with no more stack than is stated for it. A call that
+//! takes more ends the whole test program, with the words that a thread has overflowed its stack.
 
 mod support;
 
 use fontarelga::*;
 use support::boards::{state, walking_set};
 use support::generator::Generator;
+use support::networks::{at_each_level, of_library};
 
 const N: u64 = MOST_NETS as u64;
 
@@ -17,22 +18,32 @@ fn on_a_stack_of<T: Send>(bytes: usize, call: impl FnOnce() -> T + Send) -> T {
     })
 }
 
-/// 64 vectors for 48 nets, which pass for every class.
+/// 48 nets at each level.
+fn largest_networks() -> [Network; 2] {
+    at_each_level(N).map(of_library)
+}
+
+/// 64 vectors for 48 nets, which pass for every class at either level.
 fn largest_set(g: &mut Generator) -> Vec<u64> {
-    let mut vectors = walking_set(g, N);
+    let mut vectors = walking_set(g, model::Network { nets: N, level: 1 });
     vectors.resize(MOST_VECTORS, 0);
     vectors
+}
+
+/// Check and diagnosis of a random board on a stack of this size.
+fn try_check_and_diagnosis(g: &mut Generator, network: Network, class: u64, bytes: usize) {
+    let (vectors, board) = (largest_set(g), state(g, N, class));
+    let responses = respond(network, class, &vectors, &board).unwrap();
+    let verdict = on_a_stack_of(bytes, || check(network, class, &vectors));
+    let found = on_a_stack_of(bytes, || diagnose(network, class, &vectors, &responses));
+    assert_eq!((verdict, found), (Ok(Verdict::Pass), Ok(board)));
 }
 
 #[test]
 fn check_and_diagnosis() {
     let g = &mut Generator::new(15);
-    for class in [1, 2, 3, N] {
-        let (vectors, board) = (largest_set(g), state(g, N, class));
-        let responses = respond(N, class, &vectors, &board).unwrap();
-        let verdict = on_a_stack_of(CHECK_STACK_BYTES, || check(N, class, &vectors));
-        let found = on_a_stack_of(CHECK_STACK_BYTES, || diagnose(N, class, &vectors, &responses));
-        assert_eq!((verdict, found), (Ok(Verdict::Pass), Ok(board)));
+    for network in largest_networks() {
+        [1, 2, 3, N].iter().for_each(|class| try_check_and_diagnosis(g, network, *class, CHECK_STACK_BYTES));
     }
 }
 
@@ -40,11 +51,7 @@ fn check_and_diagnosis() {
 #[test]
 fn check_and_diagnosis_of_class_n() {
     let g = &mut Generator::new(17);
-    let (vectors, board) = (largest_set(g), state(g, N, N));
-    let responses = respond(N, N, &vectors, &board).unwrap();
-    let verdict = on_a_stack_of(OTHER_STACK_BYTES, || check(N, N, &vectors));
-    let found = on_a_stack_of(OTHER_STACK_BYTES, || diagnose(N, N, &vectors, &responses));
-    assert_eq!((verdict, found), (Ok(Verdict::Pass), Ok(board)));
+    largest_networks().iter().for_each(|network| try_check_and_diagnosis(g, *network, N, OTHER_STACK_BYTES));
 }
 
 /// So does a check that has few sets to search.
@@ -52,42 +59,53 @@ fn check_and_diagnosis_of_class_n() {
 fn small_checks() {
     let g = &mut Generator::new(18);
     for (n, class) in [(2, 1), (7, 3), (N, 1)] {
-        let vectors = walking_set(g, n);
-        assert_eq!(on_a_stack_of(OTHER_STACK_BYTES, || check(n, class, &vectors)), Ok(Verdict::Pass));
+        for net in at_each_level(n) {
+            let (network, vectors) = (of_library(net), walking_set(g, net));
+            assert_eq!(on_a_stack_of(OTHER_STACK_BYTES, || check(network, class, &vectors)), Ok(Verdict::Pass));
+        }
     }
+}
+
+/// Response and findings of a random board.
+fn try_response_and_findings(g: &mut Generator, network: Network, class: u64) {
+    let (vectors, board) = (largest_set(g), state(g, N, class));
+    let response = on_a_stack_of(OTHER_STACK_BYTES, || respond(network, class, &vectors, &board));
+    let table = on_a_stack_of(OTHER_STACK_BYTES, || findings(network, &board));
+    assert_eq!(response, respond(network, class, &vectors, &board));
+    assert_eq!(table, findings(network, &board));
 }
 
 #[test]
 fn response_and_findings() {
     let g = &mut Generator::new(16);
-    for class in [1, 2, 3, N] {
-        let (vectors, board) = (largest_set(g), state(g, N, class));
-        let response = on_a_stack_of(OTHER_STACK_BYTES, || respond(N, class, &vectors, &board));
-        let table = on_a_stack_of(OTHER_STACK_BYTES, || findings(N, &board));
-        assert_eq!(response, respond(N, class, &vectors, &board));
-        assert_eq!(table, findings(N, &board));
+    for network in largest_networks() {
+        [1, 2, 3, N].iter().for_each(|class| try_response_and_findings(g, network, *class));
     }
 }
 
-/// All receivers float, so that every net is unclear and step two has 49 vectors.
+/// All receivers float, so that every net is unclear and step two has a vector for each, at level 1 with vector 0.
 #[test]
 fn session() {
-    let floating = |vectors: &[u64]| vec![(1 << N) - 1; vectors.len()];
-    let mut session = on_a_stack_of(OTHER_STACK_BYTES, || Session::begin(N)).unwrap();
-    let first = on_a_stack_of(OTHER_STACK_BYTES, || session.to_drive());
-    let answers = floating(first);
-    on_a_stack_of(OTHER_STACK_BYTES, || session.first_answers(&answers)).unwrap();
-    let second = on_a_stack_of(OTHER_STACK_BYTES, || session.to_drive());
-    let answers = floating(second);
-    assert_eq!(answers.len(), MOST_SECOND_VECTORS);
-    on_a_stack_of(OTHER_STACK_BYTES, || session.second_answers(&answers)).unwrap();
-    assert_eq!(session.reaches(), Some(&[0; MOST_NETS][..]));
+    for network in largest_networks() {
+        let floating = |vectors: &[u64]| vec![network.level() * ((1 << N) - 1); vectors.len()];
+        let mut session = on_a_stack_of(OTHER_STACK_BYTES, || Session::begin(network)).unwrap();
+        let first = on_a_stack_of(OTHER_STACK_BYTES, || session.to_drive());
+        let answers = floating(first);
+        on_a_stack_of(OTHER_STACK_BYTES, || session.first_answers(&answers)).unwrap();
+        let second = on_a_stack_of(OTHER_STACK_BYTES, || session.to_drive());
+        let answers = floating(second);
+        assert_eq!(answers.len(), MOST_SECOND_VECTORS - 1 + network.level() as usize);
+        on_a_stack_of(OTHER_STACK_BYTES, || session.second_answers(&answers)).unwrap();
+        assert_eq!(session.reaches(), Some(&[0; MOST_NETS][..]));
+    }
 }
 
 #[test]
 fn job_file() {
     let vectors = largest_set(&mut Generator::new(17));
-    let job = Job { network: Network::new(N), class: N, responses: vectors.clone(), vectors };
-    let file = on_a_stack_of(OTHER_STACK_BYTES, || job.write()).unwrap();
-    assert_eq!(on_a_stack_of(OTHER_STACK_BYTES, || Job::read(&file)), Ok(job));
+    for network in largest_networks() {
+        let job = Job { network, class: N, responses: vectors.clone(), vectors: vectors.clone() };
+        let file = on_a_stack_of(OTHER_STACK_BYTES, || job.write()).unwrap();
+        assert_eq!(on_a_stack_of(OTHER_STACK_BYTES, || Job::read(&file)), Ok(job));
+    }
 }

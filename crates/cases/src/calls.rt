@@ -1,9 +1,13 @@
 // Trying the lines of a text. A line names the call that the lines after it make: `check`, `respond`, `diagnose` or
-// `findings`. A line that has not the form of its call is shown as unreadable.
+// `findings`. A line `level L` gives the soft level of the calls on the lines after it, up to the next such line; at
+// the start, and after a line that names a call, it is 1. A line that has not the form of its call, or says `level`
+// without one number, is shown as unreadable.
 use crate::checking;
 use crate::finding;
 use crate::responding;
 use trials::Line;
+use trials::setting;
+use trials::setting::Setting;
 use trials::show;
 
 enum Call {
@@ -33,23 +37,24 @@ fn named(line: &[u8]) -> Call {
 }
 
 // Makes the call that a line gives.
-fn called(call: Call, line: &[u8]) {
+fn called(call: Call, setting: Setting, line: &[u8]) {
     match call {
-        Call::Check => checking::try_line(line),
-        Call::Response => responding::try_line(false, line),
-        Call::Diagnosis => responding::try_line(true, line),
-        Call::Findings => finding::try_line(line),
+        Call::Check => checking::try_line(setting, line),
+        Call::Response => responding::try_line(false, setting, line),
+        Call::Diagnosis => responding::try_line(true, setting, line),
+        Call::Findings => finding::try_line(setting, line),
         Call::Unknown => show::unreadable(),
     }
     show::end_line();
 }
 
 // Tries a line, and returns the call that the next one makes.
-fn try_line(call: Call, line: &[u8]) -> Call {
+fn try_line(call: Call, setting: Setting, line: &[u8]) -> Call {
     match trials::kind_of(line) {
         Line::Skipped => {}
+        Line::Setting => {}
         Line::Name => return named(line),
-        Line::Call => called(call, line),
+        Line::Call => called(call, setting, line),
     }
     call
 }
@@ -57,10 +62,13 @@ fn try_line(call: Call, line: &[u8]) -> Call {
 // Tries the lines one by one.
 pub fn try_each(text: &[u8]) {
     let mut call = Call::Unknown;
+    let mut setting = setting::usual();
     let mut at: usize = 0;
     while at < text.len() {
         let end = bytes::scan::find(text, at, text.len(), b'\n');
-        call = try_line(call, &text[at..end]);
+        let line = &text[at..end];
+        setting = setting::after(setting, line);
+        call = try_line(call, setting, line);
         at = end + 1;
     }
 }

@@ -1,9 +1,11 @@
 // The call *check*.
+use crate::networks;
 use checker::Checked;
 use network::Network;
 use trials::read;
 use trials::read::END;
 use trials::read::MOST;
+use trials::setting::Setting;
 use trials::show;
 
 fn answer(checked: Checked) {
@@ -19,14 +21,14 @@ fn answer(checked: Checked) {
     }
 }
 
-fn try_check(nets: u64, class: u64, vectors: &[u64]) {
-    show::set(b"check", nets, class, vectors);
+fn try_check(net: Network, class: u64, vectors: &[u64]) {
+    show::set(b"check", net.nets, class, vectors);
     show::arrow();
-    answer(checker::check(Network { nets: nets }, class, vectors));
+    answer(checker::check(net, class, vectors));
 }
 
 // Tries a line: n and k, and after the colon the vectors.
-pub fn try_line(line: &[u8]) {
+pub fn try_line(setting: Setting, line: &[u8]) {
     let mut head = [0u64; MOST];
     let mut words = [0u64; MOST];
     let start = read::list_at(line, 0, &mut head);
@@ -36,5 +38,9 @@ pub fn try_line(line: &[u8]) {
         return;
     }
     let count = vectors.count;
-    try_check(head[0], head[1], &words[0..count]);
+    try_check(
+        networks::network_in(setting, head[0]),
+        head[1],
+        &words[0..count],
+    );
 }

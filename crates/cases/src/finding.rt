@@ -1,12 +1,14 @@
 // The call *findings* with a blank table of 48 records lent. A line gives n, then the reaches; with a net after n it
 // asks for that net's record alone.
 ghost use Prim.Native.Nat.{_≤_};
+use crate::networks;
 use findings::Finding;
 use network::Network;
 use trials::lent;
 use trials::read;
 use trials::read::END;
 use trials::read::MOST;
+use trials::setting::Setting;
 use trials::show;
 
 // Whether a record is as it was lent.
@@ -87,37 +89,38 @@ fn one_net(net: Network, i: u64, state: &[u64]) {
 }
 
 // Shows the call and its result, or net i's record of the result.
-fn try_findings(nets: u64, state: &[u64]) {
-    show::entry(b"findings", nets);
+fn try_findings(net: Network, state: &[u64]) {
+    show::entry(b"findings", net.nets);
     show::text(b":");
     show::reaches(state);
     lent::room(48);
-    whole_table(Network { nets: nets }, state);
+    whole_table(net, state);
 }
 
-fn try_finding(nets: u64, i: u64, state: &[u64]) {
-    show::entry(b"finding", nets);
+fn try_finding(net: Network, i: u64, state: &[u64]) {
+    show::entry(b"finding", net.nets);
     show::entry(b" net", i);
     show::text(b":");
     show::reaches(state);
     show::arrow();
-    one_net(Network { nets: nets }, i, state);
+    one_net(net, i, state);
 }
 
 // Tries a line: n, or n and a net, and after the colon the reaches.
-pub fn try_line(line: &[u8]) {
+pub fn try_line(setting: Setting, line: &[u8]) {
     let mut head = [0u64; MOST];
     let mut words = [0u64; MOST];
     let start = read::list_at(line, 0, &mut head);
     let reaches = read::list_at(line, start.end, &mut words);
+    let net = networks::network_in(setting, head[0]);
     let count = reaches.count;
     let marked = (start.mark == b':') & (reaches.mark == END);
     if marked & (start.count == 1) {
-        try_findings(head[0], &words[0..count]);
+        try_findings(net, &words[0..count]);
         return;
     }
     if marked & (start.count == 2) {
-        try_finding(head[0], head[1], &words[0..count]);
+        try_finding(net, head[1], &words[0..count]);
         return;
     }
     show::unreadable();

@@ -1,5 +1,6 @@
 // The calls that fill a lent list: *response from a state* and *diagnosis*.
 ghost use Prim.Native.Nat.{_≤_};
+use crate::networks;
 use diagnosis::Diagnosed;
 use network::Network;
 use network::Responded;
@@ -8,6 +9,7 @@ use trials::lent::MARKER;
 use trials::read;
 use trials::read::END;
 use trials::read::MOST;
+use trials::setting::Setting;
 use trials::show;
 
 // Makes the call *response from a state* and shows its answer and the lent list.
@@ -39,25 +41,25 @@ fn lend(back: bool, net: Network, class: u64, vectors: &[u64], words: &[u64], ro
 }
 
 // `room` is the length of the list that the call is lent.
-fn try_call(back: bool, nets: u64, class: u64, vectors: &[u64], words: &[u64], room: usize)
+fn try_call(back: bool, net: Network, class: u64, vectors: &[u64], words: &[u64], room: usize)
     requires { ⌜ room ≤ 64 ⌝ }
 {
     if back {
-        show::set(b"diagnosis", nets, class, vectors);
+        show::set(b"diagnosis", net.nets, class, vectors);
         show::semicolon();
         show::words(words, b" responses");
     } else {
-        show::set(b"response", nets, class, vectors);
+        show::set(b"response", net.nets, class, vectors);
         show::semicolon();
         show::reaches(words);
     }
     lent::room(room);
-    lend(back, Network { nets: nets }, class, vectors, words, room);
+    lend(back, net, class, vectors, words, room);
 }
 
 // Tries a line: n, k and the length of the lent list, at most 64; after the colon the vectors; after the semicolon the
 // reaches, or the responses.
-pub fn try_line(back: bool, line: &[u8]) {
+pub fn try_line(back: bool, setting: Setting, line: &[u8]) {
     let mut head = [0u64; MOST];
     let mut words = [0u64; MOST];
     let mut others = [0u64; MOST];
@@ -74,7 +76,7 @@ pub fn try_line(back: bool, line: &[u8]) {
     let o = last.count;
     try_call(
         back,
-        head[0],
+        networks::network_in(setting, head[0]),
         head[1],
         &words[0..v],
         &others[0..o],

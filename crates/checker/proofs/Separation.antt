@@ -67,7 +67,7 @@ module _ (net : Network) (vectors : List ℕ) (two : 2 ≤ net .nets)
 
   full-shows : (v : Verdict) → FullRule net vectors v → Shows net (net .nets) vectors v
   full-shows Pass (extra, walking) = λ a b p q h.
-      walking-apart net a b (p .inside) (q .inside) (on a b h (extra-vector net) extra)
+      walking-apart net a b (p .inside) (q .inside) (λ s. on a b h (extra-vector net) (extra s))
       (λ i l. on a b h (walking-vector net i) (walking i l))
     where
       on : (a b : ℕ) → ReadAlike net vectors a b → (word : ℕ) → Among word vectors → reads net a word ≡ reads net b word
@@ -76,7 +76,8 @@ module _ (net : Network) (vectors : List ℕ) (two : 2 ≤ net .nets)
     first-set = rw x (any-set 0 (pow-pos (net .nets)));
     second-set = rw y (any-set (all-drivers net) (all-below net));
     differ = λ e. all-not-empty net (omega arith) (sym y ∙ sym e ∙ x);
-    read-alike = λ t l. rw (x, y) (empty-as-all net (at vectors t) (narrow t l) (not-missing (extra-vector net) t l none));
+    read-alike = λ t l. rw (x, y)
+        (empty-as-all net (none .0) (at vectors t) (narrow t l) (not-missing (extra-vector net) t l (none .1)));
   }
   full-shows (Pair a b) (inr (some, (i, l, none, smaller, x, y))) =
       let less = all-but-less net i l in

@@ -13,14 +13,14 @@ use Rattle.words.specs.Searching.{least, is-found, among}
 use Rattle.words.proofs.Tests.{contrary, and-left, and-right, and-both, three-ways}
 use Rattle.words.proofs.Searching.{Least, first, nowhere, least-below, decides-among}
 use Rattle.network.specs.declared.Network.{Network}
-use Rattle.network.specs.Reading.{all-drivers, all-but, walking-vector, extra-vector, sequential-response}
+use Rattle.network.specs.Reading.{all-drivers, all-but, walking-vector, extra-vector, needs-extra, sequential-response}
 use Rattle.network.specs.States.{few-drivers}
 use Rattle.network.proofs.Reading.{alike-sequential, sequential-alike}
 use Rattle.network.proofs.States.{few-drivers-at, few-drivers-of}
 use Rattle.checker.specs.declared.Verdict.{Verdict}
 use Rattle.checker.specs.declared.Verdict.the-variants.{Pass, Pair}
-use Rattle.checker.specs.Rule.{Among, FullRule, Confused, BoundedRule, Rule, smaller-alike, pair-with, pair-at}
-use Rattle.checker.specs.Rule.{bounded-verdict, pair-without, full-verdict, verdict}
+use Rattle.checker.specs.Rule.{Among, ExtraThere, ExtraMissing, FullRule, Confused, BoundedRule, Rule}
+use Rattle.checker.specs.Rule.{smaller-alike, pair-with, pair-at, bounded-verdict, pair-without, extra-missing, full-verdict, verdict}
 
 -- a pair is not a pass
 pub pair-not-pass : {A : Type 0} {a b : ℕ} → Pair a b ≡ Pass → A
@@ -107,15 +107,24 @@ module _ (net : Network) (vectors : List ℕ) where
   absent : (word : ℕ) → among word vectors ≡ false → ¬ (Among word vectors)
   absent word e = decides-among word vectors .1 e
 
+  extra-there : extra-missing net vectors ≡ false → ExtraThere net vectors
+  unfolding extra-missing
+  extra-there e s = present (extra-vector net) (not-false _ (rw s at e))
+
+  is-missing : extra-missing net vectors ≡ true → ExtraMissing net vectors
+  unfolding extra-missing
+  is-missing e =
+      (and-left (needs-extra net) _ e, absent (extra-vector net) (not-true _ (and-right (needs-extra net) _ e)))
+
   full-rule : FullRule net vectors (full-verdict net vectors)
   unfolding full-verdict lacks
-  full-rule = go (among (extra-vector net) vectors) refl
+  full-rule = go (extra-missing net vectors) refl
     where
-      by-net : among (extra-vector net) vectors ≡ true → (s : Search) → Least lacks 0 (net .nets) s
+      by-net : extra-missing net vectors ≡ false → (s : Search) → Least lacks 0 (net .nets) s
           → FullRule net vectors (pair-without net s)
       by-net e (Found i) (first x y z none) =
           inr (
-            present (extra-vector net) e,
+            extra-there e,
             (
               i,
               y,
@@ -127,22 +136,22 @@ module _ (net : Network) (vectors : List ℕ) where
             ),
           )
       by-net e Missing (nowhere none) =
-          (present (extra-vector net) e, λ i l. present (walking-vector net i) (not-false _ (none i zero-le l)))
+          (extra-there e, λ i l. present (walking-vector net i) (not-false _ (none i zero-le l)))
 
-      go : (t : Bool) → among (extra-vector net) vectors ≡ t
-          → FullRule net vectors (cond t (pair-without net (least (net .nets) 0 lacks)) (Pair 0 (all-drivers net)))
-      go true e = by-net e (least (net .nets) 0 lacks) (least-below lacks (net .nets))
-      go false e = inl (absent (extra-vector net) e, refl, refl)
+      go : (t : Bool) → extra-missing net vectors ≡ t
+          → FullRule net vectors (cond t (Pair 0 (all-drivers net)) (pair-without net (least (net .nets) 0 lacks)))
+      go true e = inl (is-missing e, refl, refl)
+      go false e = by-net e (least (net .nets) 0 lacks) (least-below lacks (net .nets))
 
   full-determined : (u v : Verdict) → FullRule net vectors u → FullRule net vectors v → u ≡ v
   full-determined Pass Pass p q = refl
-  full-determined Pass (Pair a b) p (inl (none, x, y)) = absurd (none (p .0))
+  full-determined Pass (Pair a b) p (inl (none, x, y)) = absurd (none .1 (p .0 (none .0)))
   full-determined Pass (Pair a b) p (inr (some, (i, l, none, smaller, x, y))) = absurd (none (p .1 i l))
-  full-determined (Pair a b) Pass (inl (none, x, y)) q = absurd (none (q .0))
+  full-determined (Pair a b) Pass (inl (none, x, y)) q = absurd (none .1 (q .0 (none .0)))
   full-determined (Pair a b) Pass (inr (some, (i, l, none, smaller, x, y))) q = absurd (none (q .1 i l))
   full-determined (Pair a b) (Pair c d) (inl (none, x, y)) (inl (none′, x′, y′)) = ap₂ Pair (x ∙ sym x′) (y ∙ sym y′)
-  full-determined (Pair a b) (Pair c d) (inl (none, x, y)) (inr (some, rest)) = absurd (none some)
-  full-determined (Pair a b) (Pair c d) (inr (some, rest)) (inl (none, x, y)) = absurd (none some)
+  full-determined (Pair a b) (Pair c d) (inl (none, x, y)) (inr (some, rest)) = absurd (none .1 (some (none .0)))
+  full-determined (Pair a b) (Pair c d) (inr (some, rest)) (inl (none, x, y)) = absurd (none .1 (some (none .0)))
   full-determined (Pair a b) (Pair c d) (inr (some, (i, l, none, smaller, x, y)))
       (inr (some′, (j, m, none′, smaller′, x′, y′))) = go (three-ways i j)
     where

@@ -21,18 +21,18 @@ use Rattle.network.specs.declared.Network.{Network}
 use Rattle.network.specs.Reading.{all-drivers, all-but, walking-vector, extra-vector}
 use Rattle.network.proofs.Walking.{Names}
 use Rattle.checker.specs.declared.Verdict.the-variants.{Pass, Pair}
-use Rattle.checker.specs.Rule.{pair-without, full-verdict}
+use Rattle.checker.specs.Rule.{pair-without, extra-missing, full-verdict}
 
 module _ (net : Network) (vectors : List ℕ) where
   -- the walking vectors of the nets below i are there
   abbrev pub WalkingBelow : ℕ → Type 0
   WalkingBelow i = (z : ℕ) → z < i → not (among (walking-vector net z) vectors) ≡ false
 
-  pub no-extra : among (extra-vector net) vectors ≡ false → full-verdict net vectors ≡ Pair 0 (all-drivers net)
+  pub no-extra : extra-missing net vectors ≡ true → full-verdict net vectors ≡ Pair 0 (all-drivers net)
   unfolding full-verdict
   no-extra e = rw e
 
-  pub no-walking : (i : ℕ) → i < net .nets → among (extra-vector net) vectors ≡ true → WalkingBelow i
+  pub no-walking : (i : ℕ) → i < net .nets → extra-missing net vectors ≡ false → WalkingBelow i
       → among (walking-vector net i) vectors ≡ false
       → full-verdict net vectors ≡ Pair (all-but net i) (all-drivers net)
   unfolding full-verdict
@@ -40,7 +40,7 @@ module _ (net : Network) (vectors : List ℕ) where
       (ap (pair-without net) (least-found (λ z. not (among (walking-vector net z) vectors)) (net .nets) i l h
       (ap not f)))
 
-  pub all-there : (i : ℕ) → net .nets ≤ i → among (extra-vector net) vectors ≡ true → WalkingBelow i → full-verdict net vectors ≡ Pass
+  pub all-there : (i : ℕ) → net .nets ≤ i → extra-missing net vectors ≡ false → WalkingBelow i → full-verdict net vectors ≡ Pass
   unfolding full-verdict
   all-there i l e h =
       rw e (ap (pair-without net) (least-missing (λ z. not (among (walking-vector net z) vectors)) (net .nets) (λ z m. h z (omega arith))))
@@ -108,7 +108,7 @@ module _ (net : Network) (vectors : List ℕ) where
     unfolding all-drivers
     missing-below = let h = pow-pos (net .nets) in omega (arith, all-is)
 
-    pub none-missing : missing ≡ 0 → among (extra-vector net) vectors ≡ true → full-verdict net vectors ≡ Pass
+    pub none-missing : missing ≡ 0 → extra-missing net vectors ≡ false → full-verdict net vectors ≡ Pass
     none-missing none e =
         all-there (net .nets) (omega arith) e (λ z l. sym (has-missing z l) ∙ ap (λ (x : ℕ). has x z) none ∙ has-zero z)
 
@@ -119,7 +119,7 @@ module _ (net : Network) (vectors : List ℕ) where
           (λ l. let h = pow-mono {i = net .nets} {j = trailingZeros 64 missing} l in
           omega (arith, missing-below, lowest-one-at-most 64 missing some))
 
-      pub lowest-missing : net .nets ≤ 48 → among (extra-vector net) vectors ≡ true
+      pub lowest-missing : net .nets ≤ 48 → extra-missing net vectors ≡ false
           → full-verdict net vectors ≡ Pair (all-but net (trailingZeros 64 missing)) (all-drivers net)
       lowest-missing most e =
           let h = pow-mono {i = net .nets} {j = 64} (omega arith) in

@@ -2,7 +2,7 @@
 use Prim.Native.Nat.{ℕ, _-_, _^_, _<_}
 use mathlib.Core.Path.{_≡_}
 use mathlib.Core.Logic.{_⊎_, _≢_}
-use mathlib.Core.Bool.{not, _&&_, cond}
+use mathlib.Core.Bool.{Bool, true, not, _&&_, cond}
 use mathlib.Core.List.{List, _∷_}
 use lib.Dec.{eqb}
 use lib.ListN.{length, replicate}
@@ -11,7 +11,7 @@ use Rattle.words.specs.Searching.{least, is-found, among}
 use Rattle.words.specs.declared.Search.{Search}
 use Rattle.words.specs.declared.Search.the-variants.{Found, Missing}
 use Rattle.network.specs.declared.Network.{Network}
-use Rattle.network.specs.Reading.{all-drivers, all-but, walking-vector, extra-vector, ReadAlike, sequential-response}
+use Rattle.network.specs.Reading.{all-drivers, all-but, walking-vector, extra-vector, needs-extra, ReadAlike, sequential-response}
 use Rattle.network.specs.States.{DriverSet, few-drivers}
 use Rattle.checker.specs.declared.Verdict.{Verdict}
 use Rattle.checker.specs.declared.Verdict.the-variants.{Pass, Pair}
@@ -22,13 +22,20 @@ use Rattle.checker.specs.declared.Verdict.the-variants.{Pass, Pair}
 abbrev pub Among : ℕ → List ℕ → Type 0
 Among word vectors = (t : ℕ) × (t < length vectors) × (at vectors t ≡ word)
 
--- k = n: without the extra vector, the empty set and all drivers; else, for the smallest net without its walking
--- vector, all drivers but that one, and all drivers; else pass
+-- the extra vector is there, if the network has one; it has one, which is not there
+abbrev pub ExtraThere : Network → List ℕ → Type 0
+ExtraThere net vectors = needs-extra net ≡ true → Among (extra-vector net) vectors
+
+abbrev pub ExtraMissing : Network → List ℕ → Type 0
+ExtraMissing net vectors = (needs-extra net ≡ true) × (¬ Among (extra-vector net) vectors)
+
+-- k = n: where the extra vector is missing, the empty set and all drivers; else, for the smallest net without its
+-- walking vector, all drivers but that one, and all drivers; else pass
 abbrev pub FullRule : Network → List ℕ → Verdict → Type 0
-FullRule net vectors Pass = Among (extra-vector net) vectors × ((i : ℕ) → i < net .nets → Among (walking-vector net i) vectors)
+FullRule net vectors Pass = ExtraThere net vectors × ((i : ℕ) → i < net .nets → Among (walking-vector net i) vectors)
 FullRule net vectors (Pair a b) =
-    ((¬ Among (extra-vector net) vectors) × (a ≡ 0) × (b ≡ all-drivers net))
-    ⊎ (Among (extra-vector net) vectors
+    (ExtraMissing net vectors × (a ≡ 0) × (b ≡ all-drivers net))
+    ⊎ (ExtraThere net vectors
     × ((i : ℕ)
     × (i < net .nets)
     × (¬ Among (walking-vector net i) vectors)
@@ -83,11 +90,15 @@ abbrev pub pair-without : Network → Search → Verdict
 pair-without net (Found i) = Pair (all-but net i) (all-drivers net)
 pair-without net Missing = Pass
 
+-- there is an extra vector, and it is not among the vectors
+unfoldable pub extra-missing : Network → List ℕ → Bool
+extra-missing net vectors = let there = among (extra-vector net) vectors in needs-extra net && not there
+
 -- k = n
 unfoldable pub full-verdict : Network → List ℕ → Verdict
 full-verdict net vectors =
     let by-net = pair-without net (least (net .nets) 0 (λ i. not (among (walking-vector net i) vectors))) in
-    cond (among (extra-vector net) vectors) by-net (Pair 0 (all-drivers net))
+    cond (extra-missing net vectors) (Pair 0 (all-drivers net)) by-net
 
 -- the verdict, k = n first
 unfoldable pub verdict : Network → ℕ → List ℕ → Verdict

@@ -26,7 +26,7 @@ pub enum Checked {
     Refused(u64),
 }
 
-// The rule on a test set that rows 5 to 8 admit. A helper between crates.
+// The rule on a test set that its rows admit. A helper between crates.
 pub fn verdict_of(net: Network, class: u64, vectors: &[u64]) -> Verdict
     requires { ⌜ (length (now vectors) ≤ 64) × (net .nets ≤ 48) × (0 < class) × ((class ≤ 3) ⊎ (class ≡ net .nets)) ⌝ }
     ensures { λ r. ⌜ r ≡ verdict net class (now (vectors .entry)) ⌝ }
@@ -37,7 +37,7 @@ pub fn verdict_of(net: Network, class: u64, vectors: &[u64]) -> Verdict
     bounded::bounded_verdict(net, class, vectors)
 }
 
-// The call *check*: whether the vectors tell the states of the class apart. Rows 5, 6, 7, 8.
+// The call *check*: whether the vectors tell the states of the class apart. Rows 5, 6, 17, 7, 8.
 pub fn check(net: Network, class: u64, vectors: &[u64]) -> Checked
     ensures { λ r. ⌜ meaning r ≡ check-answer net class (now (vectors .entry)) ⌝ }
 {

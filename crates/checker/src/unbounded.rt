@@ -37,14 +37,15 @@ fn walked_by(net: Network, vectors: &[u64]) -> Walked
     }
 }
 
-// Whether the extra vector and the walking vector of each net are there.
+// Whether the extra vector, if there is one, and the walking vector of each net are there.
 pub fn full_verdict(net: Network, vectors: &[u64]) -> Verdict
     requires { ⌜ net .nets ≤ 48 ⌝ }
     ensures { λ r. ⌜ r ≡ full-verdict net (now (vectors .entry)) ⌝ }
 {
     let all = network::drivers::all_drivers(net);
+    let needed = network::drivers::needs_extra(net);
     let there = walked_by(net, vectors);
-    if !there.extra {
+    if needed & !there.extra {
         return Verdict::Pair(0, all);
     }
     let missing = all - there.drivers;

@@ -1,21 +1,25 @@
 -- Our answer to *diagnosis* keeps demand 2, and no other program does.
 use mathlib.Core.Path.{_≡_, refl, sym, ap, _∙_, subst}
 use mathlib.Core.Logic.{_⊎_, inl, inr, _↔_}
+use mathlib.Core.Bool.{false}
 use mathlib.Core.List.{List, [], _∷_}
 use Prim.Native.Nat.{ℕ}
 use lib.ListN.{length, take}
 use Rattle.words.specs.Answers.{Answer, refused, full, ByTable, NoneHolds, lent-after, count-of}
-use Rattle.words.proofs.Answers.{table-full, table-skip, front-written, fills-determined, refused-not-full}
+use Rattle.words.proofs.Answers.{table-full, table-skip, none-front, none-rest, front-written, fills-determined, refused-not-full}
 use Rattle.network.specs.declared.Network.{Network}
-use Rattle.network.specs.States.{Fits}
+use Rattle.network.specs.Reading.{network-with}
+use Rattle.network.specs.States.{Fits, not-a-state}
+use Rattle.network.specs.Rows.{SetRows}
 use Rattle.network.proofs.Rows.{admitted-set}
 use Rattle.network.proofs.States.{test→state}
 use Rattle.checker.proofs.Separation.{apart-one-fits}
 use Rattle.diagnosis.specs.Diagnosis.{Row14, DiagnosisRows, diagnosis-answer}
 use Rattle.diagnosis.specs.Open.{open-diagnosis}
 use Rattle.diagnosis.proofs.DiagnosisLaws.{diagnosis-by-table, diagnosis-determined, passed-apart}
+use Rattle.findings.specs.Findings.{finding}
 use Rattle.findings.specs.Open.{open-findings}
-use Rattle.demands.specs.Demand2.{DiagnosisProgram, EarlierRows, Diagnoses, OpenAndShort, Demand2}
+use Rattle.demands.specs.Demand2.{DiagnosisProgram, BeforeFitting, EarlierRows, Diagnoses, open-and-short, OpenAndShort, Demand2}
 use Rattle.demands.specs.Programs.{our-response, our-diagnosis}
 use Rattle.demands.proofs.Responding.{responds}
 
@@ -47,10 +51,10 @@ module _ (net : Network) (k : ℕ) (vectors responses lent : List ℕ) where
       where
         go : NoneHolds (EarlierRows net k vectors responses (length lent)) → (s u : List ℕ)
             → Fits net k vectors responses s → Fits net k vectors responses u → s ≡ u
-        go (a, (b, (c, (d, (nine, (ten, (twelve, (thirteen, _)))))))) s u p q =
-            apart-one-fits net k vectors
-            (passed-apart net k vectors
-            (admitted-set net k vectors (a, (b, (c, (d, tt))))) thirteen) responses s u p q
+        go none s u p q =
+            let set = none-front (SetRows net k vectors) (BeforeFitting net k vectors responses (length lent)) none in
+            let own = none-rest (SetRows net k vectors) (BeforeFitting net k vectors responses (length lent)) none in
+            apart-one-fits net k vectors (passed-apart net k vectors (admitted-set net k vectors set) (own .1 .1 .1 .0)) responses s u p q
 
     found : (state : List ℕ) → Fits net k vectors responses state
         → (count-of (diagnosis-answer net k vectors responses (length lent)) ≡ full (net .nets))
@@ -105,16 +109,27 @@ diagnosis-determined-program p q f g net k vectors responses lent =
     (diagnosis-determined net k vectors responses (length lent)) (f net k vectors responses lent .by-table)
     (g net k vectors responses lent .by-table)
 
-open-and-short : OpenAndShort our-response our-diagnosis
-unfolding open-diagnosis open-findings
-open-and-short = record {
-  is-state = test→state (record { nets = 2 }) 2 (2 ∷ 2 ∷ []) refl;
+-- what is computed on one network
+open-and-short-on : (net : Network) (vectors answers : List ℕ) → not-a-state net 3 open-and-short ≡ false
+    → our-response net 3 vectors open-and-short (9 ∷ 9 ∷ 9 ∷ 9 ∷ []) ≡ record { returned = full 4; list = answers }
+    → our-diagnosis net 3 vectors answers (9 ∷ 9 ∷ 9 ∷ []) ≡ record { returned = full 3; list = open-and-short }
+    → finding net open-and-short 0 .kind ≡ 3
+    → OpenAndShort our-response our-diagnosis net vectors answers
+unfolding open-diagnosis
+open-and-short-on net vectors answers state there back found = record {
+  is-state = test→state net 3 open-and-short state;
   open-net = refl;
   shorted = (refl, refl);
-  response = refl;
-  and-back = refl;
-  both-found = refl;
+  response = there;
+  and-back = back;
+  both-found = found;
 }
 
 pub demand-2 : Demand2 our-response our-diagnosis
-demand-2 = record { response = responds; reading-back = diagnoses; open-and-short = open-and-short }
+unfolding open-diagnosis open-findings
+demand-2 = record {
+  response = responds;
+  reading-back = diagnoses;
+  soft-1 = open-and-short-on (network-with 3 1) (0 ∷ 1 ∷ 2 ∷ 4 ∷ []) (4 ∷ 4 ∷ 7 ∷ 7 ∷ []) refl refl refl refl;
+  soft-0 = open-and-short-on (network-with 3 0) (0 ∷ 1 ∷ 2 ∷ 4 ∷ []) (0 ∷ 0 ∷ 3 ∷ 3 ∷ []) refl refl refl refl;
+}

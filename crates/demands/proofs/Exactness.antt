@@ -2,7 +2,7 @@
 use mathlib.Core.Path.{_≡_, refl, sym, ap, ap₂, _∙_, subst}
 use mathlib.Core.Bool.{Bool, true, false, not, cond, _&&_, _||_, false≢true}
 use mathlib.Core.Logic.{_≢_, inl, inr, ⊎-elim}
-use mathlib.Core.List.{List, [], _∷_}
+use mathlib.Core.List.{List, [], _∷_, _++_}
 use Prim.Native.Nat.{ℕ, _%_, _^_, _≤_, _<_}
 use native.Mathlib.Nat.{not-suc-le-zero}
 use native.Mathlib.Omega.{arith}
@@ -15,53 +15,67 @@ use Rattle.words.specs.Answers.{full, by-tests}
 use Rattle.words.proofs.Tests.{equal-if-not-unequal}
 use Rattle.words.proofs.Answers.{AllFail, none-passed, full-answer}
 use Rattle.network.specs.declared.Network.{Network}
-use Rattle.network.specs.Rows.{bad-vector-count, has-high-bit, bad-response-count, no-room}
-use Rattle.network.proofs.Rows.{decides-row-5, decides-row-7, decides-high-bit, nets-admitted, vectors-admitted, no-high-bit}
+use Rattle.network.specs.Rows.{set-tests, has-high-bit, bad-response-count, no-room}
+use Rattle.network.proofs.Rows.{decides-row-7, decides-high-bit, no-high-bit, set-admitted}
 use Rattle.jobfile.specs.Bytes.{AllBytes}
-use Rattle.jobfile.specs.Layout.{mark, entry-count, body-length, same-bytes, bad-mark, bad-layout, bad-bodies}
+use Rattle.jobfile.specs.Layout.{mark, entry-count, body-length, nets-size, same-bytes, bad-mark, bad-layout, bad-bodies}
 use Rattle.jobfile.specs.Layout.{file-network, file-class, body-words, has-responses, file-responses}
 use Rattle.jobfile.proofs.FileRows.{same-if-equal, decides-same-bytes, test→layout, layout→test, decides-row-3}
-use Rattle.reader.specs.Reader.{JobContent, content, reader-tests, read-answer}
+use Rattle.reader.specs.Reader.{JobContent, content, list-tests, reader-tests, read-answer}
 use Rattle.reader.proofs.Bodies.{responses-given, responses-missing}
-use Rattle.writer.specs.Writer.{file-of, given, writer-tests, write-answer}
+use Rattle.writer.specs.Writer.{file-of, given, own-tests, writer-tests, write-answer}
 use Rattle.writer.proofs.WriterLaws.{responses-most}
 use Rattle.demands.proofs.MadeFile.{AdmittedContent, mark-made, layout-made, bodies-pass, content-made, given-made}
 use Rattle.demands.proofs.StandingFile.{AdmittedFile, two-entries-stand, three-entries-stand}
 
+-- ---- of tests and others after them, all fail
+
+fail-front : (tests more : List (ℕ × Bool)) → AllFail (tests ++ more) → AllFail tests
+fail-front [] more fail = tt
+fail-front ((number, test) ∷ tests) more (e, fail) = (e, fail-front tests more fail)
+
+fail-rest : (tests more : List (ℕ × Bool)) → AllFail (tests ++ more) → AllFail more
+fail-rest [] more fail = fail
+fail-rest ((number, test) ∷ tests) more (e, fail) = fail-rest tests more fail
+
+fail-both : (tests more : List (ℕ × Bool)) → AllFail tests → AllFail more → AllFail (tests ++ more)
+fail-both [] more fail others = others
+fail-both ((number, test) ∷ tests) more (e, fail) others = (e, fail-both tests more fail others)
+
 -- ---- the writer's file, read
 
 -- words that rows 8 and 10 admit fit into 8 bytes
-words-fit : (net : Network) (words : List ℕ) → net .nets ≤ 48 → has-high-bit net words ≡ false → (t : ℕ)
-    → t < length words → at words t < 256 ^ 8
-words-fit net words most e t l =
-    let narrow = no-high-bit net words (decides-high-bit net words .1 e) t l in
+words-fit : (net : Network) (words : List ℕ) → net .nets ≤ 48 → ((t : ℕ) → t < length words → at words t < 2 ^ (net .nets))
+    → (t : ℕ) → t < length words → at words t < 256 ^ 8
+words-fit net words most narrow t l =
+    let here = narrow t l in
     let power : 2 ^ (net .nets) ≤ 2 ^ 48 = pow-mono {j = 48} most in
     omega arith
 
 given-fit : (net : Network) (responses : List ℕ) → net .nets ≤ 48 → given responses && has-high-bit net responses ≡ false
     → (t : ℕ) → t < length responses → at responses t < 256 ^ 8
 given-fit net [] most e t l = absurd (not-suc-le-zero l)
-given-fit net (word ∷ words) most e t l = words-fit net (word ∷ words) most e t l
+given-fit net (word ∷ words) most e t l =
+    words-fit net (word ∷ words) most (no-high-bit net (word ∷ words) (decides-high-bit net (word ∷ words) .1 e)) t l
 
-module _ (net : Network) (k : ℕ) (vectors responses : List ℕ) (room : ℕ) where
-  admitted : AllFail (writer-tests net k vectors responses room) → AdmittedContent vectors responses
-  admitted (t5, (t6, (t7, (t8, (t9, (t10, t12)))))) =
-      let nets = nets-admitted net (decides-row-5 net .1 t5) in
-      let most = vectors-admitted vectors (decides-row-7 vectors .1 t7) in
+module _ (net : Network) (k : ℕ) (vectors responses : List ℕ) (room : ℕ) (set : AllFail (set-tests net k vectors)) where
+  admitted : AllFail (own-tests net k vectors responses room) → AdmittedContent vectors responses
+  admitted (t9, (t10, t12)) =
+      let good = set-admitted net k vectors (full-answer (set-tests net k vectors) tt set) in
       let few = responses-most vectors responses t9 in record {
-        vectors-most = most;
-        responses-most = omega arith;
-        vectors-fit = words-fit net vectors (nets .1) t8;
-        responses-fit = given-fit net responses (nets .1) t10;
+        vectors-most = good .vectors-most;
+        responses-most = omega (arith, good .vectors-most);
+        vectors-fit = words-fit net vectors (good .most) (good .narrow);
+        responses-fit = given-fit net responses (good .most) t10;
       }
 
   made-is-read : (vectors-room responses-room : ℕ) → length vectors ≤ vectors-room → length responses ≤ responses-room
-      → AllFail (writer-tests net k vectors responses room)
+      → AllFail (own-tests net k vectors responses room)
       → read-answer (file-of net k vectors responses) vectors-room responses-room
       ≡ full (record { network = net; class = k; vectors = vectors; responses = responses })
   unfolding read-answer
-  made-is-read vectors-room responses-room lv lr (t5, (t6, (t7, (t8, (t9, (t10, t12)))))) =
-      let h = admitted (t5, (t6, (t7, (t8, (t9, (t10, t12)))))) in
+  made-is-read vectors-room responses-room lv lr (t9, (t10, t12)) =
+      let h = admitted (t9, (t10, t12)) in
       let file = file-of net k vectors responses in
       let job : JobContent = record { network = net; class = k; vectors = vectors; responses = responses } in
       let third = given-made net k vectors responses h in
@@ -71,8 +85,10 @@ module _ (net : Network) (k : ℕ) (vectors responses : List ℕ) (room : ℕ) w
       let u9 = ap (λ (b : Bool). b && bad-response-count (length vectors) (length responses)) third ∙ t9 in
       let u10 = ap (λ (b : Bool). b && has-high-bit net responses) third ∙ t10 in
       let u12 = ap₂ (λ (a b : Bool). a || b) (le-ltb vectors-room (length vectors) lv) (le-ltb responses-room (length responses) lr) in
+      let rest : AllFail (set-tests net k vectors ++ list-tests file job vectors-room responses-room) =
+      fail-both (set-tests net k vectors) (list-tests file job vectors-room responses-room) set (u9, (u10, (u12, tt))) in
       ap (λ (c : JobContent). by-tests (reader-tests file c vectors-room responses-room) c) (content-made net k vectors responses h)
-      ∙ full-answer (reader-tests file job vectors-room responses-room) job (u1, (u2, (u3, (t5, (t6, (t7, (t8, (u9, (u10, (u12, tt))))))))))
+      ∙ full-answer (reader-tests file job vectors-room responses-room) job (u1, (u2, (u3, rest)))
 
 -- what the writer wrote is read back
 pub written-is-read : (net : Network) (k : ℕ) (vectors responses : List ℕ) (room vectors-room responses-room : ℕ) (file : List ℕ)
@@ -81,9 +97,11 @@ pub written-is-read : (net : Network) (k : ℕ) (vectors responses : List ℕ) (
 unfolding write-answer
 written-is-read net k vectors responses room vectors-room responses-room file e lv lr =
     let p = none-passed (writer-tests net k vectors responses room) (file-of net k vectors responses) file e in
+    let set = fail-front (set-tests net k vectors) (own-tests net k vectors responses room) (p .0) in
+    let own = fail-rest (set-tests net k vectors) (own-tests net k vectors responses room) (p .0) in
     subst (λ (bytes : List ℕ). read-answer bytes vectors-room responses-room
     ≡ full (record { network = net; class = k; vectors = vectors; responses = responses })) (p .1)
-    (made-is-read net k vectors responses room vectors-room responses-room lv lr (p .0))
+    (made-is-read net k vectors responses room set vectors-room responses-room lv lr own)
 
 -- ---- the reader's file, written
 
@@ -94,7 +112,7 @@ admitted-file file small t1 t2 t3 =
       small = small;
       marked = decides-same-bytes (take 4 file) mark .0 (not-false (same-bytes (take 4 file) mark) t1);
       laid = test→layout file t2;
-      nets-body = equal-if-not-unequal (body-length file 0) 2 (λ n. bodies (inl n));
+      nets-body = equal-if-not-unequal (body-length file 0) nets-size (λ n. bodies (inl n));
       whole = λ i l p. equal-if-not-unequal (body-length file i % 8) 0 (λ n. bodies (inr (i, p, l, n)));
     }
 
@@ -118,11 +136,14 @@ module _ (file : List ℕ) where
   third-read : entry-count file ≡ 3 → file-responses file ≡ body-words file 2
   third-read q = responses-given file (ap (λ (n : ℕ). eqb n 3) q)
 
+  abbrev file-set-tests : List (ℕ × Bool)
+  file-set-tests = set-tests (file-network file) (file-class file) (body-words file 1)
+
   -- where rows 7 and 9 do not hold, a third body has words
-  some-responses : bad-vector-count (body-words file 1) ≡ false
+  some-responses : AllFail file-set-tests
       → has-responses file && bad-response-count (length (body-words file 1)) (length (file-responses file)) ≡ false
       → entry-count file ≡ 3 → 0 < length (body-words file 2)
-  some-responses t7 t9 q =
+  some-responses (t5, (t6, (t17, (t7, t8)))) t9 q =
       let none : length (body-words file 1) < 1 → ⊥ = λ l. decides-row-7 (body-words file 1) .1 t7 (inl l) in
       let test : not (eqb (length (body-words file 2)) (length (body-words file 1))) ≡ false =
       sym (ap₂ (λ (n : ℕ) (words : List ℕ). eqb n 3 && not (eqb (length words) (length (body-words file 1)))) q (third-read q)) ∙ t9 in
@@ -141,16 +162,20 @@ module _ (file : List ℕ) where
       → AllFail (reader-tests file (content file) vectors-room responses-room) → length file ≤ room
       → write-answer (content file .network) (content file .class) (content file .vectors) (content file .responses) room ≡ full file
   unfolding write-answer content
-  content-is-written vectors-room responses-room room small (t1, (t2, (t3, (t5, (t6, (t7, (t8, (t9, (t10, t12))))))))) l =
+  content-is-written vectors-room responses-room room small (t1, (t2, (t3, rest))) l =
       let responses = file-responses file in
-      let whole = content-stands (admitted-file file small t1 t2 t3) (some-responses t7 t9) in
+      let set = fail-front file-set-tests (list-tests file (content file) vectors-room responses-room) rest in
+      let lists = fail-rest file-set-tests (list-tests file (content file) vectors-room responses-room) rest in
+      let whole = content-stands (admitted-file file small t1 t2 t3) (some-responses set (lists .0)) in
       let made = file-of (file-network file) (file-class file) (body-words file 1) responses in
       let u9 = behind-weaker (given responses) (has-responses file)
-      (bad-response-count (length (body-words file 1)) (length responses)) third-there t9 in
-      let u10 = behind-weaker (given responses) (has-responses file) (has-high-bit (file-network file) responses) third-there t10 in
+      (bad-response-count (length (body-words file 1)) (length responses)) third-there (lists .0) in
+      let u10 = behind-weaker (given responses) (has-responses file) (has-high-bit (file-network file) responses) third-there
+      (lists .1 .0) in
       let u12 : no-room (length made) room ≡ false = le-ltb room (length made) (rw whole l) in
       full-answer (writer-tests (file-network file) (file-class file) (body-words file 1) responses room) made
-      (t5, (t6, (t7, (t8, (u9, (u10, (u12, tt)))))))
+      (fail-both file-set-tests (own-tests (file-network file) (file-class file) (body-words file 1) responses room) set
+      (u9, (u10, (u12, tt))))
       ∙ ap full whole
 
 -- what the reader accepts is what the writer writes of its content

@@ -21,4 +21,5 @@ pub mod RefutingSessions
 pub mod RefutingFindings
 pub mod RefutingCalls
 pub mod Tables
+pub mod LevelTable
 pub mod FileTables

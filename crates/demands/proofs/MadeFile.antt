@@ -2,7 +2,7 @@
 use mathlib.Core.Path.{_≡_, refl, sym, ap, ap₂, _∙_}
 use mathlib.Core.Bool.{false}
 use mathlib.Core.Logic.{inl, inr, ⊎-elim}
-use mathlib.Core.List.{List, [], _∷_, _++_, append-assoc, append-nil}
+use mathlib.Core.List.{List, [], _∷_, _++_, append-nil}
 use Prim.Native.Nat.{ℕ, zero, suc, _+_, _*_, _/_, _%_, _^_, _≤_, _<_}
 use native.Mathlib.Nat.{le-of-suc-le-suc, not-suc-le-zero}
 use native.Mathlib.Omega.{arith}
@@ -12,13 +12,15 @@ use lib.Seq.{drop-at, drop-drop, getD-drop}
 use Rattle.words.specs.Bits.{at}
 use Rattle.words.proofs.Tests.{test-fails}
 use Rattle.network.specs.declared.Network.{Network}
+use Rattle.network.specs.Reading.{network-with}
 use Rattle.jobfile.specs.Bytes.{bytes-of, word-bytes, words-at}
-use Rattle.jobfile.specs.Layout.{mark, entry-count, bodies-at, entry-kind, body-offset, body-length, Layout, bad-bodies}
-use Rattle.jobfile.specs.Layout.{file-network, file-class, body-words, has-responses, file-responses}
+use Rattle.jobfile.specs.Layout.{mark, entry-count, bodies-at, entry-kind, body-offset, body-length, nets-size}
+use Rattle.jobfile.specs.Layout.{Layout, bad-bodies, nets-byte, file-network, file-class, body-words}
+use Rattle.jobfile.specs.Layout.{has-responses, file-responses}
 use Rattle.jobfile.proofs.ByteLaws.{word-bytes-count}
 use Rattle.jobfile.proofs.FileRows.{decides-row-3}
 use Rattle.reader.specs.Reader.{content}
-use Rattle.writer.specs.Writer.{entries-for, head-of, file-of, given}
+use Rattle.writer.specs.Writer.{entries-for, head-of, bodies-of, file-of, given}
 use Rattle.writer.proofs.WriterLaws.{entries-range, head-size, file-size}
 use Rattle.demands.proofs.ReadBytes.{number-read, words-read}
 
@@ -75,49 +77,42 @@ module _ (net : Network) (k : ℕ) (vectors responses : List ℕ) (h : AdmittedC
   unfolding body-offset file-of bytes-of
   offset-0 = number-read made 6 4 start (drop 10 made) refl (let r = start-range in omega arith)
 
-  length-0 : body-length made 0 ≡ 2
+  length-0 : body-length made 0 ≡ nets-size
   unfolding body-length file-of bytes-of
-  length-0 = number-read made 10 4 2 (drop 14 made) refl (omega arith)
+  length-0 = number-read made 10 4 nets-size (drop 14 made) refl (omega arith)
 
-  offset-1 : body-offset made 1 ≡ start + 2
+  offset-1 : body-offset made 1 ≡ start + nets-size
   unfolding body-offset file-of bytes-of
-  offset-1 = number-read made 15 4 (start + 2) (drop 19 made) refl (let r = start-range in omega arith)
+  offset-1 = number-read made 15 4 (start + nets-size) (drop 19 made) refl (let r = start-range in omega arith)
 
   length-1 : body-length made 1 ≡ 8 * length vectors
   unfolding body-length file-of bytes-of
   length-1 = number-read made 19 4 (8 * length vectors) (drop 23 made) refl (omega (arith, h .vectors-most))
 
   -- the bodies
-  bodies-made : drop start made ≡ net .nets ∷ k ∷ (word-bytes vectors ++ word-bytes responses)
+  bodies-made : drop start made ≡ bodies-of net k vectors responses
   unfolding file-of
-  bodies-made =
-      ap (λ (bytes : List ℕ). drop start bytes)
-      (append-assoc (head-of vectors responses) (net .nets ∷ k ∷ word-bytes vectors) (word-bytes responses))
-      ∙ drop-at (head-of vectors responses) (net .nets ∷ k ∷ (word-bytes vectors ++ word-bytes responses)) start
-      (head-size vectors responses)
+  bodies-made = drop-at (head-of vectors responses) (bodies-of net k vectors responses) start (head-size vectors responses)
+
+  byte-made : (i : ℕ) → nets-byte made i ≡ at (bodies-of net k vectors responses) i
+  byte-made i =
+      ap (λ (n : ℕ). at made (n + i)) offset-0
+      ∙ sym (getD-drop start made i 0) ∙ ap (λ (bytes : List ℕ). at bytes i) bodies-made
 
   network-made : file-network made ≡ net
   unfolding file-network
-  network-made =
-      let first : at made (start + 0) ≡ net .nets = sym (getD-drop start made 0 0) ∙ ap (λ (bytes : List ℕ). at bytes 0) bodies-made in
-      let o = offset-0 in
-      let there : body-offset made 0 ≡ start + 0 = omega arith in
-      ap (λ (n : ℕ). record { nets = n }) (ap (λ (n : ℕ). at made n) there ∙ first)
+  network-made = ap₂ network-with (byte-made 0) (byte-made 2)
 
   class-made : file-class made ≡ k
   unfolding file-class
-  class-made =
-      let second : at made (start + 1) ≡ k = sym (getD-drop start made 1 0) ∙ ap (λ (bytes : List ℕ). at bytes 1) bodies-made in
-      let o = offset-0 in
-      let there : suc (body-offset made 0) ≡ start + 1 = omega arith in
-      ap (λ (n : ℕ). at made n) there ∙ second
+  class-made = byte-made 1
 
-  vectors-stand : drop (start + 2) made ≡ word-bytes vectors ++ word-bytes responses
-  vectors-stand = sym (drop-drop 2 start made) ∙ ap (λ (bytes : List ℕ). drop 2 bytes) bodies-made
+  vectors-stand : drop (start + nets-size) made ≡ word-bytes vectors ++ word-bytes responses
+  vectors-stand = sym (drop-drop nets-size start made) ∙ ap (λ (bytes : List ℕ). drop nets-size bytes) bodies-made
 
-  responses-stand : drop (start + 2 + 8 * length vectors) made ≡ word-bytes responses ++ []
+  responses-stand : drop (start + nets-size + 8 * length vectors) made ≡ word-bytes responses ++ []
   responses-stand =
-      sym (drop-drop (8 * length vectors) (start + 2) made) ∙ ap (λ (bytes : List ℕ). drop (8 * length vectors) bytes) vectors-stand
+      sym (drop-drop (8 * length vectors) (start + nets-size) made) ∙ ap (λ (bytes : List ℕ). drop (8 * length vectors) bytes) vectors-stand
       ∙ drop-at (word-bytes vectors) (word-bytes responses) (8 * length vectors) (word-bytes-count vectors)
       ∙ sym (append-nil (word-bytes responses))
 
@@ -130,7 +125,7 @@ module _ (net : Network) (k : ℕ) (vectors responses : List ℕ) (h : AdmittedC
       ap₂ (λ (n m : ℕ). words-at made n m) o count ∙ words-read made offset words after stands fit
 
   vectors-made : body-words made 1 ≡ vectors
-  vectors-made = words-made 1 (start + 2) vectors (word-bytes responses) offset-1 length-1 vectors-stand (h .vectors-fit)
+  vectors-made = words-made 1 (start + nets-size) vectors (word-bytes responses) offset-1 length-1 vectors-stand (h .vectors-fit)
 
 -- with no responses
 module _ (net : Network) (k : ℕ) (vectors : List ℕ) (h : AdmittedContent vectors []) where
@@ -172,9 +167,11 @@ module _ (net : Network) (k : ℕ) (vectors : List ℕ) (word : ℕ) (words : Li
   unfolding file-of bytes-of entry-kind
   kind-2 = refl
 
-  offset-2 : body-offset long 2 ≡ 34 + 8 * length vectors
+  offset-2 : body-offset long 2 ≡ bodies-at 3 + nets-size + 8 * length vectors
   unfolding body-offset file-of bytes-of
-  offset-2 = number-read long 24 4 (34 + 8 * length vectors) (drop 28 long) refl (omega (arith, h .vectors-most))
+  offset-2 =
+      number-read long 24 4 (bodies-at 3 + nets-size + 8 * length vectors) (drop 28 long) refl
+      (omega (arith, h .vectors-most))
 
   length-2 : body-length long 2 ≡ 8 * length (word ∷ words)
   unfolding body-length file-of bytes-of
@@ -229,8 +226,9 @@ module _ (net : Network) (k : ℕ) (vectors : List ℕ) where
   unfolding file-responses file-of
   responses-made [] h = refl
   responses-made (word ∷ words) h =
-      words-made net k vectors (word ∷ words) h 2 (34 + 8 * length vectors) (word ∷ words) [] (offset-2 net k vectors word words h)
-      (length-2 net k vectors word words h) (responses-stand net k vectors (word ∷ words) h) (h .responses-fit)
+      words-made net k vectors (word ∷ words) h 2 (bodies-at 3 + nets-size + 8 * length vectors) (word ∷ words) []
+      (offset-2 net k vectors word words h) (length-2 net k vectors word words h)
+      (responses-stand net k vectors (word ∷ words) h) (h .responses-fit)
 
 third-given : (responses : List ℕ) → eqb (entries-for responses) 3 ≡ given responses
 third-given [] = refl

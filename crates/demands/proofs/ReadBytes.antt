@@ -1,4 +1,4 @@
--- Numbers, words and entries read from a file: what was put is read, and what is read is what stands there.
+-- Bytes, numbers, words and entries read from a file: what was put is read, and what is read is what stands there.
 use mathlib.Core.Path.{_≡_, refl, sym, ap, ap₂, _∙_}
 use mathlib.Core.List.{List, [], _∷_, _++_, append-assoc}
 use Prim.Native.Nat.{ℕ, zero, suc, _+_, _*_, _-_, _^_, _≤_, _<_, suc-le-suc}
@@ -53,6 +53,21 @@ words-read file offset (word ∷ words) after e h =
     (words-read file (offset + 8) words after next (λ t l. h (suc t) (suc-le-suc l)))
 
 -- ---- what is read is what stands there
+
+-- bytes one by one
+pub bytes-stand : (file : List ℕ) (offset count : ℕ) → offset + count ≤ length file
+    → drop offset file ≡ tabulate count (λ i. at file (offset + i)) ++ drop (offset + count) file
+unfolding tabulate
+bytes-stand file offset zero l = let none : offset ≡ offset + 0 = omega arith in ap (λ (n : ℕ). drop n file) none
+bytes-stand file offset (suc count) l =
+    let here : offset ≡ offset + 0 = omega arith in
+    let end : suc offset + count ≡ offset + suc count = omega arith in
+    drop-cons file offset 0 (omega arith)
+    ∙ ap₂ (λ (n : ℕ) (bytes : List ℕ). at file n ∷ bytes) here
+    (bytes-stand file (suc offset) count (omega arith)
+    ∙ ap₂ (λ (bytes : List ℕ) (n : ℕ). bytes ++ drop n file)
+    (tabulate-same count (λ i. at file (suc offset + i)) (λ i. at file (offset + suc i))
+    (λ i. let next : suc offset + i ≡ offset + suc i = omega arith in ap (λ (n : ℕ). at file n) next)) end)
 
 module _ (file : List ℕ) (small : AllBytes file) where
   number-stands : (offset count : ℕ) → offset + count ≤ length file

@@ -7,7 +7,7 @@ use mathlib.Core.Bool.{Bool, true, false, cond}
 use mathlib.Core.List.{List, [], _∷_, _++_}
 use lib.ListN.{length}
 use Rattle.words.specs.Answers.{Answer, refused, full, ByTable, NoneHolds}
-use Rattle.words.proofs.Answers.{table-skip}
+use Rattle.words.proofs.Answers.{table-skip, none-front, none-rest}
 use Rattle.network.specs.States.{Fits}
 use Rattle.network.specs.Rows.{SetRows, Row9, HighBit}
 use Rattle.network.proofs.Rows.{admitted-set}
@@ -18,7 +18,7 @@ use Rattle.checker.proofs.Separation.{apart-one-fits}
 use Rattle.diagnosis.specs.Diagnosis.{OwnRows, diagnosis-answer}
 use Rattle.diagnosis.proofs.DiagnosisLaws.{passed-apart, diagnosis-by-table}
 use Rattle.jobfile.specs.Layout.{body-words, has-responses, file-responses}
-use Rattle.reader.specs.Reader.{JobContent, content, ReaderRows, read-answer}
+use Rattle.reader.specs.Reader.{JobContent, content, ListRows, ReaderRows, read-answer}
 use Rattle.reader.proofs.ReaderLaws.{read-by-table}
 use Rattle.listing.specs.Report.{refused-line, verdict-line, net-lines, diagnosis-text, responses-text, content-text, job-text, report}
 use Rattle.demands.specs.Demand1.{FirstRow}
@@ -79,18 +79,30 @@ third-entry file some = go (has-responses file) some
     go true h = refl
     go false h = absurd (h refl)
 
+-- of the reader's rows, those of the test set and those of the lists
+module _ (file : List ℕ) where
+  abbrev set-rows : List (ℕ × Type 0)
+  set-rows = SetRows (content file .network) (content file .class) (content file .vectors)
+
+  set-passed : NoneHolds (ReaderRows file 64 64) → NoneHolds set-rows
+  set-passed (_, (_, (_, none))) = none-front set-rows (ListRows file (content file) 64 64) none
+
+  lists-passed : NoneHolds (ReaderRows file 64 64) → NoneHolds (ListRows file (content file) 64 64)
+  lists-passed (_, (_, (_, none))) = none-rest set-rows (ListRows file (content file) 64 64) none
+
 reached : (file : List ℕ) → NoneHolds (ReaderRows file 64 64) → read-answer file 64 64 ≡ full (content file)
     → LineOne (content file) (report file)
 unfolding report content-text content
-reached file (_, (_, (_, (five, (six, (seven, (eight, (nine, (ten, _))))))))) e =
+reached file none e =
     let job = content file in
+    let lists = lists-passed file none in
     let fine : job .responses ≢ [] → ResponsesAdmitted job =
-    λ some. let third = third-entry file some in (λ row. nine (third, row), λ row. ten (third, row)) in
+    λ some. let third = third-entry file some in (λ row. lists .0 (third, row), λ row. lists .1 .0 (third, row)) in
     record {
       verdict = verdict (job .network) (job .class) (job .vectors);
       by-rule = verdict-rule (job .network) (job .class) (job .vectors);
       rest = responses-text (job .network) (job .class) (job .vectors) (job .responses);
-      follows = follows job (five, (six, (seven, (eight, tt)))) fine;
+      follows = follows job (set-passed file none) fine;
       whole = ap job-text e;
     }
 
@@ -156,6 +168,4 @@ report-determined p q f g file = go (f file) (g file)
     go (inl (n, first, e)) (inr (none, line)) = absurd (some-row-holds (ReaderRows file 64 64) n first none)
     go (inr (none, line)) (inl (m, other, d)) = absurd (some-row-holds (ReaderRows file 64 64) m other none)
     go (inr (none, line)) (inr (_, other)) =
-        line-one-determined (content file)
-        (none .1 .1 .1 .0, (none .1 .1 .1 .1 .0, (none .1 .1 .1 .1 .1 .0, (none .1 .1 .1 .1 .1 .1 .0, tt))))
-        (p file) (q file) line other
+        line-one-determined (content file) (set-passed file none) (p file) (q file) line other

@@ -10,14 +10,14 @@ use lib.Dec.{leb}
 use lib.ListN.{length, take}
 use borrow.Author.Tests.{eq-eqb, le-ltb, leb-true, leb-false}
 use Rattle.words.specs.Answers.{Answer, refused, full, ByTable, NoneHolds, by-tests, lent-after}
-use Rattle.words.proofs.Tests.{cases, test-fails}
+use Rattle.words.proofs.Tests.{cases}
 use Rattle.words.proofs.Answers.{front-written, table-full, table-not-refused}
 use Rattle.network.specs.declared.Network.{Network}
 use Rattle.network.specs.Reading.{response}
 use Rattle.network.specs.States.{State}
-use Rattle.network.specs.Rows.{HighBit, bad-net-count, has-high-bit}
+use Rattle.network.specs.Rows.{AdmittedNetwork, HighBit, has-high-bit, no-room}
 use Rattle.network.proofs.Reading.{response-is}
-use Rattle.network.proofs.Rows.{decides-row-5}
+use Rattle.network.proofs.Rows.{network-admits, admitted-refusal}
 use Rattle.steps.specs.FirstStep.{word-length, first-vectors}
 use Rattle.steps.specs.SecondStep.{unclear, second-vectors}
 use Rattle.steps.proofs.StepOneWords.{first-size}
@@ -38,11 +38,13 @@ use Rattle.demands.proofs.Telling.{is-begun}
 
 -- ---- calls that go through
 
-begin-through : (net : Network) → bad-net-count net ≡ false → begin-answer net (length (first-vectors net)) ≡ full (first-vectors net)
+begin-through : (net : Network) → AdmittedNetwork net → begin-answer net (length (first-vectors net)) ≡ full (first-vectors net)
 unfolding begin-answer by-tests
-begin-through net e = rw (e, le-ltb (length (first-vectors net)) (length (first-vectors net)) (le-refl _))
+begin-through net good =
+    let p = length (first-vectors net) in
+    network-admits net ((12, no-room p p) ∷ []) (first-vectors net) (admitted-refusal net good) ∙ rw (le-ltb p p (le-refl p))
 
-first-through : (net : Network) (answers : List ℕ) → bad-net-count net ≡ false → length answers ≡ word-length net
+first-through : (net : Network) (answers : List ℕ) → AdmittedNetwork net → length answers ≡ word-length net
     → has-high-bit net answers ≡ false
     → first-answer (awaiting-first net) answers (length (second-vectors net answers)) ≡ full (second-vectors net answers)
 unfolding first-answer by-tests
@@ -120,14 +122,14 @@ module _ (session : Session) (e : awaits-second session ≡ true) where
   through-one : (our-sessions session call-one .session ≡ awaiting-first held-net)
       × ((h : History) → extended h call-one (our-sessions session call-one)
       ≡ by-answer h call-one (full vectors-one) (lent-after (full vectors-one) vectors-one))
-  through-one = goes-through session call-one vectors-one (begin-through held-net (told-second .nets-good))
+  through-one = goes-through session call-one vectors-one (begin-through held-net (told-second .admitted))
 
   through-two : (our-sessions (awaiting-first held-net) call-two .session ≡ our-new (awaiting-first held-net) call-two)
       × ((h : History) → extended h call-two (our-sessions (awaiting-first held-net) call-two)
       ≡ by-answer h call-two (full vectors-two) (lent-after (full vectors-two) vectors-two))
   through-two =
       goes-through (awaiting-first held-net) call-two vectors-two
-      (first-through held-net held (told-second .nets-good) (told-second .one-a-vector) (told-second .no-high-bit))
+      (first-through held-net held (told-second .admitted) (told-second .one-a-vector) (told-second .no-high-bit))
 
   second-left : LeftBy our-sessions (waits-second held-net vectors-one held vectors-two) session
   second-left = record {
@@ -152,13 +154,13 @@ awaits-of-first : (h : History) (session : Session) (answers list : List ℕ) �
     → Awaits h (first answers list) → awaits-first session ≡ true
 awaits-of-first h session answers list t (net, v1, q) =
     let w : WaitsFirst net v1 session = subst (λ (x : History). Tells x session) q t in
-    ap awaits-first (w .is) ∙ awaits-first-of net (test-fails (decides-row-5 net) (w .nets))
+    ap awaits-first (w .is) ∙ awaits-first-of net (w .admitted)
 
 awaits-of-second : (h : History) (session : Session) (answers : List ℕ) → Tells h session → Awaits h (second answers)
     → awaits-second session ≡ true
 awaits-of-second h session answers t (net, v1, r1, v2, q) =
     let w : WaitsSecond net v1 r1 v2 session = subst (λ (x : History). Tells x session) q t in
-    ap awaits-second (w .is) ∙ awaits net r1 (w .nets) (w .sized) (w .narrow) (w .some)
+    ap awaits-second (w .is) ∙ awaits net r1 (w .admitted) (w .sized) (w .narrow) (w .some)
 
 pub row-four : RowFour our-sessions awaits-first awaits-second
 row-four = record {

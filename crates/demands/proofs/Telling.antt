@@ -11,11 +11,11 @@ use borrow.Author.Tests.{eqb-true, not-false}
 use Rattle.words.specs.Answers.{Answer, refused, full, ByTable, NoneHolds, by-tests, Decides, Decided, lent-after}
 use Rattle.words.specs.Bits.{at}
 use Rattle.words.proofs.Tests.{cases, contrary, test-fails}
-use Rattle.words.proofs.Answers.{tests-by-table, table-full, let-through, front-written, refused-not-full}
+use Rattle.words.proofs.Answers.{tests-by-table, table-full, none-front, decided-append, let-through, front-written, refused-not-full}
 use Rattle.network.specs.declared.Network.{Network}
-use Rattle.network.specs.Reading.{response}
-use Rattle.network.specs.Rows.{Row5, Row9, HighBit, bad-net-count, bad-response-count, has-high-bit, no-room}
-use Rattle.network.proofs.Rows.{decides-row-5, decides-row-9, decides-high-bit, decides-row-12, nets-admitted, no-high-bit}
+use Rattle.network.specs.Reading.{extra-vectors, response}
+use Rattle.network.specs.Rows.{NetworkRows, AdmittedNetwork, Row9, HighBit, Row12, network-tests, bad-response-count, has-high-bit, no-room}
+use Rattle.network.proofs.Rows.{decides-network, decides-row-9, decides-high-bit, decides-row-12, nets-admitted, no-high-bit}
 use Rattle.diagnosis.specs.ReadBack.{read-back, no-state-fits}
 use Rattle.steps.specs.FirstStep.{word-length, first-vectors}
 use Rattle.steps.specs.SecondStep.{unclear, second-vectors, session-vectors, fault-free-state}
@@ -36,12 +36,12 @@ use Rattle.demands.specs.Programs.{our-answer, our-new, our-sessions}
 -- ---- what the record tells of the session
 
 pub record WaitsFirst (net : Network) (v1 : List ℕ) (session : Session) : Type 0 where
-  pub nets : ¬ (Row5 net)
+  pub admitted : AdmittedNetwork net
   pub wrote : v1 ≡ first-vectors net
   pub is : session ≡ awaiting-first net
 
 pub record WaitsSecond (net : Network) (v1 r1 v2 : List ℕ) (session : Session) : Type 0 where
-  pub nets : ¬ (Row5 net)
+  pub admitted : AdmittedNetwork net
   pub wrote : v1 ≡ first-vectors net
   pub sized : length r1 ≡ word-length net
   pub narrow : ¬ (HighBit net r1)
@@ -71,9 +71,11 @@ through {A} rows tests x y d e =
     (tests-by-table (λ (z : A). z ≡ x) rows tests x d (λ _. refl)))
 
 begin-decided : (net : Network) (list : List ℕ)
-    → Decided (BeginRows net list)
-    ((5, bad-net-count net) ∷ (12, no-room (length (first-vectors net)) (length list)) ∷ [])
-begin-decided net list = (refl, decides-row-5 net, λ _. (refl, decides-row-12 (length (first-vectors net)) (length list), λ _. tt))
+    → Decided (BeginRows net list) (network-tests net ++ (12, no-room (length (first-vectors net)) (length list)) ∷ [])
+begin-decided net list =
+    let p = length (first-vectors net) in
+    decided-append (NetworkRows net) ((12, Row12 p (length list)) ∷ []) (network-tests net) ((12, no-room p (length list)) ∷ [])
+    (decides-network net) (λ _. (refl, decides-row-12 p (length list), λ _. tt))
 
 -- by the rows of begin
 pub begin-by-table : (session : Session) (net : Network) (list : List ℕ)
@@ -110,10 +112,10 @@ pub second-refused : (session : Session) (answers : List ℕ) → awaits-second 
 unfolding second-answer by-tests
 second-refused session answers e = rw e
 
-first-passed : (net : Network) (answers list : List ℕ) → ¬ (Row5 net)
+first-passed : (net : Network) (answers list : List ℕ) → AdmittedNetwork net
     → our-answer (awaiting-first net) (first answers list) ≡ by-tests (first-tests net answers list) (second-vectors net answers)
 unfolding first-answer by-tests
-first-passed net answers list nets = rw (awaits-first-of net (test-fails (decides-row-5 net) nets))
+first-passed net answers list good = rw (awaits-first-of net good)
 
 -- ---- second answers
 
@@ -124,12 +126,12 @@ second-tests net r1 answers =
     ∷ (14, no-state-fits net (net .nets) (session-vectors net r1) (r1 ++ answers))
     ∷ []
 
-module _ (net : Network) (r1 : List ℕ) (nets : ¬ (Row5 net)) (sized : length r1 ≡ word-length net) (narrow : ¬ (HighBit net r1))
+module _ (net : Network) (r1 : List ℕ) (good : AdmittedNetwork net) (sized : length r1 ≡ word-length net) (narrow : ¬ (HighBit net r1))
     (some : length (unclear net r1) ≢ 0) where
   pub awaits : awaits-second (awaiting-second net r1) ≡ true
   awaits =
-      let b = nets-admitted net nets in
-      awaits-second-of net r1 (test-fails (decides-row-5 net) nets) sized (length-bounds net (b .0) (b .1) .1)
+      let b = nets-admitted net (good .0) in
+      awaits-second-of net r1 good sized (length-bounds net (b .0) (b .1) .1)
       (test-fails (decides-high-bit net r1) narrow) some
 
   second-passed : (answers : List ℕ) → our-answer (awaiting-second net r1) (second answers) ≡ by-tests (second-tests net r1 answers) []
@@ -147,14 +149,14 @@ module _ (net : Network) (r1 : List ℕ) (nets : ¬ (Row5 net)) (sized : length 
     fits-read : (state : List ℕ) → FitsAnswers (both answers) state
         → (no-state-fits net (net .nets) (session-vectors net r1) (r1 ++ answers) ≡ false) × (read ≡ state)
     fits-read state (of-class, one, two) =
-        let b = nets-admitted net nets in
+        let b = nets-admitted net (good .0) in
         both-read-back net (words-apart net (b .0) (b .1)) r1 answers state sized
         (fits-both net (first-vectors net) (second-vectors net r1) (net .nets) r1 answers state
         (record { of-class = of-class; gives = one }) (record { of-class = of-class; gives = two }))
 
     read-fits : no-state-fits net (net .nets) (session-vectors net r1) (r1 ++ answers) ≡ false → FitsAnswers (both answers) read
     read-fits e =
-        let b = nets-admitted net nets in
+        let b = nets-admitted net (good .0) in
         let f = both-fits net r1 answers sized full-size (no-high-bit net r1 narrow) (no-high-bit net answers no-high) e in
         let s = fits-parts net (first-vectors net) (second-vectors net r1) (net .nets) r1 answers read
         (sized ∙ sym (first-size net)) f in (f .of-class, s .0 .gives, s .1 .gives)
@@ -178,11 +180,11 @@ module _ (net : Network) (r1 : List ℕ) (nets : ¬ (Row5 net)) (sized : length 
 
 -- ---- the answer by the rows of the session
 
-in-first : (net : Network) (answers list : List ℕ) → ¬ (Row5 net)
+in-first : (net : Network) (answers list : List ℕ) → AdmittedNetwork net
     → ByTable (FirstRows (waits-first net (first-vectors net)) answers list)
     (λ words. words ≡ second-vectors net answers) (our-answer (awaiting-first net) (first answers list))
-in-first net answers list nets =
-    rw (first-passed net answers list nets)
+in-first net answers list good =
+    rw (first-passed net answers list good)
     (tests-by-table (λ words. words ≡ second-vectors net answers)
     (FirstRows (waits-first net (first-vectors net)) answers list) (first-tests net answers list)
     (second-vectors net answers) (first-decided net answers list) (λ _. refl))
@@ -190,11 +192,11 @@ in-first net answers list nets =
 in-second : (net : Network) (v1 r1 v2 answers : List ℕ) → WaitsSecond net v1 r1 v2 (awaiting-second net r1)
     → ByTable (SecondRows (waits-second net v1 r1 v2) answers) (λ words. words ≡ []) (our-answer (awaiting-second net r1) (second answers))
 in-second net v1 r1 v2 answers w =
-    rw (w .wrote, w .wrote-second, second-passed net r1 (w .nets) (w .sized) (w .narrow) (w .some) answers)
+    rw (w .wrote, w .wrote-second, second-passed net r1 (w .admitted) (w .sized) (w .narrow) (w .some) answers)
     (tests-by-table (λ (words : List ℕ). words ≡ [])
     (SecondRows (waits-second net (first-vectors net) r1 (second-vectors net r1)) answers)
     (second-tests net r1 answers) []
-    (second-decided net r1 (w .nets) (w .sized) (w .narrow) (w .some) answers) (λ _. refl))
+    (second-decided net r1 (w .admitted) (w .sized) (w .narrow) (w .some) answers) (λ _. refl))
 
 -- ---- what a record at each stage does not wait for
 
@@ -240,7 +242,7 @@ pub told-by-table : (h : History) (session : Session) (call : Call) → h ≢ no
     → ByTable (CallRows h call) (Written h call) (our-answer session call)
 told-by-table h session (begin net list) begun t = begin-by-table session net list
 told-by-table none session (first answers list) begun t = absurd (begun refl)
-told-by-table (waits-first net v1) session (first answers list) begun t = rw (t .wrote, t .is) (in-first net answers list (t .nets))
+told-by-table (waits-first net v1) session (first answers list) begun t = rw (t .wrote, t .is) (in-first net answers list (t .admitted))
 told-by-table (waits-second net v1 r1 v2) session (first answers list) begun t =
     by-row-4 (λ (words : List ℕ). words ≡ []) (our-answer session (first answers list))
     (away-first (waits-second net v1 r1 v2) session answers list begun t (λ e. omega arith))
@@ -271,7 +273,7 @@ told-by-table (finished-second net v1 r1 v2 r2) session (second answers) begun t
 finished-reports : (h : History) (net : Network) (r1 state : List ℕ) (spent : ℕ) → length state ≡ net .nets
     → OnlyFit h state → spent ≡ length (vectors-spent h)
     → (length (unclear net r1) ≡ 0 → (spent ≡ word-length net) × (state ≡ fault-free-state net))
-    → (length (unclear net r1) ≢ 0 → spent ≡ word-length net + length (unclear net r1) + 1)
+    → (length (unclear net r1) ≢ 0 → spent ≡ word-length net + length (unclear net r1) + length (extra-vectors net))
     → Stopped h net r1 (finished net state spent)
 finished-reports h net r1 state spent size only count clear unclear! = record {
   step-three = refl;
@@ -287,13 +289,13 @@ finished-reports h net r1 state spent size only count clear unclear! = record {
   };
 }
 
-first-in : (net : Network) (v1 answers list words : List ℕ) → ¬ (Row5 net) → v1 ≡ first-vectors net
+first-in : (net : Network) (v1 answers list words : List ℕ) → AdmittedNetwork net → v1 ≡ first-vectors net
     → our-answer (awaiting-first net) (first answers list) ≡ full words
     → Tells (after-first net v1 answers words (unclear net answers)) (answered-by net answers (unclear net answers))
-first-in net v1 answers list words nets wrote e = go (unclear net answers) refl
+first-in net v1 answers list words good wrote e = go (unclear net answers) refl
   where
     past : by-tests (first-tests net answers list) (second-vectors net answers) ≡ full words
-    past = sym (first-passed net answers list nets) ∙ e
+    past = sym (first-passed net answers list good) ∙ e
 
     free : NoneHolds (FirstRows (waits-first net (first-vectors net)) answers list)
     free = let-through (FirstRows (waits-first net (first-vectors net)) answers list) (first-tests net answers list)
@@ -307,10 +309,10 @@ first-in net v1 answers list words nets wrote e = go (unclear net answers) refl
     sized = eqb-true _ _ (not-false _ (test-fails (decides-row-9 (length (first-vectors net)) (length answers)) (free .0))) ∙ first-size net
 
     nets-low : 2 ≤ net .nets
-    nets-low = nets-admitted net nets .0
+    nets-low = nets-admitted net (good .0) .0
 
     nets-high : net .nets ≤ 48
-    nets-high = nets-admitted net nets .1
+    nets-high = nets-admitted net (good .0) .1
 
     go : (us : List ℕ) → unclear net answers ≡ us → Tells (after-first net v1 answers words us) (answered-by net answers us)
     go [] q =
@@ -329,7 +331,7 @@ first-in net v1 answers list words nets wrote e = go (unclear net answers) refl
         })
         (rw (wrote, second-wrote)) (λ _. (spent, refl)) (λ d. absurd (d clear))
     go (i ∷ us) q = record {
-      nets = nets;
+      admitted = good;
       wrote = wrote;
       sized = sized;
       narrow = free .1 .0;
@@ -344,30 +346,30 @@ second-in : (net : Network) (v1 r1 v2 answers words : List ℕ) → WaitsSecond 
 second-in net v1 r1 v2 answers words w e = rw (held-of net r1 (w .sized)) told
   where
     past : by-tests (second-tests net r1 answers) [] ≡ full words
-    past = sym (second-passed net r1 (w .nets) (w .sized) (w .narrow) (w .some) answers) ∙ e
+    past = sym (second-passed net r1 (w .admitted) (w .sized) (w .narrow) (w .some) answers) ∙ e
 
     free : NoneHolds (SecondRows (waits-second net (first-vectors net) r1 (second-vectors net r1)) answers)
     free =
         let-through (SecondRows (waits-second net (first-vectors net) r1 (second-vectors net r1)) answers)
         (second-tests net r1 answers) [] words
-        (second-decided net r1 (w .nets) (w .sized) (w .narrow) (w .some) answers) past
+        (second-decided net r1 (w .admitted) (w .sized) (w .narrow) (w .some) answers) past
 
     same : length answers ≡ length (second-vectors net r1)
-    same = as-many net r1 (w .nets) (w .sized) (w .narrow) (w .some) answers (free .0)
+    same = as-many net r1 (w .admitted) (w .sized) (w .narrow) (w .some) answers (free .0)
 
     state : List ℕ
-    state = read net r1 (w .nets) (w .sized) (w .narrow) (w .some) answers same (free .1 .0)
+    state = read net r1 (w .admitted) (w .sized) (w .narrow) (w .some) answers same (free .1 .0)
 
     found : no-state-fits net (net .nets) (session-vectors net r1) (r1 ++ answers) ≡ false
-    found = test-fails (decides-row-14 net r1 (w .nets) (w .sized) (w .narrow) (w .some) answers same (free .1 .0)) (free .1 .1 .0)
+    found = test-fails (decides-row-14 net r1 (w .admitted) (w .sized) (w .narrow) (w .some) answers same (free .1 .0)) (free .1 .1 .0)
 
-    one : OnlyFit (both net r1 (w .nets) (w .sized) (w .narrow) (w .some) answers) state
+    one : OnlyFit (both net r1 (w .admitted) (w .sized) (w .narrow) (w .some) answers) state
     one = record {
-      fits = read-fits net r1 (w .nets) (w .sized) (w .narrow) (w .some) answers same (free .1 .0) found;
-      only = λ other f. sym (fits-read net r1 (w .nets) (w .sized) (w .narrow) (w .some) answers same (free .1 .0) other f .1);
+      fits = read-fits net r1 (w .admitted) (w .sized) (w .narrow) (w .some) answers same (free .1 .0) found;
+      only = λ other f. sym (fits-read net r1 (w .admitted) (w .sized) (w .narrow) (w .some) answers same (free .1 .0) other f .1);
     }
 
-    spent : length (session-vectors net r1) ≡ word-length net + length (unclear net r1) + 1
+    spent : length (session-vectors net r1) ≡ word-length net + length (unclear net r1) + length (extra-vectors net)
     spent = length-append (first-vectors net) (second-vectors net r1)
         ∙ (let a = first-size net in let b = second-size net r1 (w .some) in omega arith)
 
@@ -383,7 +385,8 @@ begin-in : (session : Session) (net : Network) (list words : List ℕ) → our-a
     → WaitsFirst net words (awaiting-first net)
 unfolding begin-answer
 begin-in session net list words e = record {
-  nets = let-through (BeginRows net list) _ (first-vectors net) words (begin-decided net list) e .0;
+  admitted = none-front (NetworkRows net) ((12, Row12 (length (first-vectors net)) (length list)) ∷ [])
+      (let-through (BeginRows net list) _ (first-vectors net) words (begin-decided net list) e);
   wrote = through (BeginRows net list) _ (first-vectors net) words (begin-decided net list) e;
   is = refl;
 }
@@ -396,7 +399,7 @@ accepted-tells (waits-first net v1) session (first answers list) words e t =
     subst
     (λ (s : Session). our-answer s (first answers list) ≡ full words
     → Tells (accepted (waits-first net v1) (first answers list) words) (our-new s (first answers list)))
-    (sym (t .is)) (first-in net v1 answers list words (t .nets) (t .wrote)) e
+    (sym (t .is)) (first-in net v1 answers list words (t .admitted) (t .wrote)) e
 accepted-tells (waits-second net v1 r1 v2) session (first answers list) words e t =
     refused-not-full (away-first (waits-second net v1 r1 v2) session answers list
     (is-begun (waits-second net v1 r1 v2) (λ z. omega arith)) t (λ q. omega arith)) e

@@ -14,8 +14,7 @@ use Rattle.words.specs.Answers.{Answer, refused, full, by-tests, lent-after}
 use Rattle.words.proofs.Answers.{none-passed}
 use Rattle.words.proofs.Columns.{length-tabulate}
 use Rattle.network.specs.declared.Network.{Network}
-use Rattle.network.specs.Rows.{bad-net-count}
-use Rattle.network.proofs.Rows.{decides-row-5, nets-admitted}
+use Rattle.network.proofs.Rows.{nets-admitted}
 use Rattle.diagnosis.specs.ReadBack.{read-back}
 use Rattle.diagnosis.proofs.ReadingBack.{read-size}
 use Rattle.steps.specs.FirstStep.{first-vectors}
@@ -26,7 +25,7 @@ use Rattle.session.specs.Record.{held-answers, awaits-first, awaits-second}
 use Rattle.session.specs.Calls.{begin-answer, stepped, first-answer, answered-by, vectors-driven, all-answers, second-answer}
 use Rattle.session.specs.Drive.{front, to-drive}
 use Rattle.session.proofs.Padding.{pad-size}
-use Rattle.session.proofs.Records.{awaits-first-step, awaits-first-is, awaits-second-step, awaits-second-nets}
+use Rattle.session.proofs.Records.{awaits-first-step, awaits-first-is, awaits-second-step, awaits-second-network}
 use Rattle.packing.specs.Packed.{session-size, session-words, session-of}
 use Rattle.packing.proofs.Words.{Sized, session-sized, words-size, session-back}
 use Rattle.exports.specs.Exported.{code, in-words, fixed-after}
@@ -36,9 +35,6 @@ use Rattle.demands.specs.Programs.{our-answer, our-new, our-sessions}
 use Rattle.demands.specs.ThroughC.{exported-answer, exported-session, exported, SameInWords, SessionsThroughC}
 
 -- ---- accepted calls leave records with arrays of 8 and 48 words
-
-nets-most : (net : Network) → bad-net-count net ≡ false → (2 ≤ net .nets) × (net .nets ≤ 48)
-nets-most net e = nets-admitted net (decides-row-5 net .1 e)
 
 answered-sized : (net : Network) (answers nets : List ℕ) → length answers ≤ 8 → net .nets ≤ 48 → Sized (answered-by net answers nets)
 unfolding fault-free-state
@@ -54,13 +50,13 @@ new-sized session (begin net list) words e = record { first-size = refl; reaches
 new-sized session (first answers list) words e =
     let net = session .network in
     let rows = none-passed _ _ words e .0 in
-    let nets = nets-most net (awaits-first-is session (not-false _ (rows .0)) .1) in
+    let nets = nets-admitted net (awaits-first-is session (not-false _ (rows .0)) .1 .0) in
     let size : length answers ≡ length (first-vectors net) = eqb-true _ _ (not-false _ (rows .1 .0)) in
     answered-sized net answers (unclear net answers)
     (omega (arith, size, first-size net, length-bounds net (nets .0) (nets .1) .1)) (nets .1)
 new-sized session (second answers) words e =
     let net = session .network in
-    let nets = nets-most net (awaits-second-nets session (not-false _ (none-passed _ _ words e .0 .0))) in
+    let nets = nets-admitted net (awaits-second-network session (not-false _ (none-passed _ _ words e .0 .0)) .0) in
     let state = read-back net (net .nets) (vectors-driven session) (all-answers session answers) in
     let one-a-net : length state ≡ net .nets = read-size net (net .nets) (vectors-driven session) (all-answers session answers) in
     record { first-size = refl; reaches-size = pad-size 48 state (omega (arith, nets .1, one-a-net)) }
@@ -125,7 +121,8 @@ zero-full ((number, test) ∷ tests) x (n, more) e = go test e (zero-full tests 
 zero-accepted : (session : Session) (call : Call) → code (our-answer session call) ≡ 0
     → (written : List ℕ) × (our-answer session call ≡ full written)
 unfolding begin-answer first-answer second-answer
-zero-accepted session (begin net list) e = (_, zero-full _ _ (λ q. omega (arith, q), (λ q. omega (arith, q), tt)) e)
+zero-accepted session (begin net list) e =
+    (_, zero-full _ _ (λ q. omega (arith, q), (λ q. omega (arith, q), (λ q. omega (arith, q), tt))) e)
 zero-accepted session (first answers list) e =
     (_, zero-full _ _ (λ q. omega (arith, q), (λ q. omega (arith, q), (λ q. omega (arith, q), (λ q. omega (arith, q), tt)))) e)
 zero-accepted session (second answers) e =

@@ -1,10 +1,11 @@
 -- Inputs on both sides of each bound of rows 4 to 14, for the calls other than the reader and the writer. Theirs are in
--- FileBounds.antt.
+-- FileBounds.antt, and those of row 17 in LevelCases.antt.
 use Prim.Native.Nat.{ℕ, _-_, _^_}
 use mathlib.Core.Path.{_≡_}
 use mathlib.Core.List.{List, [], _∷_}
 use lib.ListN.{replicate}
 use Rattle.words.specs.Answers.{Answer, refused, full, count-of}
+use Rattle.network.specs.Reading.{network-of}
 use Rattle.network.specs.Respond.{response-answer}
 use Rattle.checker.specs.declared.Verdict.the-variants.{Pass, Pair}
 use Rattle.diagnosis.specs.Diagnosis.{diagnosis-answer}
@@ -16,15 +17,15 @@ use Rattle.demands.specs.Starred.{check, respond, diagnose, two}
 
 -- *response from a state* with this much room
 abbrev pub respond-into : ℕ → Answer (List ℕ)
-respond-into room = response-answer (record { nets = 4 }) 4 (0 ∷ 1 ∷ 2 ∷ 4 ∷ 8 ∷ []) (3 ∷ 3 ∷ 0 ∷ 8 ∷ []) room
+respond-into room = response-answer (network-of 4) 4 (0 ∷ 1 ∷ 2 ∷ 4 ∷ 8 ∷ []) (3 ∷ 3 ∷ 0 ∷ 8 ∷ []) room
 
 -- *diagnosis* over walking ones with this much room
 abbrev pub diagnose-into : List ℕ → ℕ → Answer (List ℕ)
-diagnose-into responses room = diagnosis-answer (record { nets = 4 }) 4 (0 ∷ 1 ∷ 2 ∷ 4 ∷ 8 ∷ []) responses room
+diagnose-into responses room = diagnosis-answer (network-of 4) 4 (0 ∷ 1 ∷ 2 ∷ 4 ∷ 8 ∷ []) responses room
 
 -- *findings* of n nets with this much room
 abbrev pub find-into : ℕ → (state : List ℕ) → ℕ → Answer (List Finding)
-find-into n state room = findings-answer (record { nets = n }) state room
+find-into n state room = findings-answer (network-of n) state room
 
 pub record Boundary : Type 0 where
   -- row 5: n
@@ -72,12 +73,12 @@ pub record Boundary : Type 0 where
   pub find-state-long : find-into 2 (1 ∷ 2 ∷ 0 ∷ []) 3 ≡ refused 11
   pub find-room-1 : find-into 2 (2 ∷ 2 ∷ []) 1 ≡ refused 12
   -- *begin*: row 5, n; row 12, the room
-  pub begin-1 : begin-answer (record { nets = 1 }) 8 ≡ refused 5
+  pub begin-1 : begin-answer (network-of 1) 8 ≡ refused 5
   pub begin-2 : begin-answer two 2 ≡ full (1 ∷ 2 ∷ [])
   pub begin-2-short : begin-answer two 1 ≡ refused 12
-  pub begin-48 : count-of (begin-answer (record { nets = 48 }) 8) ≡ full 8
-  pub begin-48-short : begin-answer (record { nets = 48 }) 7 ≡ refused 12
-  pub begin-49 : begin-answer (record { nets = 49 }) 8 ≡ refused 5
+  pub begin-48 : count-of (begin-answer (network-of 48) 8) ≡ full 8
+  pub begin-48-short : begin-answer (network-of 48) 7 ≡ refused 12
+  pub begin-49 : begin-answer (network-of 49) 8 ≡ refused 5
   -- *first answers*: row 9, as many as vectors; row 10, a bit at n; row 12, the room, which only unclear nets need
   pub one-answer-short : first-answer (awaiting-first two) (3 ∷ []) 3 ≡ refused 9
   pub one-answer-more : first-answer (awaiting-first two) (3 ∷ 3 ∷ 3 ∷ []) 3 ≡ refused 9

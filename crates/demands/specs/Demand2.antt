@@ -1,7 +1,7 @@
 -- Demand 2: a response worked out from a wiring state, and a wiring state read back from a response, both follow the
--- wired-OR model with floating receivers at soft 1, opens and shorts on one net included. With a passed test set, the
--- state read back is of the stated class and gives exactly that response, and, if no earlier refusal applies, "no state
--- fits" is said exactly when no state of the class gives it.
+-- wired-OR model with floating receivers at the soft level, opens and shorts on one net included. With a passed test
+-- set, the state read back is of the stated class and gives exactly that response, and, if no earlier refusal applies,
+-- "no state fits" is said exactly when no state of the class gives it.
 use Prim.Native.Nat.{ℕ}
 use mathlib.Core.Path.{_≡_}
 use mathlib.Core.Logic.{_↔_}
@@ -11,7 +11,7 @@ use lib.ListN.{length, take}
 use Rattle.words.specs.Answers.{refused, full, NoneHolds, Filled, FillsByTable}
 use Rattle.words.specs.Bits.{has, at}
 use Rattle.network.specs.declared.Network.{Network}
-use Rattle.network.specs.Reading.{Response}
+use Rattle.network.specs.Reading.{network-with, Response}
 use Rattle.network.specs.States.{State, Fits}
 use Rattle.network.specs.Rows.{SetRows, Row9, HighBit, Row12}
 use Rattle.network.specs.Respond.{ResponseRows}
@@ -36,11 +36,14 @@ Responds program = (net : Network) (k : ℕ) (vectors state lent : List ℕ)
 abbrev pub DiagnosisProgram : Type 0
 DiagnosisProgram = Network → ℕ → (vectors responses lent : List ℕ) → Filled ℕ
 
--- the rows before 14
+-- the rows before 14: those of the test set, then 9, 10, 12 and 13
+abbrev pub BeforeFitting : Network → ℕ → (vectors responses : List ℕ) → ℕ → List (ℕ × Type 0)
+BeforeFitting net k vectors responses room =
+    (9, Row9 (length vectors) (length responses)) ∷ (10, HighBit net responses) ∷ (12, Row12 (net .nets) room)
+    ∷ (13, Row13 net k vectors) ∷ []
+
 abbrev pub EarlierRows : Network → ℕ → (vectors responses : List ℕ) → ℕ → List (ℕ × Type 0)
-EarlierRows net k vectors responses room =
-    SetRows net k vectors ++ (9, Row9 (length vectors) (length responses)) ∷ (10, HighBit net responses)
-    ∷ (12, Row12 (net .nets) room) ∷ (13, Row13 net k vectors) ∷ []
+EarlierRows net k vectors responses room = SetRows net k vectors ++ BeforeFitting net k vectors responses room
 
 -- what one call did
 pub record ReadsBack (net : Network) (k : ℕ) (vectors responses lent : List ℕ) (did : Filled ℕ) : Type 0 where
@@ -61,21 +64,26 @@ Diagnoses program = (net : Network) (k : ℕ) (vectors responses lent : List ℕ
 
 -- ---- opens and shorts on one net
 
+-- three nets: drivers 1 and 2 reach receivers 0 and 1, and receiver 2 floats
+abbrev pub open-and-short : List ℕ
+open-and-short = 6 ∷ 6 ∷ 0 ∷ []
+
 -- A wiring state with an open and a short on one net: driver 0 is not in its own receiver's reach, and driver 1 reaches
--- both.
-pub record OpenAndShort (responds : ResponseProgram) (diagnoses : DiagnosisProgram) : Type 0 where
-  pub is-state : State (record { nets = 2 }) 2 (2 ∷ 2 ∷ [])
-  pub open-net : has (at (2 ∷ 2 ∷ []) 0) 0 ≡ false
-  pub shorted : (has (at (2 ∷ 2 ∷ []) 0) 1 ≡ true) × (has (at (2 ∷ 2 ∷ []) 1) 1 ≡ true)
-  pub response : responds (record { nets = 2 }) 2 (0 ∷ 1 ∷ 2 ∷ []) (2 ∷ 2 ∷ []) (9 ∷ 9 ∷ 9 ∷ [])
-      ≡ record { returned = full 3; list = 0 ∷ 0 ∷ 3 ∷ [] }
-  pub and-back : diagnoses (record { nets = 2 }) 2 (0 ∷ 1 ∷ 2 ∷ []) (0 ∷ 0 ∷ 3 ∷ []) (9 ∷ 9 ∷ [])
-      ≡ record { returned = full 2; list = 2 ∷ 2 ∷ [] }
-  pub both-found : finding (record { nets = 2 }) (2 ∷ 2 ∷ []) 0 .kind ≡ 3
+-- that receiver and its own. On such a network the vectors are answered so, and the answers give the state.
+pub record OpenAndShort (responds : ResponseProgram) (diagnoses : DiagnosisProgram) (net : Network)
+    (vectors answers : List ℕ) : Type 0 where
+  pub is-state : State net 3 open-and-short
+  pub open-net : has (at open-and-short 0) 0 ≡ false
+  pub shorted : (has (at open-and-short 0) 1 ≡ true) × (has (at open-and-short 1) 1 ≡ true)
+  pub response : responds net 3 vectors open-and-short (9 ∷ 9 ∷ 9 ∷ 9 ∷ []) ≡ record { returned = full 4; list = answers }
+  pub and-back : diagnoses net 3 vectors answers (9 ∷ 9 ∷ 9 ∷ []) ≡ record { returned = full 3; list = open-and-short }
+  pub both-found : finding net open-and-short 0 .kind ≡ 3
 
 -- ---- demand 2, whole
 
 pub record Demand2 (responds : ResponseProgram) (diagnoses : DiagnosisProgram) : Type 0 where
   pub response : Responds responds
   pub reading-back : Diagnoses diagnoses
-  pub open-and-short : OpenAndShort responds diagnoses
+  -- soft level 1 and soft level 0
+  pub soft-1 : OpenAndShort responds diagnoses (network-with 3 1) (0 ∷ 1 ∷ 2 ∷ 4 ∷ []) (4 ∷ 4 ∷ 7 ∷ 7 ∷ [])
+  pub soft-0 : OpenAndShort responds diagnoses (network-with 3 0) (0 ∷ 1 ∷ 2 ∷ 4 ∷ []) (0 ∷ 0 ∷ 3 ∷ 3 ∷ [])

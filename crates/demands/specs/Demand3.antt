@@ -7,9 +7,9 @@ use lib.ListN.{length, take, drop, replicate}
 use Rattle.words.specs.Answers.{Answer, refused, full, ByTable, lent-after}
 use Rattle.words.specs.Bits.{at}
 use Rattle.network.specs.declared.Network.{Network}
-use Rattle.network.specs.Reading.{response}
+use Rattle.network.specs.Reading.{extra-vectors, response}
 use Rattle.network.specs.States.{State, AtMostOneFits}
-use Rattle.network.specs.Rows.{SetRows, Row5, Row9, HighBit, Row12}
+use Rattle.network.specs.Rows.{NetworkRows, SetRows, Row5, Row9, HighBit, Row12}
 use Rattle.checker.specs.declared.Verdict.{Verdict}
 use Rattle.checker.specs.declared.Verdict.the-variants.{Pass, Pair}
 use Rattle.checker.specs.Rule.{shown-state}
@@ -48,15 +48,16 @@ Checks program = (net : Network) (k : ℕ) (vectors : List ℕ) → ByTable (Set
 -- Every list of begins, first answers and second answers on one session record, refused ones included. Each call is
 -- refused exactly where document 01's table says so. After the list, if its last accepted call finished a session begun
 -- in it, exactly one state of class n fits all the answers received, and that state is the one reported. The vectors
--- spent are p if no net is unclear, and p + F + 1 if F nets are. Second answers of a state of class n that gave the
--- first ones are never refused with 14, so a state that stays the same through both steps is the one reported.
+-- spent are p if no net is unclear; if F nets are, p + F, and one more where there is an extra vector. Second answers
+-- of a state of class n that gave the first ones are never refused with 14, so a state that stays the same through both
+-- steps is the one reported.
 
 -- row 4, where the session does not wait for the call
 abbrev pub NotAwaited : List (ℕ × Type 0)
 NotAwaited = (4, Unit {0}) ∷ []
 
 abbrev pub BeginRows : Network → List ℕ → List (ℕ × Type 0)
-BeginRows net list = (5, Row5 net) ∷ (12, Row12 (length (first-vectors net)) (length list)) ∷ []
+BeginRows net list = NetworkRows net ++ (12, Row12 (length (first-vectors net)) (length list)) ∷ []
 
 abbrev pub FirstRows : History → (answers list : List ℕ) → List (ℕ × Type 0)
 FirstRows none answers list = NotAwaited
@@ -91,7 +92,8 @@ second-words (waits-second net v1 r1 v2) answers = []
 second-words (finished-first net v1 r1 v2) answers = []
 second-words (finished-second net v1 r1 v2 r2) answers = []
 
--- the words that an accepted call writes: the p vectors; 0 and the walking ones of the unclear nets, or none; none
+-- the words that an accepted call writes: the p vectors; the extra vector, if there is one, and the walking ones of the
+-- unclear nets, or none; none
 abbrev pub Written : History → Call → List ℕ → Type 0
 Written h (begin net list) words = words ≡ first-vectors net
 Written h (first answers list) words = words ≡ second-words h answers
@@ -121,7 +123,8 @@ pub record Reported (h : History) (net : Network) (r1 : List ℕ) (session : Ses
   pub count : session .spent ≡ length (vectors-spent h)
   pub none-unclear : length (unclear net r1) ≡ 0 → session .spent ≡ word-length net
   pub own-drivers : length (unclear net r1) ≡ 0 → (i : ℕ) → i < net .nets → at (session .reaches) i ≡ 2 ^ i
-  pub some-unclear : length (unclear net r1) ≢ 0 → session .spent ≡ word-length net + length (unclear net r1) + 1
+  pub some-unclear : length (unclear net r1) ≢ 0
+      → session .spent ≡ word-length net + length (unclear net r1) + length (extra-vectors net)
 
 abbrev pub Ended : History → Session → Type 0
 Ended none session = Unit {0}

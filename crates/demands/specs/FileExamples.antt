@@ -7,10 +7,13 @@ use mathlib.Core.Path.{_≡_}
 use mathlib.Core.List.{List, [], _∷_, _++_}
 use lib.ListN.{length}
 use Rattle.words.specs.Answers.{full}
+use Rattle.network.specs.declared.Network.{Network}
+use Rattle.network.specs.Reading.{network-of}
 use Rattle.reader.specs.Reader.{read-answer}
 use Rattle.writer.specs.Writer.{file-of}
 use Rattle.listing.specs.Report.{report}
 use Rattle.demands.specs.Starred.{two, four}
+use Rattle.demands.specs.LevelCases.{four-at-0}
 
 -- a text as bytes
 abbrev pub text : String → List ℕ
@@ -19,14 +22,14 @@ text (letter ∷ˢ rest) = code letter ∷ text rest
 
 -- ---- files: a line each for the mark with the number of entries, for an entry, for the nets body, and for a word
 
--- document 01's example: n = 4, k = 4, vectors 0 1 2 4 8, responses 4 7 7 4 12
+-- document 01's example, of soft level 1 as the next two: n = 4, k = 4, vectors 0 1 2 4 8, responses 4 7 7 4 12
 abbrev pub example-file : List ℕ
 example-file =
-    66 ∷ 83 ∷ 74 ∷ 49 ∷ 3 ∷ []
-    ++ 1 ∷ 32 ∷ 0 ∷ 0 ∷ 0 ∷ 2 ∷ 0 ∷ 0 ∷ 0 ∷ []
-    ++ 2 ∷ 34 ∷ 0 ∷ 0 ∷ 0 ∷ 40 ∷ 0 ∷ 0 ∷ 0 ∷ []
-    ++ 3 ∷ 74 ∷ 0 ∷ 0 ∷ 0 ∷ 40 ∷ 0 ∷ 0 ∷ 0 ∷ []
-    ++ 4 ∷ 4 ∷ []
+    66 ∷ 83 ∷ 74 ∷ 50 ∷ 3 ∷ []
+    ++ 1 ∷ 32 ∷ 0 ∷ 0 ∷ 0 ∷ 3 ∷ 0 ∷ 0 ∷ 0 ∷ []
+    ++ 2 ∷ 35 ∷ 0 ∷ 0 ∷ 0 ∷ 40 ∷ 0 ∷ 0 ∷ 0 ∷ []
+    ++ 3 ∷ 75 ∷ 0 ∷ 0 ∷ 0 ∷ 40 ∷ 0 ∷ 0 ∷ 0 ∷ []
+    ++ 4 ∷ 4 ∷ 1 ∷ []
     ++ 0 ∷ 0 ∷ 0 ∷ 0 ∷ 0 ∷ 0 ∷ 0 ∷ 0 ∷ []
     ++ 1 ∷ 0 ∷ 0 ∷ 0 ∷ 0 ∷ 0 ∷ 0 ∷ 0 ∷ []
     ++ 2 ∷ 0 ∷ 0 ∷ 0 ∷ 0 ∷ 0 ∷ 0 ∷ 0 ∷ []
@@ -41,11 +44,11 @@ example-file =
 -- both receivers reached by driver 1: n = 2, k = 2, vectors 0 1 2, and the responses 0 0 3 of the state 2 2
 abbrev pub both-file : List ℕ
 both-file =
-    66 ∷ 83 ∷ 74 ∷ 49 ∷ 3 ∷ []
-    ++ 1 ∷ 32 ∷ 0 ∷ 0 ∷ 0 ∷ 2 ∷ 0 ∷ 0 ∷ 0 ∷ []
-    ++ 2 ∷ 34 ∷ 0 ∷ 0 ∷ 0 ∷ 24 ∷ 0 ∷ 0 ∷ 0 ∷ []
-    ++ 3 ∷ 58 ∷ 0 ∷ 0 ∷ 0 ∷ 24 ∷ 0 ∷ 0 ∷ 0 ∷ []
-    ++ 2 ∷ 2 ∷ []
+    66 ∷ 83 ∷ 74 ∷ 50 ∷ 3 ∷ []
+    ++ 1 ∷ 32 ∷ 0 ∷ 0 ∷ 0 ∷ 3 ∷ 0 ∷ 0 ∷ 0 ∷ []
+    ++ 2 ∷ 35 ∷ 0 ∷ 0 ∷ 0 ∷ 24 ∷ 0 ∷ 0 ∷ 0 ∷ []
+    ++ 3 ∷ 59 ∷ 0 ∷ 0 ∷ 0 ∷ 24 ∷ 0 ∷ 0 ∷ 0 ∷ []
+    ++ 2 ∷ 2 ∷ 1 ∷ []
     ++ 0 ∷ 0 ∷ 0 ∷ 0 ∷ 0 ∷ 0 ∷ 0 ∷ 0 ∷ []
     ++ 1 ∷ 0 ∷ 0 ∷ 0 ∷ 0 ∷ 0 ∷ 0 ∷ 0 ∷ []
     ++ 2 ∷ 0 ∷ 0 ∷ 0 ∷ 0 ∷ 0 ∷ 0 ∷ 0 ∷ []
@@ -56,41 +59,80 @@ both-file =
 -- walking ones without vector 0, and no responses: n = 4, k = 4, vectors 1 2 4 8
 abbrev pub walking-file : List ℕ
 walking-file =
-    66 ∷ 83 ∷ 74 ∷ 49 ∷ 2 ∷ []
-    ++ 1 ∷ 23 ∷ 0 ∷ 0 ∷ 0 ∷ 2 ∷ 0 ∷ 0 ∷ 0 ∷ []
-    ++ 2 ∷ 25 ∷ 0 ∷ 0 ∷ 0 ∷ 32 ∷ 0 ∷ 0 ∷ 0 ∷ []
-    ++ 4 ∷ 4 ∷ []
+    66 ∷ 83 ∷ 74 ∷ 50 ∷ 2 ∷ []
+    ++ 1 ∷ 23 ∷ 0 ∷ 0 ∷ 0 ∷ 3 ∷ 0 ∷ 0 ∷ 0 ∷ []
+    ++ 2 ∷ 26 ∷ 0 ∷ 0 ∷ 0 ∷ 32 ∷ 0 ∷ 0 ∷ 0 ∷ []
+    ++ 4 ∷ 4 ∷ 1 ∷ []
     ++ 1 ∷ 0 ∷ 0 ∷ 0 ∷ 0 ∷ 0 ∷ 0 ∷ 0 ∷ []
     ++ 2 ∷ 0 ∷ 0 ∷ 0 ∷ 0 ∷ 0 ∷ 0 ∷ 0 ∷ []
     ++ 4 ∷ 0 ∷ 0 ∷ 0 ∷ 0 ∷ 0 ∷ 0 ∷ 0 ∷ []
+    ++ 8 ∷ 0 ∷ 0 ∷ 0 ∷ 0 ∷ 0 ∷ 0 ∷ 0 ∷ []
+
+-- soft level 0: n = 4, k = 4, the same vectors, and the responses 3 3 0 8 of the state 3 3 0 8
+abbrev pub pulled-down-file : List ℕ
+pulled-down-file =
+    66 ∷ 83 ∷ 74 ∷ 50 ∷ 3 ∷ []
+    ++ 1 ∷ 32 ∷ 0 ∷ 0 ∷ 0 ∷ 3 ∷ 0 ∷ 0 ∷ 0 ∷ []
+    ++ 2 ∷ 35 ∷ 0 ∷ 0 ∷ 0 ∷ 32 ∷ 0 ∷ 0 ∷ 0 ∷ []
+    ++ 3 ∷ 67 ∷ 0 ∷ 0 ∷ 0 ∷ 32 ∷ 0 ∷ 0 ∷ 0 ∷ []
+    ++ 4 ∷ 4 ∷ 0 ∷ []
+    ++ 1 ∷ 0 ∷ 0 ∷ 0 ∷ 0 ∷ 0 ∷ 0 ∷ 0 ∷ []
+    ++ 2 ∷ 0 ∷ 0 ∷ 0 ∷ 0 ∷ 0 ∷ 0 ∷ 0 ∷ []
+    ++ 4 ∷ 0 ∷ 0 ∷ 0 ∷ 0 ∷ 0 ∷ 0 ∷ 0 ∷ []
+    ++ 8 ∷ 0 ∷ 0 ∷ 0 ∷ 0 ∷ 0 ∷ 0 ∷ 0 ∷ []
+    ++ 3 ∷ 0 ∷ 0 ∷ 0 ∷ 0 ∷ 0 ∷ 0 ∷ 0 ∷ []
+    ++ 3 ∷ 0 ∷ 0 ∷ 0 ∷ 0 ∷ 0 ∷ 0 ∷ 0 ∷ []
+    ++ 0 ∷ 0 ∷ 0 ∷ 0 ∷ 0 ∷ 0 ∷ 0 ∷ 0 ∷ []
     ++ 8 ∷ 0 ∷ 0 ∷ 0 ∷ 0 ∷ 0 ∷ 0 ∷ 0 ∷ []
 
 -- ---- a short form for such files, whose bytes, words, offsets and lengths are below 256
 
 -- the mark and the number of entries
 abbrev pub start : ℕ → List ℕ
-start entries = text "BSJ1" ++ entries ∷ []
+start entries = text "BSJ2" ++ entries ∷ []
 
 abbrev pub entry : (kind offset size : ℕ) → List ℕ
 entry kind offset size = kind ∷ offset ∷ 0 ∷ 0 ∷ 0 ∷ size ∷ 0 ∷ 0 ∷ 0 ∷ []
+
+-- the nets body, and how many bytes it has
+abbrev pub nets-body : Network → ℕ → List ℕ
+nets-body net k = net .nets ∷ k ∷ net .level ∷ []
+
+abbrev pub nets-length : ℕ
+nets-length = 3
 
 abbrev pub words : List ℕ → List ℕ
 words [] = []
 words (word ∷ rest) = word ∷ 0 ∷ 0 ∷ 0 ∷ 0 ∷ 0 ∷ 0 ∷ 0 ∷ words rest
 
--- with responses
-abbrev pub job-file : (n k : ℕ) → (vectors responses : List ℕ) → List ℕ
-job-file n k vectors responses =
+-- where the vectors begin, with two entries and with three
+abbrev pub after-two : ℕ
+after-two = 23 + nets-length
+
+abbrev pub after-three : ℕ
+after-three = 32 + nets-length
+
+-- with responses, and without
+abbrev pub job-file-of : Network → ℕ → (vectors responses : List ℕ) → List ℕ
+job-file-of net k vectors responses =
     start 3
-    ++ entry 1 32 2
-    ++ entry 2 34 (8 * length vectors)
-    ++ entry 3 (34 + 8 * length vectors) (8 * length responses)
-    ++ n ∷ k ∷ words vectors
+    ++ entry 1 32 nets-length
+    ++ entry 2 after-three (8 * length vectors)
+    ++ entry 3 (after-three + 8 * length vectors) (8 * length responses)
+    ++ nets-body net k
+    ++ words vectors
     ++ words responses
 
--- and without
+abbrev pub set-file-of : Network → ℕ → List ℕ → List ℕ
+set-file-of net k vectors =
+    start 2 ++ entry 1 23 nets-length ++ entry 2 after-two (8 * length vectors) ++ nets-body net k ++ words vectors
+
+-- the same for n nets at soft level 1
+abbrev pub job-file : (n k : ℕ) → (vectors responses : List ℕ) → List ℕ
+job-file n k vectors responses = job-file-of (network-of n) k vectors responses
+
 abbrev pub set-file : (n k : ℕ) → List ℕ → List ℕ
-set-file n k vectors = start 2 ++ entry 1 23 2 ++ entry 2 25 (8 * length vectors) ++ n ∷ k ∷ words vectors
+set-file n k vectors = set-file-of (network-of n) k vectors
 
 pub record FileExamples : Type 0 where
   -- document 01's example, with the kinds 0, 1 and 2: what is written, what is read, and the report
@@ -106,6 +148,9 @@ pub record FileExamples : Type 0 where
   -- without responses line one alone, here with a pair
   pub walking-bytes : file-of four 4 (1 ∷ 2 ∷ 4 ∷ 8 ∷ []) [] ≡ walking-file
   pub walking-report : report walking-file ≡ text "pair 4 4 4 0 15\n"
+  -- soft level 0: the set passes without vector 0, and a line says of each net what the example says of it
+  pub pulled-down-bytes : file-of four-at-0 4 (1 ∷ 2 ∷ 4 ∷ 8 ∷ []) (3 ∷ 3 ∷ 0 ∷ 8 ∷ []) ≡ pulled-down-file
+  pub pulled-down-report : report pulled-down-file ≡ text "pass 4 4 4\n0 2 3 2\n1 2 3 1\n2 1 0 0\n3 0 8 0\n"
   -- line one, then a refusal
   pub not-passed-report : report (job-file 4 4 (1 ∷ 2 ∷ 4 ∷ 8 ∷ []) (7 ∷ 7 ∷ 4 ∷ 12 ∷ [])) ≡ text "pair 4 4 4 0 15\nrefused 13\n"
   pub no-state-report : report (job-file 4 4 (0 ∷ 1 ∷ 2 ∷ 4 ∷ 8 ∷ []) (4 ∷ 7 ∷ 7 ∷ 4 ∷ 4 ∷ [])) ≡ text "pass 4 4 5\nrefused 14\n"
@@ -114,6 +159,7 @@ pub record FileExamples : Type 0 where
   pub high-response-report : report (job-file 4 4 (0 ∷ []) (16 ∷ [])) ≡ text "refused 10\n"
   -- the short form gives the files above
   pub example-short : job-file 4 4 (0 ∷ 1 ∷ 2 ∷ 4 ∷ 8 ∷ []) (4 ∷ 7 ∷ 7 ∷ 4 ∷ 12 ∷ []) ≡ example-file
+  pub pulled-down-short : job-file-of four-at-0 4 (1 ∷ 2 ∷ 4 ∷ 8 ∷ []) (3 ∷ 3 ∷ 0 ∷ 8 ∷ []) ≡ pulled-down-file
   pub walking-short : set-file 4 4 (1 ∷ 2 ∷ 4 ∷ 8 ∷ []) ≡ walking-file
   -- and texts are bytes so
   pub text-bytes : text "pass 4 4 5\n" ≡ 112 ∷ 97 ∷ 115 ∷ 115 ∷ 32 ∷ 52 ∷ 32 ∷ 52 ∷ 32 ∷ 53 ∷ 10 ∷ []

@@ -12,6 +12,7 @@ pub mod Determined
 pub mod Refuted
 pub mod Starred
 pub mod Boundary
+pub mod LevelCases
 pub mod PartnerCases
 pub mod FileExamples
 pub mod FileBounds

@@ -1,10 +1,12 @@
--- Document 01's starred cases, as one table of facts about the definitions that the contracts cite.
+-- Document 01's starred cases, as one table of facts about the definitions that the contracts cite. They are of soft
+-- level 1; LevelCases.antt has cases of level 0.
 use Prim.Native.Nat.{ℕ}
 use mathlib.Core.Path.{_≡_}
 use mathlib.Core.List.{List, [], _∷_, _++_}
 use lib.ListN.{length, replicate}
 use Rattle.words.specs.Answers.{Answer, refused, full}
 use Rattle.network.specs.declared.Network.{Network}
+use Rattle.network.specs.Reading.{network-of}
 use Rattle.network.specs.Respond.{response-answer}
 use Rattle.checker.specs.declared.Verdict.{Verdict}
 use Rattle.checker.specs.declared.Verdict.the-variants.{Pass, Pair}
@@ -18,15 +20,15 @@ use Rattle.demands.specs.Programs.{our-answer, our-sessions}
 
 -- *check*: the answer for n, k and the vectors
 abbrev pub check : ℕ → ℕ → List ℕ → Answer Verdict
-check n k vectors = check-answer (record { nets = n }) k vectors
+check n k vectors = check-answer (network-of n) k vectors
 
 -- *response from a state* of class n, with room for 5 words: the answer for the vectors and the state
 abbrev pub respond : ℕ → (vectors state : List ℕ) → Answer (List ℕ)
-respond n vectors state = response-answer (record { nets = n }) n vectors state 5
+respond n vectors state = response-answer (network-of n) n vectors state 5
 
 -- *diagnosis* for class n, with room for n words: the answer for the vectors and the responses
 abbrev pub diagnose : ℕ → (vectors responses : List ℕ) → Answer (List ℕ)
-diagnose n vectors responses = diagnosis-answer (record { nets = n }) n vectors responses n
+diagnose n vectors responses = diagnosis-answer (network-of n) n vectors responses n
 
 -- source document 004, table II: the set for two shorts
 abbrev pub table-II : List ℕ
@@ -35,14 +37,14 @@ table-II = 34 ∷ 9 ∷ 49 ∷ 6 ∷ 76 ∷ 86 ∷ 96 ∷ []
 -- ---- sessions
 
 abbrev pub two : Network
-two = record { nets = 2 }
+two = network-of 2
 
 abbrev pub four : Network
-four = record { nets = 4 }
+four = network-of 4
 
 -- a record that no accepted calls leave, with something in every field
 abbrev pub junk : Session
-junk = record { step = 7; network = record { nets = 9 }; first = replicate 8 5; reaches = replicate 48 3; spent = 4 }
+junk = record { step = 7; network = network-of 9; first = replicate 8 5; reaches = replicate 48 3; spent = 4 }
 
 -- the answers to a list of calls, in order
 abbrev pub answers-to : Session → List Call → List (Answer (List ℕ))
@@ -53,7 +55,7 @@ answers-to session (call ∷ calls) = our-answer session call ∷ answers-to (ou
 abbrev pub four-calls : List Call
 four-calls =
     second (4 ∷ 7 ∷ 7 ∷ 4 ∷ [])
-    ∷ begin (record { nets = 49 }) (9 ∷ 9 ∷ 9 ∷ 9 ∷ [])
+    ∷ begin (network-of 49) (9 ∷ 9 ∷ 9 ∷ 9 ∷ [])
     ∷ begin four (9 ∷ 9 ∷ 9 ∷ [])
     ∷ begin four (9 ∷ 9 ∷ 9 ∷ 9 ∷ 9 ∷ [])
     ∷ second (4 ∷ 7 ∷ 7 ∷ 4 ∷ [])

@@ -6,7 +6,7 @@ use Prim.Native.Nat.{ℕ}
 use lib.ListN.{length}
 use Rattle.words.specs.Answers.{Answer, ByTable, NoneHolds, Decides, Decided}
 use Rattle.words.proofs.Tests.{test-fails, equal-if-not-unequal}
-use Rattle.words.proofs.Answers.{decided-append, tests-by-table, table-determined}
+use Rattle.words.proofs.Answers.{none-front, none-rest, decided-append, tests-by-table, table-determined}
 use Rattle.network.specs.declared.Network.{Network}
 use Rattle.network.specs.States.{Fits}
 use Rattle.network.specs.Rows.{SetRows, Row9, set-tests}
@@ -81,6 +81,10 @@ module _ (net : Network) (k : ℕ) (vectors responses : List ℕ) (room : ℕ) w
       (own-tests net k vectors responses room)
       (decides-set net k vectors) decides-own
 
+  -- where no row holds, the test set is one that is admitted
+  set-of : NoneHolds (DiagnosisRows net k vectors responses room) → AdmittedSet net k vectors
+  set-of none = admitted-set net k vectors (none-front (SetRows net k vectors) (OwnRows net k vectors responses room) none)
+
   pub diagnosis-by-table : ByTable (DiagnosisRows net k vectors responses room) (Fits net k vectors responses)
       (diagnosis-answer net k vectors responses room)
   unfolding diagnosis-answer
@@ -90,12 +94,13 @@ module _ (net : Network) (k : ℕ) (vectors responses : List ℕ) (room : ℕ) w
       (read-back net k vectors responses) decides-rows result
     where
       result : NoneHolds (DiagnosisRows net k vectors responses room) → Fits net k vectors responses (read-back net k vectors responses)
-      result (a, (b, (c, (d, (nine, (ten, (twelve, (thirteen, (fourteen, _))))))))) =
-          let size = same-count vectors responses nine in
-          let narrow = no-high-bit net responses ten in
-          let apart = passed-apart net k vectors (admitted-set net k vectors (a, (b, (c, (d, tt))))) thirteen in
+      result none =
+          let own = none-rest (SetRows net k vectors) (OwnRows net k vectors responses room) none in
+          let size = same-count vectors responses (own .0) in
+          let narrow = no-high-bit net responses (own .1 .0) in
+          let apart = passed-apart net k vectors (set-of none) (own .1 .1 .1 .0) in
           read-back-fits net k vectors responses size narrow
-          (test-fails (decides-no-state-fits net k vectors responses size narrow apart) fourteen)
+          (test-fails (decides-no-state-fits net k vectors responses size narrow apart) (own .1 .1 .1 .1 .0))
 
   pub diagnosis-determined : (a b : Answer (List ℕ)) → ByTable (DiagnosisRows net k vectors responses room) (Fits net k vectors responses) a
       → ByTable (DiagnosisRows net k vectors responses room) (Fits net k vectors responses) b → a ≡ b
@@ -105,7 +110,6 @@ module _ (net : Network) (k : ℕ) (vectors responses : List ℕ) (room : ℕ) w
     where
       one : NoneHolds (DiagnosisRows net k vectors responses room) → (s u : List ℕ) → Fits net k vectors responses s
           → Fits net k vectors responses u → s ≡ u
-      one (a, (b, (c, (d, (nine, (ten, (twelve, (thirteen, (fourteen, _))))))))) s u p q =
-          apart-one-fits net k vectors
-          (passed-apart net k vectors
-          (admitted-set net k vectors (a, (b, (c, (d, tt))))) thirteen) responses s u p q
+      one none s u p q =
+          let own = none-rest (SetRows net k vectors) (OwnRows net k vectors responses room) none in
+          apart-one-fits net k vectors (passed-apart net k vectors (set-of none) (own .1 .1 .1 .0)) responses s u p q

@@ -10,11 +10,11 @@ use lib.ListN.{length}
 use lib.Pow.{pow-pos}
 use borrow.Author.Tests.{eq-eqb, eqb-true}
 use Rattle.words.specs.Bits.{has, at}
-use Rattle.words.proofs.Tests.{contrary, or-cases, or-right, same-truth}
+use Rattle.words.proofs.Tests.{cases, contrary, or-false, or-cases, or-right, same-truth}
 use Rattle.words.proofs.Bits.{words-equal, has-zero, has-power, has-without, has-or}
 use Rattle.network.specs.declared.Network.{Network}
-use Rattle.network.specs.Reading.{walking-vector, extra-vector, reads, sequential-response}
-use Rattle.network.proofs.Reading.{reads-floating, reads-walking, reads-extra, has-sequential}
+use Rattle.network.specs.Reading.{walking-vector, extra-vector, needs-extra, reads}
+use Rattle.network.proofs.Reading.{active, active-soft, reads-floating, reads-walking, reads-walking-all, reads-extra, active-answers}
 use Rattle.network.proofs.Walking.{Names}
 use Rattle.checker.specs.declared.Verdict.the-variants.{Pass}
 use Rattle.checker.specs.Rule.{FullRule, Rule}
@@ -34,7 +34,7 @@ module _ (net : Network) (vectors : List ℕ) (answered : ℕ) where
     parts = λ u. rw (has-zero u);
     so-far = record {
       inside = pow-pos (net .nets);
-      driven = λ u l e. contrary e (has-zero u);
+      driven = λ u l e s. contrary e (has-zero u);
       sound = λ j l e. contrary e (has-zero j);
       complete = λ j u l m w e. contrary e (has-zero u);
     };
@@ -48,7 +48,8 @@ module _ (net : Network) (vectors : List ℕ) (answered : ℕ) where
   moved false false false h = refl
 
   pub gathering-next : (t rest reach set : ℕ) → Gathering rest reach → t < length vectors → has rest t ≡ true
-      → at vectors t ≢ extra-vector net → Names net (at vectors t) set → Gathering (rest - 2 ^ t) (bitOr reach set)
+      → (needs-extra net ≡ true → at vectors t ≢ extra-vector net) → Names net (at vectors t) set
+      → Gathering (rest - 2 ^ t) (bitOr reach set)
   gathering-next t rest reach set w lt on other (inside, names) = record {
     seen = bitOr (w .seen) (2 ^ t);
     parts = λ u. w .parts u
@@ -56,7 +57,8 @@ module _ (net : Network) (vectors : List ℕ) (answered : ℕ) where
         ∙ ap₂ (λ (a b : Bool). a || b) (sym (now-seen u)) (sym (has-without t rest u on));
     so-far = record {
       inside = or-lt (net .nets) reach set (g .inside) inside;
-      driven = λ u l e. ⊎-elim (λ f. g .driven u l f) (λ q. subst (λ (x : ℕ). at vectors x ≢ extra-vector net) q other) (seen-at u e);
+      driven = λ u l e s.
+          ⊎-elim (λ f. g .driven u l f s) (λ q. subst (λ (x : ℕ). at vectors x ≢ extra-vector net) q (other s)) (seen-at u e);
       sound = λ j l e. from j l (or-cases (has reach j) (has set j) (sym (has-or reach set j) ∙ e));
       complete = λ j u l m v e. has-or reach set j ∙ ⊎-elim
           (λ f. ap (λ (x : Bool). x || has set j) (g .complete j u l m v f))
@@ -93,37 +95,37 @@ module _ (net : Network) (vectors : List ℕ) (answered : ℕ) where
       g : Gathered net vectors (w .seen) (length vectors) reach
       g = w .so-far
 
-      or-false : (b : Bool) → b || false ≡ b
-      or-false true = refl
-      or-false false = refl
-
       same : (u : ℕ) → u < length vectors → has answered u ≡ has (w .seen) u
       same u l = w .parts u ∙ ap (λ (b : Bool). has (w .seen) u || b) (none u l) ∙ or-false (has (w .seen) u)
 
-  module _ (set : ℕ) (reads-so : sequential-response net vectors set ≡ answered) where
-    answer-at : (t : ℕ) → t < length vectors → reads net set (at vectors t) ≡ has answered t
-    answer-at t l = sym (has-sequential net vectors set t l) ∙ ap (λ (w : ℕ). has w t) reads-so
+  -- a set whose active readings are the answers of 1
+  abbrev pub ActiveAnswers : ℕ → Type 0
+  ActiveAnswers set = (t : ℕ) → t < length vectors → active net (reads net set (at vectors t)) ≡ has answered t
 
-    floats : (t : ℕ) → t < length vectors → at vectors t ≡ extra-vector net → has answered t ≡ true → set ≡ 0
-    floats t l e on = eqb-true set 0 (sym (reads-extra net set) ∙ ap (reads net set) (sym e) ∙ answer-at t l ∙ on)
-
-  -- the set is the one shown, if the extra vector and the walking vectors of its drivers are among the vectors
-  module _ (set reach : ℕ) (reads-so : sequential-response net vectors set ≡ answered) (inside : set < 2 ^ (net .nets))
-      (extra : (t : ℕ) × (t < length vectors) × (at vectors t ≡ extra-vector net))
+  -- is the one shown, if the extra vector, where there is one, and the walking vectors of its drivers are there
+  module _ (set reach : ℕ) (answers : ActiveAnswers set) (inside : set < 2 ^ (net .nets))
+      (extra : needs-extra net ≡ true → (t : ℕ) × (t < length vectors) × (at vectors t ≡ extra-vector net))
       (walking : (j : ℕ) → j < net .nets → has set j ≡ true → (t : ℕ) × (t < length vectors) × (at vectors t ≡ walking-vector net j)) where
+    answer-to : (t word : ℕ) → t < length vectors → at vectors t ≡ word → has answered t ≡ active net (reads net set word)
+    answer-to t word l e = sym (answers t l) ∙ ap (λ (v : ℕ). active net (reads net set v)) e
+
     gathered-is : Gathered net vectors answered (length vectors) reach → set ≡ reach
     gathered-is g =
         words-equal (net .nets) set reach inside (g .inside)
         (λ j l. same-truth (has set j) (has reach j) (λ e. to j l e (walking j l e)) (λ e. back j l (g .sound j l e)))
       where
-        driven : set ≢ 0
-        driven e =
-            g .driven (extra .0) (extra .1)
-            (sym (answer-at set reads-so (extra .0) (extra .1)) ∙ ap (λ (x : ℕ). reads net x (at vectors (extra .0))) e
-            ∙ reads-floating net (at vectors (extra .0))) (extra .2)
+        driven : needs-extra net ≡ true → set ≢ 0
+        driven s e =
+            let x = extra s in
+            g .driven (x .0) (x .1)
+            (answer-to (x .0) _ (x .1) refl ∙ ap (λ (y : ℕ). active net (reads net y (at vectors (x .0)))) e
+            ∙ ap (active net) (reads-floating net (at vectors (x .0))) ∙ active-soft net ∙ s) s (x .2)
+
+        shown : (j : ℕ) → j < net .nets → active net (reads net set (walking-vector net j)) ≡ has set j
+        shown j l = ⊎-elim (λ s. reads-walking net set j l (driven s)) (λ s. reads-walking-all net s set j l) (cases (needs-extra net))
 
         at-walking : (j u : ℕ) → j < net .nets → u < length vectors → at vectors u ≡ walking-vector net j → has answered u ≡ has set j
-        at-walking j u l m w = sym (answer-at set reads-so u m) ∙ ap (reads net set) w ∙ reads-walking net set j l driven
+        at-walking j u l m w = answer-to u _ m w ∙ shown j l
 
         to : (j : ℕ) → j < net .nets → has set j ≡ true
             → (t : ℕ) × (t < length vectors) × (at vectors t ≡ walking-vector net j) → has reach j ≡ true
@@ -135,7 +137,8 @@ module _ (net : Network) (vectors : List ℕ) (answered : ℕ) where
         back j l (u, m, w, e) = sym (at-walking j u l m w) ∙ e
 
     pub walked-is : Walked net vectors answered reach → set ≡ reach
-    walked-is (inl (t, l, e, on, none)) = floats set reads-so t l e on ∙ sym none
+    walked-is (inl (t, l, s, e, on, none)) =
+        eqb-true set 0 (sym (reads-extra net s set) ∙ sym (answer-to t _ l e) ∙ on) ∙ sym none
     walked-is (inr g) = gathered-is g
 
 -- for k = n the rule is the one for k = n
@@ -147,4 +150,4 @@ full-of-rule net vectors (inr (e, r)) = absurd (e refl)
 pub walked-only : (net : Network) (vectors : List ℕ) (answered reach : ℕ) → FullRule net vectors Pass → Walked net vectors answered reach
     → OnlyAnswer net (net .nets) vectors answered reach
 walked-only net vectors answered reach (extra, walking) w set d e =
-    walked-is net vectors answered set reach e (d .inside) extra (λ j l on. walking j l) w
+    walked-is net vectors answered set reach (active-answers net vectors set answered e) (d .inside) extra (λ j l on. walking j l) w

@@ -30,6 +30,6 @@ no-state-fits net k vectors responses =
     let conflict = has-conflict net (read-back net k vectors responses) in
     any (net .nets) (λ i. not (is-found (reach-read net k vectors (column responses i)))) || conflict
 
--- a test set that rows 5 to 8 admit and the checker's rule passes
+-- a test set that its rows admit and the checker's rule passes
 abbrev pub Passed : Network → ℕ → List ℕ → Type 0
 Passed net k vectors = NoneHolds (SetRows net k vectors) × Rule net k vectors Pass

@@ -1,6 +1,6 @@
-// Reading back for k = n: the extra vector tells whether a receiver floats, and the walking vectors which drivers reach
-// it. `walking_reach` needs no more than 48 nets and 64 vectors, and says what the answers show. `walking_reaches`
-// needs a test set that is passed for class n, and gives the only reaches that can have answered so.
+// Reading back for k = n: the extra vector, if there is one, tells whether a receiver floats, and the walking vectors
+// which drivers reach it. `walking_reach` needs no more than 48 nets and 64 vectors, and says what the answers show.
+// `walking_reaches` needs a test set that is passed for class n, and gives the only reaches that can have answered so.
 ghost use mathlib.Core.Path.{_≡_};
 ghost use Prim.Native.Nat.{ℕ, _<_, _≤_};
 ghost use lib.ListN.{length};
@@ -17,14 +17,13 @@ pub fn walking_reach(net: Network, vectors: &[u64], answered: Stv) -> u64
     requires { ⌜ (net .nets ≤ 48) × (length (now vectors) ≤ 64) ⌝ }
     ensures { λ r. ⌜ Walked net (now (vectors .entry)) (answered .0) r ⌝ }
 {
-    let extra = network::drivers::extra_vector(net);
     let count = vectors.len() as u64;
     let mut reach: u64 = 0;
     let mut rest = answered.0;
     let mut t = words::sets::lowest_net(rest);
     while t < count {
         let vector = vectors[t as usize];
-        if vector == extra.0 {
+        if network::drivers::is_extra(net, vector) {
             return 0;
         }
         reach |= network::drivers::walked_driver(net, vector);

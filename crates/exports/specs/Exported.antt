@@ -3,11 +3,12 @@ use Prim.Native.Nat.{ℕ, _/_}
 use mathlib.Core.List.{List}
 use lib.ListN.{length}
 use Rattle.words.specs.Answers.{Answer, refused, full}
+use Rattle.network.specs.declared.Network.{Network}
 use Rattle.findings.specs.declared.Finding.{Finding}
 use Rattle.findings.specs.FindingsTable.{findings-answer}
 use Rattle.session.specs.Calls.{begin-answer, begun, first-answer, first-answered, second-answer, second-answered}
 use Rattle.session.specs.Drive.{to-drive}
-use Rattle.packing.specs.Packed.{network-of, session-words, session-of}
+use Rattle.packing.specs.Packed.{session-words, session-of}
 
 -- ---- what a call returns, and what it writes
 
@@ -29,13 +30,12 @@ fixed-after (full words) lent = words
 -- ---- a table's room, a session's words, a count to drive
 
 -- the room in words, 3 a record
-abbrev pub findings-exported : ℕ → (state : List ℕ) → ℕ → Answer (List Finding)
-findings-exported nets state room = findings-answer (network-of nets) state (room / 3)
+abbrev pub findings-exported : Network → (state : List ℕ) → ℕ → Answer (List Finding)
+findings-exported net state room = findings-answer net state (room / 3)
 
 -- the session's words after a call that is accepted
-abbrev pub session-begun : (session : List ℕ) (nets room : ℕ) → Answer (List ℕ)
-session-begun session nets room =
-    in-words (λ _. session-words (begun (session-of session) (network-of nets) room .session)) (begin-answer (network-of nets) room)
+abbrev pub session-begun : (session : List ℕ) → Network → ℕ → Answer (List ℕ)
+session-begun session net room = in-words (λ _. session-words (begun (session-of session) net room .session)) (begin-answer net room)
 
 abbrev pub session-first : (session answers : List ℕ) → ℕ → Answer (List ℕ)
 session-first session answers room =

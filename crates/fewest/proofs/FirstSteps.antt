@@ -11,10 +11,11 @@ use Rattle.words.specs.Turning.{transpose}
 use Rattle.words.proofs.Tests.{contrary, not-less}
 use Rattle.words.proofs.Columns.{transpose-size, transpose-below, transpose-back}
 use Rattle.network.specs.declared.Network.{Network}
+use Rattle.network.specs.Rows.{AdmittedNetwork}
 use Rattle.network.proofs.Rows.{nets-admitted}
 use Rattle.steps.specs.FirstStep.{word-length, sequential-words, first-vectors}
 use Rattle.steps.proofs.StepOneWords.{length-bounds, word-length-is, words-apart, first-size}
-use Rattle.fewest.specs.Fewest.{AdmittedNetwork, SomeCovers, NoneCovers, UncoveredWords, Uncovered, ShortestWords, Fewest}
+use Rattle.fewest.specs.Fewest.{SomeCovers, NoneCovers, UncoveredWords, Uncovered, ShortestWords, Fewest}
 use Rattle.fewest.proofs.CoverChains.{one-covers-another}
 
 -- each word has a 0 where another has a 1: none covers another
@@ -31,7 +32,7 @@ module _ (net : Network) (admitted : AdmittedNetwork net) where
   too-short : (q : ℕ) (words : List ℕ) → length words ≡ net .nets → ((i : ℕ) → i < length words → at words i < 2 ^ q)
       → q < word-length net → SomeCovers words
   too-short q words size below short =
-      let nets = nets-admitted net admitted in
+      let nets = nets-admitted net (admitted .0) in
       one-covers-another q (omega (arith, short, length-bounds net (nets .0) (nets .1))) words below
       (omega (arith, size, word-length-is net (nets .0) (nets .1) .smallest q short))
 
@@ -42,7 +43,7 @@ module _ (net : Network) (admitted : AdmittedNetwork net) where
 
   own-words : UncoveredWords net (word-length net) (sequential-words net)
   own-words =
-      let nets = nets-admitted net admitted in
+      let nets = nets-admitted net (admitted .0) in
       let apart = words-apart net (nets .0) (nets .1) in record {
         one-a-net = apart .size;
         below = λ i l. apart .below i (rw (apart .size) at l);
@@ -53,7 +54,7 @@ module _ (net : Network) (admitted : AdmittedNetwork net) where
   own-turned : transpose (net .nets) (first-vectors net) ≡ sequential-words net
   unfolding first-vectors
   own-turned =
-      let nets = nets-admitted net admitted in
+      let nets = nets-admitted net (admitted .0) in
       let apart = words-apart net (nets .0) (nets .1) in
       subst (λ (n : ℕ). transpose n (transpose (word-length net) (sequential-words net)) ≡ sequential-words net) (apart .size)
       (transpose-back (word-length net) (sequential-words net) (own-words .below))

@@ -1,24 +1,25 @@
--- No set that is passed for k = n is smaller than the extra vector and the walking vectors.
+-- No set that is passed for k = n is smaller than the walking vectors with the extra vector, if there is one.
 use mathlib.Core.Path.{_≡_, refl, sym, ap, _∙_, subst}
-use mathlib.Core.Bool.{true}
-use mathlib.Core.Logic.{inl, inr, _≢_}
+use mathlib.Core.Bool.{true, false}
+use mathlib.Core.Logic.{inl, inr, ⊎-elim, _≢_}
 use mathlib.Core.List.{List, map}
-use Prim.Native.Nat.{ℕ, zero, suc, _+_, _^_, _≤_, _<_}
+use Prim.Native.Nat.{ℕ, _+_, _-_, _^_, _≤_, _<_}
+use native.Mathlib.Nat.{not-suc-le-zero}
 use native.Mathlib.Omega.{arith}
 use lib.ListN.{length, length-map}
 use borrow.Author.Tests.{eq-eqb, eqb-true}
 use Rattle.words.specs.Bits.{has, at}
 use Rattle.words.specs.Answers.{full, ByTable}
 use Rattle.words.specs.Turning.{tabulate}
-use Rattle.words.proofs.Tests.{contrary, not-less}
+use Rattle.words.proofs.Tests.{cases, contrary, less-or-not, not-less}
 use Rattle.words.proofs.Making.{map-at}
 use Rattle.words.proofs.Answers.{table-full, table-none-holds}
 use Rattle.words.proofs.Columns.{length-tabulate, tabulate-at}
 use Rattle.words.proofs.Places.{no-longer}
 use Rattle.network.specs.declared.Network.{Network}
-use Rattle.network.specs.Reading.{walking-vector, extra-vector}
-use Rattle.network.specs.Rows.{Row6, Row7, HighBit, SetRows}
-use Rattle.network.proofs.Reading.{has-walking, has-extra, walking-below, extra-below}
+use Rattle.network.specs.Reading.{walking-vector, extra-vector, needs-extra, extra-vectors}
+use Rattle.network.specs.Rows.{Row6, Row7, HighBit, SetRows, AdmittedNetwork}
+use Rattle.network.proofs.Reading.{active, active-walking, active-extra, walking-below, extra-below, extra-none, extra-most}
 use Rattle.network.proofs.Rows.{nets-admitted, no-high-bit}
 use Rattle.checker.specs.declared.Verdict.{Verdict}
 use Rattle.checker.specs.declared.Verdict.the-variants.{Pass, Pair}
@@ -28,23 +29,34 @@ use Rattle.checker.proofs.Verdicts.{verdict-rule}
 use Rattle.checker.proofs.Separation.{SetsAlike, rule-shows, apart-one-fits, not-one-fits, shown-is-state, shown-differ, shown-alike}
 use Rattle.checker.proofs.Checking.{check-by-table, check-determined}
 use Rattle.steps.proofs.BothSteps.{settling-size, settling-extra, settling-walking}
-use Rattle.fewest.specs.Fewest.{AdmittedNetwork, Separates, TwoStates, Passes, walking-set, walking-count, Fewest}
+use Rattle.fewest.specs.Fewest.{Separates, TwoStates, Passes, walking-set, walking-count, Fewest}
 use Rattle.fewest.proofs.DrivenBits.{driven-bits, driven-bits-below, response-driven-bits}
 
--- the extra vector first, then the walking vector of each net
-abbrev needed : Network → ℕ → ℕ
-needed net zero = extra-vector net
-needed net (suc i) = walking-vector net i
+-- what stands at each place of the walking set: the extra vector first, if there is one, then the walking vectors
+data Needed (net : Network) : (place vector : ℕ) → Type 0 where
+  extra-first : needs-extra net ≡ true → Needed net 0 (extra-vector net)
+  walking-next : (i : ℕ) → i < net .nets → Needed net (length (extra-vectors net) + i) (walking-vector net i)
 
-drives-own : (net : Network) (i : ℕ) → has (walking-vector net i) i ≡ true
-drives-own net i = has-walking net i i ∙ eq-eqb i i refl
+module _ (net : Network) where
+  drives-own : (i : ℕ) → i < net .nets → active net (has (walking-vector net i) i) ≡ true
+  drives-own i l = active-walking net i i l l ∙ eq-eqb i i refl
 
-needed-once : (net : Network) (u v : ℕ) → needed net u ≡ needed net v → u ≡ v
-needed-once net zero zero e = refl
-needed-once net zero (suc j) e = contrary (ap (λ (w : ℕ). has w j) e ∙ drives-own net j) (has-extra net j)
-needed-once net (suc i) zero e = contrary (ap (λ (w : ℕ). has w i) (sym e) ∙ drives-own net i) (has-extra net i)
-needed-once net (suc i) (suc j) e =
-    ap suc (sym (eqb-true j i (sym (has-walking net j i) ∙ ap (λ (w : ℕ). has w i) (sym e) ∙ drives-own net i)))
+  -- no walking vector is the extra vector, nor that of another net
+  not-extra : (i : ℕ) → i < net .nets → walking-vector net i ≢ extra-vector net
+  not-extra i l e = contrary (ap (λ (w : ℕ). active net (has w i)) (sym e) ∙ drives-own i l) (active-extra net i l)
+
+  walking-once : (i j : ℕ) → i < net .nets → j < net .nets → walking-vector net i ≡ walking-vector net j → i ≡ j
+  walking-once i j l m e = eqb-true i j (sym (active-walking net i j l m) ∙ ap (λ (w : ℕ). active net (has w j)) e ∙ drives-own j m)
+
+  needed-once : (u v x y : ℕ) → Needed net u x → Needed net v y → x ≡ y → u ≡ v
+  needed-once u v x y (extra-first s) (extra-first r) e = refl
+  needed-once u v x y (extra-first s) (walking-next j m) e = absurd (not-extra j m (sym e))
+  needed-once u v x y (walking-next i l) (extra-first r) e = absurd (not-extra i l e)
+  needed-once u v x y (walking-next i l) (walking-next j m) e = ap (λ (z : ℕ). length (extra-vectors net) + z) (walking-once i j l m e)
+
+  needed-below : (u x : ℕ) → Needed net u x → x < 2 ^ (net .nets)
+  needed-below u x (extra-first s) = extra-below net
+  needed-below u x (walking-next i l) = walking-below net i l
 
 pub two-states-fit : (net : Network) (vectors : List ℕ) → TwoStates net vectors → ¬ (Separates net vectors)
 two-states-fit net vectors s =
@@ -55,54 +67,66 @@ module _ (net : Network) (admitted : AdmittedNetwork net) where
   nets-listed = length-tabulate (net .nets) (λ i. i)
 
   some-net : length (tabulate (net .nets) (λ i. i)) ≢ 0
-  some-net e = omega (arith, nets-listed, nets-admitted net admitted, e)
+  some-net e = omega (arith, nets-listed, nets-admitted net (admitted .0), e)
 
   walking-size : length (walking-set net) ≡ walking-count net
   unfolding walking-set
-  walking-size = settling-size net (tabulate (net .nets) (λ i. i)) some-net ∙ ap (λ (x : ℕ). x + 1) nets-listed
+  walking-size = settling-size net (tabulate (net .nets) (λ i. i)) some-net
+      ∙ ap (λ (x : ℕ). x + length (extra-vectors net)) nets-listed
 
-  walking-at : (u : ℕ) → u < walking-count net → at (walking-set net) u ≡ needed net u
+  extra-at : needs-extra net ≡ true → at (walking-set net) 0 ≡ extra-vector net
   unfolding walking-set
-  walking-at zero l = settling-extra net (tabulate (net .nets) (λ i. i)) some-net
-  walking-at (suc i) l =
-      settling-walking net (tabulate (net .nets) (λ i. i)) i (omega (arith, nets-listed, l))
-      ∙ ap (walking-vector net) (tabulate-at (net .nets) (λ i. i) i (omega arith))
+  extra-at s = settling-extra net s (tabulate (net .nets) (λ i. i)) some-net
 
-  in-walking-set : (u : ℕ) → u < walking-count net → Among (needed net u) (walking-set net)
-  in-walking-set u l = (u, rw walking-size l, walking-at u l)
+  walking-at : (i : ℕ) → i < net .nets → at (walking-set net) (length (extra-vectors net) + i) ≡ walking-vector net i
+  unfolding walking-set
+  walking-at i l =
+      settling-walking net (tabulate (net .nets) (λ i. i)) i (omega (arith, nets-listed, l))
+      ∙ ap (walking-vector net) (tabulate-at (net .nets) (λ i. i) i l)
+
+  needed-at : (u : ℕ) → u < length (walking-set net) → Needed net u (at (walking-set net) u)
+  needed-at u l =
+      ⊎-elim (λ m. ⊎-elim (first m) (none m) (cases (needs-extra net))) (λ m. next (u - length (extra-vectors net)) (omega (arith, m)))
+      (less-or-not u (length (extra-vectors net)))
+    where
+      moved : (v x : ℕ) → at (walking-set net) v ≡ x → v ≡ u → Needed net v x → Needed net u (at (walking-set net) u)
+      moved v x e same n = subst (λ (w : ℕ). Needed net w (at (walking-set net) w)) same (rw e n)
+
+      first : u < length (extra-vectors net) → needs-extra net ≡ true → Needed net u (at (walking-set net) u)
+      first m s = moved 0 (extra-vector net) (extra-at s) (omega (arith, m, extra-most net)) (extra-first s)
+
+      none : u < length (extra-vectors net) → needs-extra net ≡ false → Needed net u (at (walking-set net) u)
+      none m s = absurd (not-suc-le-zero {n = u} (rw (extra-none net s) at m))
+
+      next : (i : ℕ) → length (extra-vectors net) + i ≡ u → Needed net u (at (walking-set net) u)
+      next i e =
+          let inside : i < net .nets = omega (arith, l, e, walking-size) in
+          moved (length (extra-vectors net) + i) (walking-vector net i) (walking-at i inside) e (walking-next i inside)
 
   walking-narrow : ¬ (HighBit net (walking-set net))
-  walking-narrow (u, l, high) =
-      let m : u < walking-count net = rw walking-size at l in
-      omega (arith, high, walking-at u m, below u m)
-    where
-      below : (v : ℕ) → v < walking-count net → needed net v < 2 ^ (net .nets)
-      below zero m = extra-below net
-      below (suc i) m = walking-below net i (omega arith)
+  walking-narrow (u, l, high) = let below = needed-below net u _ (needed-at u l) in omega (arith, high, below)
 
   walking-passes-rule : Rule net (net .nets) (walking-set net) Pass
-  walking-passes-rule = inl (refl, (in-walking-set 0 (omega arith), λ i l. in-walking-set (suc i) (omega arith)))
+  walking-passes-rule = inl (
+    refl,
+    (
+      λ s. (0, omega (arith, walking-size, nets-admitted net (admitted .0)), extra-at s),
+      λ i l. (length (extra-vectors net) + i, omega (arith, walking-size, l), walking-at i l),
+    ),
+  )
 
   -- ---- a set that is passed has them all
 
   rule-size : (vectors : List ℕ) → Rule net (net .nets) vectors Pass → walking-count net ≤ length vectors
   rule-size vectors (inr (d, r)) = absurd (d refl)
   rule-size vectors (inl (same, (extra, walking))) =
-      rw (← walking-size) (no-longer (walking-set net) vectors once there)
+      rw (← walking-size) (no-longer (walking-set net) vectors
+      (λ u v l m e. needed-once net u v _ _ (needed-at u l) (needed-at v m) e)
+      (λ u l. among u _ (needed-at u l)))
     where
-      inside : (u : ℕ) → u < length (walking-set net) → u < walking-count net
-      inside u l = rw walking-size at l
-
-      once : (u v : ℕ) → u < length (walking-set net) → v < length (walking-set net)
-          → at (walking-set net) u ≡ at (walking-set net) v → u ≡ v
-      once u v l m e = needed-once net u v (sym (walking-at u (inside u l)) ∙ e ∙ walking-at v (inside v m))
-
-      among : (u : ℕ) → u < walking-count net → Among (needed net u) vectors
-      among zero l = extra
-      among (suc i) l = walking i (omega arith)
-
-      there : (u : ℕ) → u < length (walking-set net) → Among (at (walking-set net) u) vectors
-      there u l = subst (λ (w : ℕ). Among w vectors) (sym (walking-at u (inside u l))) (among u (inside u l))
+      among : (u x : ℕ) → Needed net u x → Among x vectors
+      among u x (extra-first s) = extra s
+      among u x (walking-next i l) = walking i l
 
   pub two-states : (vectors : List ℕ) → length vectors < walking-count net → TwoStates net vectors
   two-states vectors short = go (verdict net (net .nets) low) (verdict-rule net (net .nets) low)
@@ -117,7 +141,7 @@ module _ (net : Network) (admitted : AdmittedNetwork net) where
       narrow t l = rw (map-at (driven-bits net) 0 vectors t (rw size at l)) (driven-bits-below net (at vectors t))
 
       two : 2 ≤ net .nets
-      two = nets-admitted net admitted .0
+      two = nets-admitted net (admitted .0) .0
 
       shown : (a b : ℕ) → SetsAlike net (net .nets) low a b → TwoStates net vectors
       shown a b s = record {
@@ -143,28 +167,28 @@ module _ (net : Network) (admitted : AdmittedNetwork net) where
   rule-separates : (vectors : List ℕ) → ¬ (HighBit net vectors) → Rule net (net .nets) vectors Pass → Separates net vectors
   rule-separates vectors narrow r =
       apart-one-fits net (net .nets) vectors
-      (rule-shows net (net .nets) vectors Pass (nets-admitted net admitted .0) (no-high-bit net vectors narrow) r)
+      (rule-shows net (net .nets) vectors Pass (nets-admitted net (admitted .0) .0) (no-high-bit net vectors narrow) r)
 
   passed-separates : (vectors : List ℕ) → Passes net vectors → Separates net vectors
   passed-separates vectors e =
       let rows = SetRows net (net .nets) vectors in
       let rule = Rule net (net .nets) vectors in
       let table = subst (ByTable rows rule) e (check-by-table net (net .nets) vectors) in
-      rule-separates vectors (table-none-holds rule rows Pass table .1 .1 .1 .0) (table-full rule rows Pass table)
+      rule-separates vectors (table-none-holds rule rows Pass table .1 .1 .1 .1 .0) (table-full rule rows Pass table)
 
   walking-passes : Passes net (walking-set net)
   walking-passes =
       check-determined net (net .nets) (walking-set net) (check-answer net (net .nets) (walking-set net)) (full Pass)
       (check-by-table net (net .nets) (walking-set net))
-      (inr (admitted, inr (class, inr (count, inr (walking-narrow, (Pass, refl, walking-passes-rule))))))
+      (inr (admitted .0, inr (class, inr (admitted .1 .0, inr (count, inr (walking-narrow, (Pass, refl, walking-passes-rule)))))))
     where
       class : ¬ (Row6 net (net .nets))
       class (inl n) = n (inr (inr (inr refl)))
       class (inr l) = omega (arith, l)
 
       count : ¬ (Row7 (walking-set net))
-      count (inl l) = omega (arith, l, walking-size)
-      count (inr l) = omega (arith, l, walking-size, nets-admitted net admitted)
+      count (inl l) = omega (arith, l, walking-size, nets-admitted net (admitted .0))
+      count (inr l) = omega (arith, l, walking-size, nets-admitted net (admitted .0), extra-most net)
 
 pub separating : Fewest Separates walking-set walking-count
 separating = record {

@@ -1,5 +1,6 @@
 -- Document 02, "No shorter first step": no list of sequential words, none of which covers another, takes fewer vectors
--- than a session's first step, and no set that is passed for k = n (wired OR, soft 1) has fewer than n + 1.
+-- than a session's first step, and no set that is passed for k = n has fewer than n + 1 where there is an extra vector
+-- (soft level 1), and than n where there is none (soft level 0).
 use Prim.Native.Nat.{ℕ, _+_, _^_, _<_, _≤_}
 use mathlib.Core.Path.{_≡_}
 use mathlib.Core.Logic.{_≢_}
@@ -10,17 +11,13 @@ use Rattle.words.specs.Bits.{has, at}
 use Rattle.words.specs.Answers.{full}
 use Rattle.words.specs.Turning.{tabulate, transpose}
 use Rattle.network.specs.declared.Network.{Network}
-use Rattle.network.specs.Reading.{response}
+use Rattle.network.specs.Reading.{response, extra-vectors}
 use Rattle.network.specs.States.{State, AtMostOneFits}
-use Rattle.network.specs.Rows.{Row5}
+use Rattle.network.specs.Rows.{AdmittedNetwork}
 use Rattle.checker.specs.declared.Verdict.the-variants.{Pass}
 use Rattle.checker.specs.Check.{check-answer}
 use Rattle.steps.specs.FirstStep.{word-length, sequential-words, first-vectors}
 use Rattle.steps.specs.SecondStep.{settling-vectors}
-
--- the networks that document 01 admits: n from 2 to 48
-abbrev pub AdmittedNetwork : Network → Type 0
-AdmittedNetwork net = ¬ (Row5 net)
 
 -- ---- words that do not cover one another
 
@@ -70,13 +67,13 @@ pub record TwoStates (net : Network) (vectors : List ℕ) : Type 0 where
 abbrev pub Passes : Network → List ℕ → Type 0
 Passes net vectors = check-answer net (net .nets) vectors ≡ full Pass
 
--- vector 0, which is the extra vector, and the walking vectors: the session's vectors that settle nets, for all nets
+-- the extra vector, if there is one, and the walking vectors: the session's vectors that settle nets, for all nets
 unfoldable pub walking-set : Network → List ℕ
 walking-set net = settling-vectors net (tabulate (net .nets) (λ i. i))
 
--- how many these are
+-- how many these are: n + 1 at soft level 1, n at soft level 0
 abbrev pub walking-count : Network → ℕ
-walking-count net = net .nets + 1
+walking-count net = net .nets + length (extra-vectors net)
 
 -- ---- how few vectors there can be
 
@@ -108,9 +105,9 @@ pub record NoneShorter : Type 0 where
   -- with fewer vectors there are two nets, and the word of one covers that of the other
   pub two-nets : (net : Network) → AdmittedNetwork net → (vectors : List ℕ) → length vectors < word-length net
       → SomeCovers (transpose (net .nets) vectors)
-  -- n + 1 is the fewest vectors with which at most one state of class n fits
+  -- n, and one for the extra vector if there is one, is the fewest vectors with which at most one state of class n fits
   pub separating : Fewest Separates walking-set walking-count
   -- with fewer there are two states of class n that the vectors do not tell apart
   pub two-states : (net : Network) → AdmittedNetwork net → (vectors : List ℕ) → length vectors < walking-count net → TwoStates net vectors
-  -- so n + 1 is the fewest that the call passes for k = n
+  -- so that is the fewest that the call passes for k = n
   pub passed : Fewest Passes walking-set walking-count

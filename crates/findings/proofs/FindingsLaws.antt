@@ -1,7 +1,7 @@
 -- The call *findings* answers as its rows and its result say, and nothing is left open. A table of 48 records, and a
 -- table as a loop fills it.
 use mathlib.Core.Path.{_≡_, refl, sym, ap, _∙_, subst}
-use mathlib.Core.Bool.{Bool, true, false, cond}
+use mathlib.Core.Bool.{Bool, false, cond}
 use mathlib.Core.List.{List, [], _∷_, _++_, map}
 use Prim.Native.Nat.{ℕ, zero, suc, _+_, _-_, _≤_, _<_}
 use native.Mathlib.Omega.{arith}
@@ -12,19 +12,20 @@ use Rattle.words.specs.Answers.{Answer, refused, full, ByTable, NoneHolds, by-t
 use Rattle.words.specs.Bits.{at}
 use Rattle.words.specs.Turning.{tabulate}
 use Rattle.words.proofs.Answers.{refused-not-full, tests-by-table, table-determined, table-full, table-none-holds}
-use Rattle.words.proofs.Answers.{table-skip, let-through, none-passed, full-answer, shared-pass, front-written}
-use Rattle.words.proofs.Answers.{counted-refused, counted-full}
+use Rattle.words.proofs.Answers.{table-skip, none-rest, decided-append, let-through, none-passed, shared-refuse, shared-pass}
+use Rattle.words.proofs.Answers.{front-written, counted-refused, counted-full}
 use Rattle.words.proofs.Tests.{neither, test-fails}
 use Rattle.words.proofs.Making.{map-at, map-fill, map-filled}
 use Rattle.words.proofs.Columns.{length-tabulate, tabulate-at}
 use Rattle.network.specs.declared.Network.{Network}
 use Rattle.network.specs.States.{State, not-a-state}
-use Rattle.network.specs.Rows.{bad-net-count, no-room}
+use Rattle.network.specs.Rows.{NetworkRows, network-tests, no-room}
 use Rattle.network.proofs.States.{test→state, decides-not-a-state}
-use Rattle.network.proofs.Rows.{decides-row-5, decides-row-12, nets-admitted}
+use Rattle.network.proofs.Rows.{decides-network, decides-row-12, nets-admitted}
 use Rattle.findings.specs.declared.Finding.{Finding}
 use Rattle.findings.specs.Findings.{finding}
-use Rattle.findings.specs.FindingsTable.{FindingsRows, Findings, findings-tests, findings, findings-answer, table-meaning, blank}
+use Rattle.findings.specs.FindingsTable.{TableRows, FindingsRows, Findings, table-tests, findings-tests, findings, findings-answer}
+use Rattle.findings.specs.FindingsTable.{table-meaning, blank}
 
 -- ---- the answer
 
@@ -49,12 +50,9 @@ module _ (net : Network) (state : List ℕ) where
 
 module _ (net : Network) (state : List ℕ) (room : ℕ) where
   decides-rows : Decided (FindingsRows net state room) (findings-tests net state room)
-  decides-rows = (
-    refl,
-    decides-row-5 net,
-    λ _.
-        (refl, decides-not-a-state net (net .nets) state, λ _. (refl, decides-row-12 (net .nets) room, λ _. tt)),
-  )
+  decides-rows =
+      decided-append (NetworkRows net) (TableRows net state room) (network-tests net) (table-tests net state room) (decides-network net)
+      (λ _. (refl, decides-not-a-state net (net .nets) state, λ _. (refl, decides-row-12 (net .nets) room, λ _. tt)))
 
   pub findings-by-table : ByTable (FindingsRows net state room) (Findings net state) (findings-answer net state room)
   unfolding findings-answer
@@ -78,15 +76,16 @@ pub record Accepted (net : Network) (state : List ℕ) (room : ℕ) : Type 0 whe
 module _ (net : Network) (state : List ℕ) (room : ℕ) where
   -- where no row holds, the call is accepted
   pub none-holds-accepted : NoneHolds (FindingsRows net state room) → Accepted net state room
-  none-holds-accepted (five, (eleven, (twelve, _))) =
+  none-holds-accepted none =
       let result = table-skip (Findings net state) (FindingsRows net state room) [] (findings-answer net state room)
-      (five, (eleven, (twelve, tt))) (findings-by-table net state room) in
+      none (findings-by-table net state room) in
+      let own = none-rest (NetworkRows net) (TableRows net state room) none in
       let is-state : State net (net .nets) state =
-      test→state net (net .nets) state (test-fails (decides-not-a-state net (net .nets) state) eleven) in
+      test→state net (net .nets) state (test-fails (decides-not-a-state net (net .nets) state) (own .0)) in
       let size = is-state .size in record {
-        few = nets-admitted net five .1;
+        few = nets-admitted net (none .0) .1;
         is-state = is-state;
-        fits = omega (arith, twelve, size);
+        fits = omega (arith, own .1 .0, size);
         answer = result .1 ∙ ap full (tables-equal net state (result .0) (findings net state) (result .2) (findings-is net state));
       }
 
@@ -137,32 +136,47 @@ module _ (net : Network) (state : List ℕ) where
       sym (getD-take (net .nets) table i other l) ∙ ap (λ (t : List Finding). getD t i other) (records-written lent table ok e)
       ∙ findings-is net state .found i (omega arith) other
 
+  -- the rows before the one of the room
+  abbrev other-tests : List (ℕ × Bool)
+  other-tests = network-tests net ++ (11, not-a-state net (net .nets) state) ∷ []
+
+  abbrev others : Answer (Unit {0})
+  others = by-tests other-tests tt
+
+  -- they refuse whatever the room, or the room alone decides
+  by-others : (room number : ℕ) → others ≡ refused number → findings-answer net state room ≡ refused number
+  unfolding findings-answer
+  by-others room number e = shared-refuse tt (findings net state) other-tests ((12, no-room (net .nets) room) ∷ []) number e
+
+  by-room : (room : ℕ) → others ≡ full tt → (twelve : Bool) → no-room (net .nets) room ≡ twelve
+      → findings-answer net state room ≡ cond twelve (refused 12) (full (findings net state))
+  unfolding findings-answer by-tests
+  by-room room e twelve f =
+      shared-pass tt (findings net state) other-tests ((12, no-room (net .nets) room) ∷ []) tt e
+      ∙ ap (λ (b : Bool). cond b (refused 12) (full (findings net state))) f
+
+  -- room for 48 is enough
+  by-48 : others ≡ full tt → findings-answer net state 48 ≡ full (findings net state)
+  by-48 e = by-room 48 e false (neither (ltb (net .nets) 2) (ltb 48 (net .nets)) (none-passed other-tests tt tt e .0 .0) .1)
+
   module _ (room : ℕ) where
     -- a call that is refused with it is refused with any room
     pub refused-in-any-room : (number : ℕ) → findings-answer net state 48 ≡ refused number → findings-answer net state room ≡ refused number
-    unfolding findings-answer by-tests
-    refused-in-any-room number e =
-        go (bad-net-count net) (not-a-state net (net .nets) state) (no-room (net .nets) 48) (no-room (net .nets) room)
-        (λ five. neither (ltb (net .nets) 2) (ltb 48 (net .nets)) five .1) e
+    refused-in-any-room number e = go others refl
       where
-        go : (five eleven over twelve : Bool) → (five ≡ false → over ≡ false)
-            → cond five (refused 5) (cond eleven (refused 11) (cond over (refused 12) (full (findings net state)))) ≡ refused number
-            → cond five (refused 5) (cond eleven (refused 11) (cond twelve (refused 12) (full (findings net state)))) ≡ refused number
-        go true eleven over twelve enough e = e
-        go false true over twelve enough e = e
-        go false false over twelve enough e =
-            refused-not-full e (ap (λ (b : Bool). cond b (refused 12) (full (findings net state))) (enough refl))
+        go : (a : Answer (Unit {0})) → others ≡ a → findings-answer net state room ≡ refused number
+        go (refused other) f = by-others room other f ∙ sym (by-others 48 other f) ∙ e
+        go (full tt) f = refused-not-full e (by-48 f)
 
     -- and for one that is accepted with it, the room alone decides
     pub accepted-by-room : Accepted net state 48 → (twelve : Bool) → no-room (net .nets) room ≡ twelve
         → findings-answer net state room ≡ cond twelve (refused 12) (full (findings net state))
-    unfolding findings-answer by-tests
-    accepted-by-room ok twelve e =
-        let found = findings net state in
-        let first : List (ℕ × Bool) = (5, bad-net-count net) ∷ (11, not-a-state net (net .nets) state) ∷ [] in
-        let fail = none-passed (findings-tests net state 48) found found (ok .answer) .0 in
-        shared-pass found found first ((12, no-room (net .nets) room) ∷ []) found (full-answer first found (fail .0, (fail .1 .0, tt)))
-        ∙ ap (λ (b : Bool). cond b (refused 12) (full found)) e
+    accepted-by-room ok twelve e = go others refl
+      where
+        go : (a : Answer (Unit {0})) → others ≡ a
+            → findings-answer net state room ≡ cond twelve (refused 12) (full (findings net state))
+        go (refused other) f = refused-not-full (by-others 48 other f) (ok .answer)
+        go (full tt) f = by-room room f twelve e
 
 -- ---- the table as a loop fills it
 

@@ -79,12 +79,13 @@ fn finding_of(net: Network, state: &[u64], i: usize) -> Finding
     }
 }
 
-// The first of rows 5, 11 and 12 that holds, or 0.
+// The first of rows 5, 17, 11 and 12 that holds, or 0.
 fn table_refusal(net: Network, state: &[u64], room: usize) -> u64
     ensures { λ r. ⌜ table-meaning net r ≡ count-of (findings-answer net (now (state .entry)) room) ⌝ }
 {
-    if network::refusals::bad_net_count(net) {
-        return 5;
+    let code = network::refusals::network_refusal(net);
+    if code != 0 {
+        return code;
     }
     if network::refusals::not_a_state(net, net.nets, state) {
         return 11;
@@ -95,7 +96,8 @@ fn table_refusal(net: Network, state: &[u64], room: usize) -> u64
     0
 }
 
-// The call *findings*: a record a net into the front of `table`. Rows 5, 11 with k = n, and 12; 0 is accepted.
+// The call *findings*: a record a net into the front of `table`. Rows 5, 17, 11 with k = n, and 12; 0 is
+// accepted.
 pub fn findings(net: Network, state: &[u64], table: &mut [Finding]) -> u64
     ensures answer { λ r. ⌜ table-meaning net r
         ≡ count-of (findings-answer net (now (state .entry)) (length (now (table .entry)))) ⌝ }

@@ -2,11 +2,21 @@
 use mathlib.Core.Path.{_≡_, refl, ap, ap₂, _∙_}
 use mathlib.Core.List.{List, [], _∷_}
 use Prim.Native.Nat.{ℕ, zero, suc, _+_, _*_, _-_, _/_, _%_, _^_, _<_, suc-le-suc}
-use native.Mathlib.Nat.{pow-suc}
+use native.Mathlib.Nat.{pow-suc, le-of-suc-le-suc, not-suc-le-zero}
 use native.Mathlib.Omega.{arith}
 use lib.ListN.{length, length-append}
 use Rattle.words.specs.Bits.{at}
 use Rattle.jobfile.specs.Bytes.{number-of, bytes-of, word-bytes, AllBytes}
+
+-- a list of bytes, byte by byte
+pub bytes-none : AllBytes []
+bytes-none i l = absurd (not-suc-le-zero l)
+
+pub bytes-more : (byte : ℕ) (bytes : List ℕ) → byte < 256 → AllBytes bytes → AllBytes (byte ∷ bytes)
+bytes-more byte bytes small rest zero l = small
+bytes-more byte bytes small rest (suc i) l = rest i (le-of-suc-le-suc l)
+
+-- ---- there and back
 
 pub bytes-count : (count number : ℕ) → length (bytes-of count number) ≡ count
 unfolding bytes-of

@@ -15,7 +15,7 @@ use Rattle.words.proofs.Tests.{decides-equal, decides-not, decides-or, decides-
 use Rattle.words.proofs.Searching.{any-none, any-false, decides-any}
 use Rattle.jobfile.specs.Layout.{mark, most-bytes, entry-count, bodies-at, entry-kind, body-offset, body-length}
 use Rattle.jobfile.specs.Layout.{Row1, Layout, Row2, Row3, same-bytes, bad-mark, bad-entry, bad-layout}
-use Rattle.jobfile.specs.Layout.{bad-bodies}
+use Rattle.jobfile.specs.Layout.{nets-size, bad-bodies}
 
 -- ---- row 1
 
@@ -181,5 +181,5 @@ decides-row-3 file =
     let d =
     decides-any (λ i. ltb 0 i && not (eqb (body-length file i % 8) 0)) (λ i. (0 < i) × (body-length file i % 8 ≢ 0)) (entry-count file)
     (λ i. decides-and (decides-less 0 i) (decides-not (decides-equal (body-length file i % 8) 0))) in
-    decides-or (decides-not (decides-equal (body-length file 0) 2))
+    decides-or (decides-not (decides-equal (body-length file 0) nets-size))
     (λ e. let w = d .0 e in (w .0, w .2 .0, w .1, w .2 .1), λ e w. d .1 e (w .0, w .2, (w .1, w .3)))

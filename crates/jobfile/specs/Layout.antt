@@ -9,11 +9,12 @@ use lib.ListN.{length, take}
 use Rattle.words.specs.Bits.{at}
 use Rattle.words.specs.Searching.{any}
 use Rattle.network.specs.declared.Network.{Network}
+use Rattle.network.specs.Reading.{network-with}
 use Rattle.jobfile.specs.Bytes.{number-at, words-at}
 
--- `BSJ1`
+-- `BSJ2`
 abbrev pub mark : List ℕ
-mark = 66 ∷ 83 ∷ 74 ∷ 49 ∷ []
+mark = 66 ∷ 83 ∷ 74 ∷ 50 ∷ []
 
 -- the most bytes of a file
 abbrev pub most-bytes : ℕ
@@ -23,19 +24,30 @@ most-bytes = 2048
 abbrev pub entry-count : List ℕ → ℕ
 entry-count file = at file 4
 
--- where the bodies begin, with this many entries
+-- where entry i of the table stands, and where the bodies begin, with this many entries
+abbrev pub entry-at : ℕ → ℕ
+entry-at i = 5 + 9 * i
+
 abbrev pub bodies-at : ℕ → ℕ
-bodies-at entries = 5 + 9 * entries
+bodies-at entries = entry-at entries
 
 -- of entry i: its kind, the offset of its body, the body's length
 unfoldable pub entry-kind : List ℕ → ℕ → ℕ
-entry-kind file i = at file (5 + 9 * i)
+entry-kind file i = at file (entry-at i)
 
 unfoldable pub body-offset : List ℕ → ℕ → ℕ
 body-offset file i = number-at file (6 + 9 * i) 4
 
 unfoldable pub body-length : List ℕ → ℕ → ℕ
 body-length file i = number-at file (10 + 9 * i) 4
+
+-- the nets body, a byte each: n, k and the soft level
+abbrev pub nets-bytes : Network → ℕ → List ℕ
+nets-bytes net k = net .nets ∷ k ∷ net .level ∷ []
+
+-- how many bytes it has
+abbrev pub nets-size : ℕ
+nets-size = 3
 
 -- ---- rows 1, 2 and 3
 
@@ -58,9 +70,9 @@ pub record Layout (file : List ℕ) : Type 0 where
 abbrev pub Row2 : List ℕ → Type 0
 Row2 file = ¬ (Layout file)
 
--- file bodies: nets body not 2 bytes, or another not a multiple of 8
+-- file bodies: nets body not of its size, or another not a multiple of 8
 abbrev pub Row3 : List ℕ → Type 0
-Row3 file = (body-length file 0 ≢ 2) ⊎ ((i : ℕ) × (0 < i) × (i < entry-count file) × (body-length file i % 8 ≢ 0))
+Row3 file = (body-length file 0 ≢ nets-size) ⊎ ((i : ℕ) × (0 < i) × (i < entry-count file) × (body-length file i % 8 ≢ 0))
 
 -- ---- the same as tests
 
@@ -90,15 +102,19 @@ bad-layout file =
 unfoldable pub bad-bodies : List ℕ → Bool
 bad-bodies file =
     let words = any (entry-count file) (λ i. ltb 0 i && not (eqb (body-length file i % 8) 0)) in
-    not (eqb (body-length file 0) 2) || words
+    not (eqb (body-length file 0) nets-size) || words
 
 -- ---- the content
 
+-- byte i of the nets body
+abbrev pub nets-byte : List ℕ → ℕ → ℕ
+nets-byte file i = at file (body-offset file 0 + i)
+
 unfoldable pub file-network : List ℕ → Network
-file-network file = record { nets = at file (body-offset file 0) }
+file-network file = network-with (nets-byte file 0) (nets-byte file 2)
 
 unfoldable pub file-class : List ℕ → ℕ
-file-class file = at file (suc (body-offset file 0))
+file-class file = nets-byte file 1
 
 -- the words of body i
 unfoldable pub body-words : List ℕ → ℕ → List ℕ

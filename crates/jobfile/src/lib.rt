@@ -1,5 +1,5 @@
-// The mark of a job file, compared for the reader and written for the writer; specs/Layout.antt has the whole layout.
-// `put_mark` is a helper between crates that asks for room.
+// The mark of a job file, compared for the reader and written for the writer, and the size of its nets body;
+// specs/Layout.antt has the whole layout. `put_mark` is a helper between crates that asks for room.
 ghost use mathlib.Core.Path.{_≡_};
 ghost use Prim.Native.Nat.{_≤_};
 ghost use lib.ListN.{length};
@@ -7,7 +7,10 @@ ghost use Rattle.words.specs.Writing.{written};
 ghost use Rattle.jobfile.specs.Layout.{mark, «same-bytes», «bad-mark»};
 
 // The first bytes of every job file.
-const MARK: [u8; 4] = *b"BSJ1";
+const MARK: [u8; 4] = *b"BSJ2";
+
+// How many bytes the nets body has.
+pub const NETS_SIZE: usize = 3;
 
 // Whether two lists of bytes are the same.
 fn same_bytes(left: &[u8], right: &[u8]) -> bool

@@ -8,27 +8,30 @@ use lib.ListN.{length, take, replicate, length-append}
 use Rattle.words.specs.Answers.{Answer, refused, full, ByTable, NoneHolds, lent-after, count-of}
 use Rattle.words.proofs.Classes.{ones-at-most}
 use Rattle.words.proofs.Answers.{table-full, front-written, written-fits, counted-refused, counted-full, table-none-holds}
+use Rattle.words.proofs.Answers.{none-front, none-both}
 use Rattle.network.specs.declared.Network.{Network}
 use Rattle.network.specs.States.{State, Fits}
-use Rattle.network.specs.Rows.{Row5, SetRows}
-use Rattle.network.proofs.Rows.{nets-admitted}
+use Rattle.network.specs.Rows.{NetworkRows, SetRows}
+use Rattle.network.proofs.Rows.{network-of-set, admitted-set}
 use Rattle.checker.specs.declared.Verdict.{Verdict}
 use Rattle.checker.specs.declared.Verdict.the-variants.{Pass, Pair}
 use Rattle.diagnosis.specs.declared.Diagnosed.{Diagnosed}
 use Rattle.diagnosis.specs.declared.Diagnosed.the-variants.{Wrote, Refused}
-use Rattle.diagnosis.specs.Diagnosis.{DiagnosisRows, diagnosis-answer, meaning}
+use Rattle.diagnosis.specs.Diagnosis.{OwnRows, DiagnosisRows, diagnosis-answer, meaning}
 use Rattle.diagnosis.proofs.DiagnosisLaws.{diagnosis-by-table}
-use Rattle.findings.specs.FindingsTable.{FindingsRows}
+use Rattle.findings.specs.FindingsTable.{TableRows, FindingsRows}
 use Rattle.reader.specs.declared.Job.{Job}
 use Rattle.reader.specs.declared.ReadJob.{ReadJob}
 use Rattle.reader.specs.declared.ReadJob.the-variants.{Content, Refused as Stopped}
-use Rattle.reader.specs.Reader.{JobContent, content, ReaderRows, read-answer, vectors-read, responses-read, counted}
+use Rattle.reader.specs.Reader.{JobContent, content, ListRows, ReaderRows, read-answer, vectors-read, responses-read, counted}
 use Rattle.reader.specs.Reader.{meaning as read-meaning}
 use Rattle.reader.proofs.ReaderLaws.{read-by-table}
 use Rattle.reader.proofs.ReaderAnswers.{read-counted-refused, read-counted-full}
 use Rattle.decimal.specs.Decimal.{spaced, numbers-end}
 use Rattle.decimal.proofs.Numerals.{decimal-most}
 use Rattle.listing.specs.Report.{refused-line, verdict-line, diagnosis-text, responses-text, content-text, job-text, report}
+
+-- ---- rows that do not hold
 
 -- ---- the diagnosis
 
@@ -63,9 +66,15 @@ module _ (net : Network) (k : ℕ) (vectors responses lent list : List ℕ) (ans
       ∙ front-written state lent in
       let is-state : State net (net .nets) (take (net .nets) list) =
       subst (State net (net .nets)) (sym front) (wider net k state (fits .of-class)) in
-      let five : ¬ (Row5 net) = table-none-holds (Fits net k vectors responses) rows state allowed .0 in
-      let most : net .nets ≤ 48 = nets-admitted net five .1 in
-      (found .1 ∙ ap full (sym front), (five, (λ eleven. eleven is-state, (λ twelve. omega (arith, most, twelve), tt))))
+      let set = none-front (SetRows net k vectors) (OwnRows net k vectors responses (length lent))
+      (table-none-holds (Fits net k vectors responses) rows state allowed) in
+      let most : net .nets ≤ 48 = admitted-set net k vectors set .most in
+      let table : NoneHolds (TableRows net (take (net .nets) list) 48) =
+      (λ eleven. eleven is-state, (λ twelve. omega (arith, most, twelve), tt)) in (
+        found .1 ∙ ap full (sym front),
+        none-both (NetworkRows net) (TableRows net (take (net .nets) list) 48)
+            (network-of-set net k vectors set) table,
+      )
 
 -- ---- line one
 
@@ -126,10 +135,11 @@ module _ (file : List ℕ) where
   set-admitted c e =
       let by-rows : ByTable (ReaderRows file 64 64) (λ x. x ≡ content file) (full c) =
       subst (ByTable (ReaderRows file 64 64) (λ x. x ≡ content file)) e (read-by-table file 64 64) in
-      let set = table-none-holds (λ x. x ≡ content file) (ReaderRows file 64 64) c by-rows .1 .1 .1 in
+      let job = content file in
+      let set = none-front (SetRows (job .network) (job .class) (job .vectors)) (ListRows file job 64 64)
+      (table-none-holds (λ x. x ≡ content file) (ReaderRows file 64 64) c by-rows .1 .1 .1) in
       subst (λ (x : JobContent). NoneHolds (SetRows (x .network) (x .class) (x .vectors)))
-      (sym (table-full (λ x. x ≡ content file) (ReaderRows file 64 64) c by-rows))
-      (set .0, (set .1 .0, (set .1 .1 .0, (set .1 .1 .1 .0, tt))))
+      (sym (table-full (λ x. x ≡ content file) (ReaderRows file 64 64) c by-rows)) set
 
   content-read : (job : Job) (c : JobContent) → read-answer file 64 64 ≡ full c
       → record { network = c .network; class = c .class; vectors = length (c .vectors); responses = length (c .responses) } ≡ job

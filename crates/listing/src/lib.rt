@@ -46,8 +46,8 @@ fn put_diagnosis(
     }
 }
 
-// The report on the content of a job file, from the start of a text; returns the index past it. A helper: rows 5 to 8
-// admit the test set.
+// The report on the content of a job file, from the start of a text; returns the index past it. A helper: the
+// rows of the test set admit it.
 fn put_content(
     text: &mut [u8],
     net: Network,

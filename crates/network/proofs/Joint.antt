@@ -1,6 +1,6 @@
 -- What the drivers of a set drive together, driver by driver, and that a receiver of that reach reads it.
 use mathlib.Core.Path.{_≡_, refl, sym, ap, ap₂, _∙_}
-use mathlib.Core.Bool.{Bool, true, false, _||_}
+use mathlib.Core.Bool.{Bool, true, _||_}
 use mathlib.Core.Logic.{⊎-elim, _≢_}
 use mathlib.Core.List.{List}
 use Prim.Native.Nat.{ℕ, _+_, _%_, _^_, _≤_, _<_}
@@ -12,14 +12,14 @@ use lib.Pow.{pow-pos}
 use borrow.Author.Tests.{eqb-true, eq-eqb}
 use Rattle.words.specs.Bits.{has, at}
 use Rattle.words.specs.Turning.{column}
-use Rattle.words.proofs.Tests.{cases, contrary, or-cases, or-right, same-truth}
+use Rattle.words.proofs.Tests.{or-cases, or-right, same-truth}
 use Rattle.words.proofs.Bits.{words-equal, has-zero, has-or, has-with}
 use Rattle.words.proofs.Making.{has-made, made-below, made-equal}
 use Rattle.words.proofs.Columns.{column-below, has-column}
 use Rattle.network.specs.declared.Network.{Network}
 use Rattle.network.specs.Reading.{meets, reads, sequential-response}
 use Rattle.network.specs.Joint.{joint-word, no-drivers, with-driver}
-use Rattle.network.proofs.Reading.{meets-at, meets-some, reads-driven, reads-only}
+use Rattle.network.proofs.Reading.{meets-at, meets-some, meets-none, one-drives}
 
 module _ (net : Network) (vectors : List ℕ) where
   has-joint : (set t : ℕ) → t < length vectors → has (joint-word net vectors set) t ≡ meets net set (at vectors t)
@@ -35,19 +35,13 @@ module _ (net : Network) (vectors : List ℕ) where
   unfolding no-drivers
   joint-none =
       words-equal (length vectors) _ 0 (joint-below 0) (pow-pos (length vectors))
-      (λ t l. has-joint 0 t l ∙ nothing (at vectors t) ∙ sym (has-zero t))
-    where
-      nothing : (v : ℕ) → meets net 0 v ≡ false
-      nothing v = ⊎-elim (λ e. let r = meets-some net 0 v e in contrary (r .2) (has-zero (r .0))) (λ e. e) (cases (meets net 0 v))
+      (λ t l. has-joint 0 t l ∙ meets-none net (at vectors t) ∙ sym (has-zero t))
 
   -- a receiver with a driver in its reach reads what its drivers drive
   pub reads-joint : (set : ℕ) → set ≢ 0 → sequential-response net vectors set ≡ joint-word net vectors set
   unfolding sequential-response joint-word
   reads-joint set some =
-      made-equal (reads net set) vectors (meets net set)
-      (λ t l. same-truth (reads net set (at vectors t)) (meets net set (at vectors t))
-      (λ e. let r = reads-only net set (at vectors t) some e in meets-at net set (at vectors t) (r .0) (r .1) (r .2) (r .3))
-      (λ e. let r = meets-some net set (at vectors t) e in reads-driven net set (at vectors t) (r .0) (r .1) (r .2) (r .3)))
+      made-equal (reads net set) vectors (meets net set) (λ t l. one-drives net set (at vectors t) some)
 
   -- one driver more, below all drivers of the set
   module _ (limit driver set : ℕ) (l : driver < limit) (inside : limit ≤ net .nets) (above : set % 2 ^ limit ≡ 0) where

@@ -1,10 +1,11 @@
--- What the rest asks of `reads`: three laws of the definition, and what follows from them.
+-- What the rest asks of `reads`: two laws of the definition, for each level, and what follows from them. A value is
+-- *active* if one driver in the reach that drives it decides what is read: 1, at a wired OR.
 use mathlib.Core.Path.{_≡_, refl, sym, ap, _∙_, subst}
-use mathlib.Core.Bool.{Bool, true, false, not, _&&_, true≢false}
+use mathlib.Core.Bool.{Bool, true, false, not, _&&_, _||_, true≢false}
 use mathlib.Core.Logic.{inl, inr, ⊎-elim, _≢_, _↔_}
-use mathlib.Core.List.{List, map}
-use Prim.Native.Nat.{ℕ, zero, suc, _^_, _≤_, _<_}
-use native.Mathlib.Nat.{lt-of-le-of-lt}
+use mathlib.Core.List.{List, [], _∷_, map}
+use Prim.Native.Nat.{ℕ, zero, suc, _^_, _≤_, _<_, zero-le}
+use native.Mathlib.Nat.{lt-of-le-of-lt, le-refl}
 use native.Mathlib.Omega.{arith}
 use lib.Bits.{bitAnd, and-le-l}
 use lib.Dec.{eqb}
@@ -15,32 +16,70 @@ use borrow.Author.Tests.{eq-eqb, ne-eqb, eqb-true, eqb-false, not-true}
 use Rattle.words.specs.Bits.{has, at}
 use Rattle.words.specs.Searching.{any}
 use Rattle.words.specs.Answers.{Decides}
-use Rattle.words.proofs.Tests.{cases, contrary, and-left, and-right, and-both, or-cases, or-right, same-truth, test-passes}
+use Rattle.words.proofs.Tests.{cases, contrary, and-left, and-right, and-both, or-false, same-truth, test-passes}
 use Rattle.words.proofs.Searching.{any-at, any-some, any-false}
-use Rattle.words.proofs.Bits.{words-equal, has-zero, has-power, has-not-zero, has-all, has-all-but, has-and, some-bit}
+use Rattle.words.proofs.Bits.{words-equal, has-zero, has-power, has-own, has-only, has-not-zero, has-all, has-all-but, has-and, some-bit}
+use Rattle.words.proofs.Bits.{some-bit-differs}
 use Rattle.words.proofs.Making.{map-at, has-made, made-below, made-equal, made-bits}
 use Rattle.network.specs.declared.Network.{Network}
-use Rattle.network.specs.Reading.{all-drivers, all-but, walking-vector, extra-vector, meets, reads, Reads1}
+use Rattle.network.specs.Reading.{soft-level, all-drivers, all-but, walking-vector, extra-vector, needs-extra, extra-vectors}
+use Rattle.network.specs.Reading.{meets, reads, Reads1}
 use Rattle.network.specs.Reading.{ReadAlike, sequential-response, response-word, response, Response}
+
+-- ---- active values
+
+-- one driver that drives it decides
+unfoldable pub active : Network → Bool → Bool
+active net value = value
+
+module _ (net : Network) where
+  pub active-equal : (a b : Bool) → active net a ≡ active net b → a ≡ b
+  unfolding active
+  active-equal a b e = e
+
+  -- of two values that differ, one is active if the other is not
+  active-other : (a b : Bool) → a ≢ b → active net b ≡ false → active net a ≡ true
+  unfolding active
+  active-other true b h e = refl
+  active-other false true h e = absurd (true≢false e)
+  active-other false false h e = absurd (h refl)
+
+  -- there is an extra vector where floating receivers read the active value
+  pub active-soft : active net (soft-level net) ≡ needs-extra net
+  unfolding active needs-extra
+  active-soft = refl
 
 -- ---- driver sets and vectors by name
 
 module _ (net : Network) where
-  pub has-walking : (i j : ℕ) → has (walking-vector net i) j ≡ eqb i j
-  unfolding walking-vector
-  has-walking i j = has-power i j
+  -- the drivers that are active on the walking vector of net i, and on the extra vector
+  pub active-walking : (i j : ℕ) → i < net .nets → j < net .nets → active net (has (walking-vector net i) j) ≡ eqb i j
+  unfolding active walking-vector
+  active-walking i j l m = has-power i j
+
+  pub active-extra : (j : ℕ) → j < net .nets → active net (has (extra-vector net) j) ≡ false
+  unfolding active extra-vector
+  active-extra j l = has-zero j
 
   pub walking-below : (i : ℕ) → i < net .nets → walking-vector net i < 2 ^ (net .nets)
   unfolding walking-vector
   walking-below i l = pow-lt l
 
-  pub has-extra : (j : ℕ) → has (extra-vector net) j ≡ false
-  unfolding extra-vector
-  has-extra j = has-zero j
-
   pub extra-below : extra-vector net < 2 ^ (net .nets)
   unfolding extra-vector
   extra-below = pow-pos (net .nets)
+
+  -- the extra vector alone, or none
+  pub extra-one : needs-extra net ≡ true → extra-vectors net ≡ extra-vector net ∷ []
+  unfolding extra-vectors
+  extra-one e = rw e
+
+  pub extra-none : needs-extra net ≡ false → extra-vectors net ≡ []
+  unfolding extra-vectors
+  extra-none e = rw e
+
+  pub extra-most : length (extra-vectors net) ≤ 1
+  extra-most = ⊎-elim (λ e. rw (extra-one e) (le-refl 1)) (λ e. rw (extra-none e) zero-le) (cases (needs-extra net))
 
   pub all-below : all-drivers net < 2 ^ (net .nets)
   unfolding all-drivers
@@ -88,98 +127,166 @@ module _ (net : Network) where
           let both : has a (r .0) && has b (r .0) ≡ true = sym (has-and a b (r .0)) ∙ r .2 in
           meets-at a b (r .0) (r .1) (and-left (has a (r .0)) (has b (r .0)) both) (and-right (has a (r .0)) (has b (r .0)) both)
 
-  -- ---- the definition's own three laws
+  -- ---- the definition's own laws
 
-  -- a floating receiver reads 1
-  pub reads-floating : (vector : ℕ) → reads net 0 vector ≡ true
+  -- a floating receiver reads the soft level
+  pub reads-floating : (vector : ℕ) → reads net 0 vector ≡ soft-level net
   unfolding reads
   reads-floating vector = refl
 
-  -- so does one with a driver in its reach that drives 1
-  pub reads-driven : (reach vector j : ℕ) → j < net .nets → has reach j ≡ true → has vector j ≡ true → reads net reach vector ≡ true
+  -- any other reads what its drivers drive together
+  pub one-drives : (reach vector : ℕ) → reach ≢ 0 → reads net reach vector ≡ meets net reach vector
   unfolding reads
-  reads-driven reach vector j l p q = or-right (eqb reach 0) (meets net reach vector) (meets-at reach vector j l p q)
+  one-drives reach vector h = rw (ne-eqb reach 0 h)
 
-  -- and no other
-  pub reads-only : (reach vector : ℕ) → reach ≢ 0 → reads net reach vector ≡ true
-      → (j : ℕ) × (j < net .nets) × (has reach j ≡ true) × (has vector j ≡ true)
-  unfolding reads
-  reads-only reach vector h e =
-      ⊎-elim (λ q. absurd (h (eqb-true reach 0 q))) (λ q. meets-some reach vector q) (or-cases (eqb reach 0) (meets net reach vector) e)
+  -- no driver is in the empty set
+  pub meets-none : (vector : ℕ) → meets net 0 vector ≡ false
+  meets-none vector =
+      ⊎-elim (λ e. let r = meets-some 0 vector e in contrary (r .2) (has-zero (r .0))) (λ e. e) (cases (meets net 0 vector))
 
-  -- ---- what follows from them
+  -- as the code tests it
+  pub reads-or : (reach vector : ℕ) → reads net reach vector ≡ (eqb reach 0 && soft-level net) || meets net reach vector
+  reads-or reach vector = go (eqb reach 0) refl
+    where
+      go : (t : Bool) → eqb reach 0 ≡ t → reads net reach vector ≡ (t && soft-level net) || meets net reach vector
+      go true e =
+          subst (λ (x : ℕ). reads net x vector ≡ soft-level net || meets net x vector) (sym (eqb-true reach 0 e))
+          (reads-floating vector ∙ sym (or-false (soft-level net)) ∙ ap (λ (b : Bool). soft-level net || b) (sym (meets-none vector)))
+      go false e = one-drives reach vector (eqb-false reach 0 e)
+
+  -- a receiver with an active driver in its reach reads the active value
+  pub reads-active : (reach vector j : ℕ) → j < net .nets → has reach j ≡ true → active net (has vector j) ≡ true
+      → active net (reads net reach vector) ≡ true
+  unfolding active
+  reads-active reach vector j l p q = one-drives reach vector (has-not-zero reach j p) ∙ meets-at reach vector j l p q
+
+  -- and no other that does not float
+  pub active-only : (reach vector : ℕ) → reach ≢ 0 → active net (reads net reach vector) ≡ true
+      → (j : ℕ) × (j < net .nets) × (has reach j ≡ true) × (active net (has vector j) ≡ true)
+  unfolding active
+  active-only reach vector h e = meets-some reach vector (sym (one-drives reach vector h) ∙ e)
 
   pub decides-reads : (reach vector : ℕ) → Decides (reads net reach vector) (Reads1 net reach vector)
   decides-reads reach vector = (there, back)
     where
       there : reads net reach vector ≡ true → Reads1 net reach vector
-      there e = ⊎-elim (λ q. inl (eqb-true reach 0 q)) (λ q. inr (reads-only reach vector (eqb-false reach 0 q) e)) (cases (eqb reach 0))
+      there e =
+          ⊎-elim
+          (λ q. let z : reach ≡ 0 = eqb-true reach 0 q in
+          inl (z, eqb-true (net .level) 1 (sym (reads-floating vector) ∙ ap (λ (x : ℕ). reads net x vector) (sym z) ∙ e)))
+          (λ q. inr (meets-some reach vector (sym (one-drives reach vector (eqb-false reach 0 q)) ∙ e))) (cases (eqb reach 0))
 
       back : reads net reach vector ≡ false → ¬ (Reads1 net reach vector)
-      back e (inl q) = contrary (ap (λ (x : ℕ). reads net x vector) q ∙ reads-floating vector) e
-      back e (inr (j, l, p, q)) = contrary (reads-driven reach vector j l p q) e
+      back e (inl (z, one)) = contrary (ap (λ (x : ℕ). reads net x vector) z ∙ reads-floating vector ∙ eq-eqb (net .level) 1 one) e
+      back e (inr (j, l, p, q)) = contrary (one-drives reach vector (has-not-zero reach j p) ∙ meets-at reach vector j l p q) e
+
+  -- ---- what follows from them
 
   -- a receiver reads what the n drivers drive, and nothing else of a vector
   pub reads-same : (reach v w : ℕ) → ((j : ℕ) → j < net .nets → has v j ≡ has w j) → reads net reach v ≡ reads net reach w
-  reads-same reach v w h = same-truth (reads net reach v) (reads net reach w) (there v w h) (there w v (λ j l. sym (h j l)))
+  reads-same reach v w h = go (eqb reach 0) refl
     where
-      there : (v w : ℕ) → ((j : ℕ) → j < net .nets → has v j ≡ has w j) → reads net reach v ≡ true → reads net reach w ≡ true
-      there v w h e =
-          ⊎-elim (λ q. ap (λ (x : ℕ). reads net x w) (eqb-true reach 0 q) ∙ reads-floating w)
-          (λ q. let r = reads-only reach v (eqb-false reach 0 q) e in
-          reads-driven reach w (r .0) (r .1) (r .2) (sym (h (r .0) (r .1)) ∙ r .3)) (cases (eqb reach 0))
+      there : reach ≢ 0 → (v w : ℕ) → ((j : ℕ) → j < net .nets → has v j ≡ has w j) → active net (reads net reach v) ≡ true
+          → active net (reads net reach w) ≡ true
+      there n v w h e =
+          let r = active-only reach v n e in
+          reads-active reach w (r .0) (r .1) (r .2) (ap (active net) (sym (h (r .0) (r .1))) ∙ r .3)
+
+      go : (t : Bool) → eqb reach 0 ≡ t → reads net reach v ≡ reads net reach w
+      go true e =
+          subst (λ (x : ℕ). reads net x v ≡ reads net x w) (sym (eqb-true reach 0 e)) (reads-floating v ∙ sym (reads-floating w))
+      go false e =
+          let n = eqb-false reach 0 e in
+          active-equal net _ _ (same-truth _ _ (there n v w h) (there n w v (λ j l. sym (h j l))))
+
+  -- a receiver that one driver alone reaches reads what it drives
+  pub reads-alone : (i vector : ℕ) → i < net .nets → reads net (2 ^ i) vector ≡ has vector i
+  reads-alone i vector l =
+      active-equal net _ _
+      (same-truth (active net (reads net (2 ^ i) vector)) (active net (has vector i))
+      (λ e. let r = active-only (2 ^ i) vector (has-not-zero (2 ^ i) i (has-own i)) e in
+      subst (λ (x : ℕ). active net (has vector x) ≡ true) (sym (has-only i (r .0) (r .2))) (r .3))
+      (λ e. reads-active (2 ^ i) vector i l (has-own i) e))
 
   -- the walking vector of a net tells whether its driver is in a reach that is not empty
-  pub reads-walking : (reach i : ℕ) → i < net .nets → reach ≢ 0 → reads net reach (walking-vector net i) ≡ has reach i
+  pub reads-walking : (reach i : ℕ) → i < net .nets → reach ≢ 0 → active net (reads net reach (walking-vector net i)) ≡ has reach i
   reads-walking reach i l h =
-      same-truth (reads net reach (walking-vector net i)) (has reach i) there
-      (λ e. reads-driven reach (walking-vector net i) i l e (has-walking i i ∙ eq-eqb i i refl))
+      same-truth (active net (reads net reach (walking-vector net i))) (has reach i) there
+      (λ e. reads-active reach (walking-vector net i) i l e (active-walking i i l l ∙ eq-eqb i i refl))
     where
-      there : reads net reach (walking-vector net i) ≡ true → has reach i ≡ true
+      there : active net (reads net reach (walking-vector net i)) ≡ true → has reach i ≡ true
       there e =
-          let r = reads-only reach (walking-vector net i) h e in
-          subst (λ (x : ℕ). has reach x ≡ true) (sym (eqb-true i (r .0) (sym (has-walking i (r .0)) ∙ r .3))) (r .2)
+          let r = active-only reach (walking-vector net i) h e in
+          subst (λ (x : ℕ). has reach x ≡ true) (sym (eqb-true i (r .0) (sym (active-walking i (r .0) l (r .1)) ∙ r .3))) (r .2)
 
-  -- the extra vector tells whether a receiver floats
-  pub reads-extra : (reach : ℕ) → reads net reach (extra-vector net) ≡ eqb reach 0
-  reads-extra reach = go (eqb reach 0) refl
+  -- and of one that is empty as well, where there is no extra vector
+  pub reads-walking-all : needs-extra net ≡ false → (reach i : ℕ) → i < net .nets
+      → active net (reads net reach (walking-vector net i)) ≡ has reach i
+  reads-walking-all s reach i l = go (eqb reach 0) refl
     where
-      go : (b : Bool) → eqb reach 0 ≡ b → reads net reach (extra-vector net) ≡ b
-      go true e = ap (λ (x : ℕ). reads net x (extra-vector net)) (eqb-true reach 0 e) ∙ reads-floating (extra-vector net)
+      go : (t : Bool) → eqb reach 0 ≡ t → active net (reads net reach (walking-vector net i)) ≡ has reach i
+      go true e =
+          subst (λ (x : ℕ). active net (reads net x (walking-vector net i)) ≡ has x i) (sym (eqb-true reach 0 e))
+          (ap (active net) (reads-floating (walking-vector net i)) ∙ active-soft net ∙ s ∙ sym (has-zero i))
+      go false e = reads-walking reach i l (eqb-false reach 0 e)
+
+  -- the extra vector, where there is one, tells whether a receiver floats
+  pub reads-extra : needs-extra net ≡ true → (reach : ℕ) → active net (reads net reach (extra-vector net)) ≡ eqb reach 0
+  reads-extra s reach = go (eqb reach 0) refl
+    where
+      go : (b : Bool) → eqb reach 0 ≡ b → active net (reads net reach (extra-vector net)) ≡ b
+      go true e =
+          subst (λ (x : ℕ). active net (reads net x (extra-vector net)) ≡ true) (sym (eqb-true reach 0 e))
+          (ap (active net) (reads-floating (extra-vector net)) ∙ active-soft net ∙ s)
       go false e =
-          same-truth _ _ (λ q. let r = reads-only reach (extra-vector net) (eqb-false reach 0 e) q in contrary (r .3) (has-extra (r .0)))
+          same-truth _ _
+          (λ q. let r = active-only reach (extra-vector net) (eqb-false reach 0 e) q in contrary (r .3) (active-extra (r .0) (r .1)))
           (λ q. absurd (true≢false (sym q)))
 
   -- together they tell any two sets of drivers apart
   pub walking-apart : (a b : ℕ) → a < 2 ^ (net .nets) → b < 2 ^ (net .nets)
-      → reads net a (extra-vector net) ≡ reads net b (extra-vector net)
+      → (needs-extra net ≡ true → reads net a (extra-vector net) ≡ reads net b (extra-vector net))
       → ((i : ℕ) → i < net .nets → reads net a (walking-vector net i) ≡ reads net b (walking-vector net i)) → a ≡ b
-  walking-apart a b la lb extra walking = go (eqb a 0) refl
+  walking-apart a b la lb extra walking = ⊎-elim with-extra without (cases (needs-extra net))
     where
-      float : eqb a 0 ≡ eqb b 0
-      float = sym (reads-extra a) ∙ extra ∙ reads-extra b
+      acts : (i : ℕ) → i < net .nets → active net (reads net a (walking-vector net i)) ≡ active net (reads net b (walking-vector net i))
+      acts i l = ap (active net) (walking i l)
 
-      go : (t : Bool) → eqb a 0 ≡ t → a ≡ b
-      go true e = eqb-true a 0 e ∙ sym (eqb-true b 0 (sym float ∙ e))
-      go false e =
-          words-equal (net .nets) a b la lb
-          (λ i l. sym (reads-walking a i l (eqb-false a 0 e)) ∙ walking i l ∙ reads-walking b i l (eqb-false b 0 (sym float ∙ e)))
+      without : needs-extra net ≡ false → a ≡ b
+      without s = words-equal (net .nets) a b la lb (λ i l. sym (reads-walking-all s a i l) ∙ acts i l ∙ reads-walking-all s b i l)
 
-  -- on any other vector the empty set reads as all drivers do
-  pub empty-as-all : (vector : ℕ) → vector < 2 ^ (net .nets) → vector ≢ extra-vector net
+      with-extra : needs-extra net ≡ true → a ≡ b
+      with-extra s = go (eqb a 0) refl
+        where
+          float : eqb a 0 ≡ eqb b 0
+          float = sym (reads-extra s a) ∙ ap (active net) (extra s) ∙ reads-extra s b
+
+          go : (t : Bool) → eqb a 0 ≡ t → a ≡ b
+          go true e = eqb-true a 0 e ∙ sym (eqb-true b 0 (sym float ∙ e))
+          go false e =
+              words-equal (net .nets) a b la lb
+              (λ i l. sym (reads-walking a i l (eqb-false a 0 e)) ∙ acts i l ∙ reads-walking b i l (eqb-false b 0 (sym float ∙ e)))
+
+  -- where there is an extra vector, the empty set reads on any other vector as all drivers do
+  pub empty-as-all : needs-extra net ≡ true → (vector : ℕ) → vector < 2 ^ (net .nets) → vector ≢ extra-vector net
       → reads net 0 vector ≡ reads net (all-drivers net) vector
-  unfolding extra-vector
-  empty-as-all vector l h =
-      let r = some-bit (net .nets) vector l h in
-      reads-floating vector ∙ sym (reads-driven (all-drivers net) vector (r .0) (r .1) (has-every (r .0) (r .1)) (r .2))
+  empty-as-all s vector l h =
+      let r = some-bit-differs (net .nets) vector (extra-vector net) l extra-below h in
+      active-equal net _ _
+      (ap (active net) (reads-floating vector) ∙ active-soft net ∙ s
+      ∙ sym (reads-active (all-drivers net) vector (r .0) (r .1) (has-every (r .0) (r .1))
+      (active-other net _ _ (r .2) (active-extra (r .0) (r .1)))))
 
   -- and on any but the walking vector of net i, all drivers but i read as all do
   pub all-but-as-all : (i vector : ℕ) → 2 ≤ net .nets → i < net .nets → vector < 2 ^ (net .nets) → vector ≢ walking-vector net i
       → reads net (all-but net i) vector ≡ reads net (all-drivers net) vector
-  all-but-as-all i vector two l lv h = go (any (net .nets) other) refl
+  all-but-as-all i vector two l lv h = active-equal net _ _ (go (any (net .nets) other) refl)
     where
+      on : ℕ → Bool
+      on j = active net (has vector j)
+
       other : ℕ → Bool
-      other j = not (eqb i j) && has vector j
+      other j = not (eqb i j) && on j
 
       away : (j : ℕ) × (j < net .nets) × (eqb i j ≡ false)
       away = elim i as (λ x. (j : ℕ) × (j < net .nets) × (eqb x j ≡ false)) [
@@ -190,37 +297,39 @@ module _ (net : Network) where
       but-not-empty : all-but net i ≢ 0
       but-not-empty = has-not-zero (all-but net i) (away .0) (has-every-but i (away .0) l (away .1) ∙ ap not (away .2))
 
-      -- no other net drives 1, and the vector is not the walking one: none does
-      quiet : any (net .nets) other ≡ false → (j : ℕ) → j < net .nets → has vector j ≡ false
+      -- no other net is active, and the vector is not the walking one: none is
+      quiet : any (net .nets) other ≡ false → (j : ℕ) → j < net .nets → on j ≡ false
       quiet e j lj = ⊎-elim at-i (λ q. off j lj q) (cases (eqb i j))
         where
-          off : (x : ℕ) → x < net .nets → eqb i x ≡ false → has vector x ≡ false
+          off : (x : ℕ) → x < net .nets → eqb i x ≡ false → on x ≡ false
           off x lx q = rw q at (any-false other (net .nets) x lx e)
 
-          at-i : eqb i j ≡ true → has vector j ≡ false
-          at-i q = ⊎-elim (λ f. absurd (h (is-walking f))) (λ f. f) (cases (has vector j))
+          at-i : eqb i j ≡ true → on j ≡ false
+          at-i q = ⊎-elim (λ f. absurd (h (is-walking f))) (λ f. f) (cases (on j))
             where
-              bit-at : has vector j ≡ true → (x : ℕ) → x < net .nets → (b : Bool) → eqb i x ≡ b
-                  → has vector x ≡ has (walking-vector net i) x
-              bit-at f x lx true p = subst (λ (y : ℕ). has vector y ≡ true) (sym (eqb-true i j q) ∙ eqb-true i x p) f
-                  ∙ sym (has-walking i x ∙ p)
-              bit-at f x lx false p = off x lx p ∙ sym (has-walking i x ∙ p)
+              bit-at : on j ≡ true → (x : ℕ) → x < net .nets → (b : Bool) → eqb i x ≡ b
+                  → on x ≡ active net (has (walking-vector net i) x)
+              bit-at f x lx true p = subst (λ (y : ℕ). on y ≡ true) (sym (eqb-true i j q) ∙ eqb-true i x p) f
+                  ∙ sym (active-walking i x l lx ∙ p)
+              bit-at f x lx false p = off x lx p ∙ sym (active-walking i x l lx ∙ p)
 
-              is-walking : has vector j ≡ true → vector ≡ walking-vector net i
+              is-walking : on j ≡ true → vector ≡ walking-vector net i
               is-walking f = words-equal (net .nets) vector (walking-vector net i) lv (walking-below i l)
-                  (λ x lx. bit-at f x lx (eqb i x) refl)
+                  (λ x lx. active-equal net _ _ (bit-at f x lx (eqb i x) refl))
 
-      reads-nothing : (a : ℕ) → a ≢ 0 → any (net .nets) other ≡ false → reads net a vector ≡ false
+      reads-nothing : (a : ℕ) → a ≢ 0 → any (net .nets) other ≡ false → active net (reads net a vector) ≡ false
       reads-nothing a nz e =
-          ⊎-elim (λ q. let r = reads-only a vector nz q in contrary (r .3) (quiet e (r .0) (r .1))) (λ q. q) (cases (reads net a vector))
+          ⊎-elim (λ q. let r = active-only a vector nz q in contrary (r .3) (quiet e (r .0) (r .1))) (λ q. q)
+          (cases (active net (reads net a vector)))
 
-      go : (t : Bool) → any (net .nets) other ≡ t → reads net (all-but net i) vector ≡ reads net (all-drivers net) vector
+      go : (t : Bool) → any (net .nets) other ≡ t
+          → active net (reads net (all-but net i) vector) ≡ active net (reads net (all-drivers net) vector)
       go true e =
           let r = any-some other (net .nets) e in
-          let on : has vector (r .0) ≡ true = and-right (not (eqb i (r .0))) (has vector (r .0)) (r .2) in
-          reads-driven (all-but net i) vector (r .0) (r .1)
-          (has-every-but i (r .0) l (r .1) ∙ and-left (not (eqb i (r .0))) (has vector (r .0)) (r .2)) on
-          ∙ sym (reads-driven (all-drivers net) vector (r .0) (r .1) (has-every (r .0) (r .1)) on)
+          let acts : on (r .0) ≡ true = and-right (not (eqb i (r .0))) (on (r .0)) (r .2) in
+          reads-active (all-but net i) vector (r .0) (r .1)
+          (has-every-but i (r .0) l (r .1) ∙ and-left (not (eqb i (r .0))) (on (r .0)) (r .2)) acts
+          ∙ sym (reads-active (all-drivers net) vector (r .0) (r .1) (has-every (r .0) (r .1)) acts)
       go false e = reads-nothing (all-but net i) but-not-empty e ∙ sym (reads-nothing (all-drivers net) (all-not-empty (omega arith)) e)
 
   -- ---- sequential words, and the response by its bits
@@ -229,6 +338,12 @@ module _ (net : Network) where
       → has (sequential-response net vectors set) t ≡ reads net set (at vectors t)
   unfolding sequential-response
   has-sequential vectors set t l = has-made (reads net set) vectors t l
+
+  -- the bits of 1 in a sequential word are the active readings
+  pub active-answers : (vectors : List ℕ) (set answered : ℕ) → sequential-response net vectors set ≡ answered
+      → (t : ℕ) → t < length vectors → active net (reads net set (at vectors t)) ≡ has answered t
+  unfolding active
+  active-answers vectors set answered e t l = sym (has-sequential vectors set t l) ∙ ap (λ (w : ℕ). has w t) e
 
   pub sequential-below : (vectors : List ℕ) (set : ℕ) → sequential-response net vectors set < 2 ^ length vectors
   unfolding sequential-response

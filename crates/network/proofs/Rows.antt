@@ -1,21 +1,22 @@
 -- Each row's test decides the row, and what rows that do not hold tell.
 use mathlib.Core.Path.{_≡_, refl}
-use mathlib.Core.Bool.{Bool, _||_}
-use mathlib.Core.Logic.{_⊎_, inl, inr, ⊎-elim}
-use mathlib.Core.List.{List, _++_}
+use mathlib.Core.Bool.{Bool, true, false, _||_}
+use mathlib.Core.Logic.{_⊎_, inl, inr, ⊎-elim, _≢_}
+use mathlib.Core.List.{List, [], _∷_, _++_}
 use Prim.Native.Nat.{ℕ, _^_, _≤_, _<_}
 use native.Mathlib.Nat.{lt-of-not-le}
 use native.Mathlib.Omega.{arith}
 use lib.Dec.{leb, eqb}
 use lib.ListN.{length}
 use Rattle.words.specs.Bits.{at}
-use Rattle.words.specs.Answers.{Decides, Decided, NoneHolds, refused, full, by-tests}
-use Rattle.words.proofs.Tests.{cases, decides-less, decides-at-most, decides-equal, decides-or, decides-not}
+use Rattle.words.specs.Answers.{Decides, Decided, NoneHolds, refused, full, by-tests, first-number}
+use Rattle.words.proofs.Tests.{cases, decides-less, decides-at-most, decides-equal, decides-or, decides-not, test-fails}
 use Rattle.words.proofs.Searching.{decides-any}
 use Rattle.words.proofs.Answers.{let-through, shared-refuse, shared-pass}
 use Rattle.network.specs.declared.Network.{Network}
-use Rattle.network.specs.Rows.{Row5, Row6, Row7, HighBit, Row9, Row12, bad-net-count, bad-class, bad-vector-count}
-use Rattle.network.specs.Rows.{has-high-bit, bad-response-count, no-room, SetRows, set-tests, set-admission}
+use Rattle.network.specs.Rows.{Row5, Row6, Row17, Row7, HighBit, Row9, Row12, bad-net-count, bad-class, bad-level, bad-vector-count}
+use Rattle.network.specs.Rows.{has-high-bit, bad-response-count, no-room, NetworkRows, network-tests, network-refusal}
+use Rattle.network.specs.Rows.{AdmittedNetwork, SetRows, set-tests, set-admission}
 
 pub decides-row-5 : (net : Network) → Decides (bad-net-count net) (Row5 net)
 decides-row-5 net = decides-or (decides-less (net .nets) 2) (decides-less 48 (net .nets))
@@ -27,6 +28,9 @@ decides-class net k = decides-or (decides-equal k 1)
 
 decides-row-6 : (net : Network) (k : ℕ) → Decides (bad-class net k) (Row6 net k)
 decides-row-6 net k = decides-or (decides-not (decides-class net k)) (decides-less (net .nets) k)
+
+pub decides-row-17 : (net : Network) → Decides (bad-level net) (Row17 net)
+decides-row-17 net = decides-not (decides-or (decides-equal (net .level) 0) (decides-equal (net .level) 1))
 
 pub decides-row-7 : (vectors : List ℕ) → Decides (bad-vector-count vectors) (Row7 vectors)
 decides-row-7 vectors = decides-or (decides-less (length vectors) 1) (decides-less 64 (length vectors))
@@ -49,13 +53,52 @@ pub nets-admitted : (net : Network) → ¬ (Row5 net) → (2 ≤ net .nets) × (
 nets-admitted net h = let low : net .nets < 2 → ⊥ = λ l. h (inl l) in let high : 48 < net .nets → ⊥ = λ l. h (inr l) in
     (omega (arith, low), omega (arith, high))
 
+level-admitted : (net : Network) → ¬ (Row17 net) → net .level ≤ 1
+level-admitted net h = let high : 1 < net .level → ⊥ = λ l. h (λ r. ⊎-elim (λ e. omega arith) (λ e. omega arith) r) in omega (arith, high)
+
 pub vectors-admitted : (vectors : List ℕ) → ¬ (Row7 vectors) → length vectors ≤ 64
 vectors-admitted vectors h = let high : 64 < length vectors → ⊥ = λ l. h (inr l) in omega (arith, high)
 
 pub no-high-bit : (net : Network) (words : List ℕ) → ¬ (HighBit net words) → (t : ℕ) → t < length words → at words t < 2 ^ (net .nets)
 no-high-bit net words h t l = lt-of-not-le (λ e. h (t, l, e))
 
--- ---- rows 5 to 8
+-- ---- the rows of a network alone
+
+pub decides-network : (net : Network) → Decided (NetworkRows net) (network-tests net)
+decides-network net = (refl, decides-row-5 net, λ _. (refl, decides-row-17 net, λ _. tt))
+
+-- a call that begins with them, where one holds and where none does
+module _ (net : Network) {A : Type 0} (more : List (ℕ × Bool)) (x : A) where
+  pub network-refuses : network-refusal net ≢ 0 → by-tests (network-tests net ++ more) x ≡ refused (network-refusal net)
+  unfolding by-tests
+  network-refuses = go (bad-net-count net) (bad-level net)
+    where
+      go : (five level : Bool) → first-number ((5, five) ∷ (17, level) ∷ []) ≢ 0
+          → by-tests ((5, five) ∷ (17, level) ∷ more) x ≡ refused (first-number ((5, five) ∷ (17, level) ∷ []))
+      go true level some = refl
+      go false true some = refl
+      go false false some = absurd (some refl)
+
+  pub network-admits : network-refusal net ≡ 0 → by-tests (network-tests net ++ more) x ≡ by-tests more x
+  unfolding by-tests
+  network-admits = go (bad-net-count net) (bad-level net)
+    where
+      go : (five level : Bool) → first-number ((5, five) ∷ (17, level) ∷ []) ≡ 0
+          → by-tests ((5, five) ∷ (17, level) ∷ more) x ≡ by-tests more x
+      go true level none = absurd (let q : _≡_ {A = ℕ} 5 0 = none in omega arith)
+      go false true none = absurd (let q : _≡_ {A = ℕ} 17 0 = none in omega arith)
+      go false false none = refl
+
+module _ (net : Network) where
+  pub network-admitted : network-refusal net ≡ 0 → AdmittedNetwork net
+  unfolding by-tests
+  network-admitted e =
+      let-through {A = Unit {0}} (NetworkRows net) (network-tests net) tt tt (decides-network net) (network-admits net [] tt e)
+
+  pub admitted-refusal : AdmittedNetwork net → network-refusal net ≡ 0
+  admitted-refusal (five, (level, _)) = rw (test-fails (decides-row-5 net) five, test-fails (decides-row-17 net) level)
+
+-- ---- rows 5, 6, 17, 7 and 8
 
 pub decides-set : (net : Network) (k : ℕ) (vectors : List ℕ) → Decided (SetRows net k vectors) (set-tests net k vectors)
 decides-set net k vectors = (
@@ -65,7 +108,7 @@ decides-set net k vectors = (
     refl,
     decides-row-6 net k,
     λ _.
-        (refl, decides-row-7 vectors, λ _. (refl, decides-high-bit net vectors, λ _. tt)),
+        (refl, decides-row-17 net, λ _. (refl, decides-row-7 vectors, λ _. (refl, decides-high-bit net vectors, λ _. tt))),
   ),
 )
 
@@ -75,6 +118,7 @@ pub record AdmittedSet (net : Network) (k : ℕ) (vectors : List ℕ) : Type 0 w
   pub most : net .nets ≤ 48
   pub class : (k ≤ 3) ⊎ (k ≡ net .nets)
   pub class-positive : 0 < k
+  pub level-byte : net .level ≤ 1
   pub vectors-most : length vectors ≤ 64
   pub narrow : (t : ℕ) → t < length vectors → at vectors t < 2 ^ (net .nets)
 
@@ -84,13 +128,18 @@ admitted-class net k h =
     let d = decides-class net k in
     ⊎-elim (d .0) (λ e. absurd (h (inl (d .1 e)))) (cases (eqb k 1 || (eqb k 2 || (eqb k 3 || eqb k (net .nets)))))
 
+-- the network of a test set that is admitted
+pub network-of-set : (net : Network) (k : ℕ) (vectors : List ℕ) → NoneHolds (SetRows net k vectors) → AdmittedNetwork net
+network-of-set net k vectors (five, (_, (level, _))) = (five, (level, tt))
+
 pub admitted-set : (net : Network) (k : ℕ) (vectors : List ℕ) → NoneHolds (SetRows net k vectors) → AdmittedSet net k vectors
-admitted-set net k vectors (a, (b, (c, (d, e)))) =
+admitted-set net k vectors (a, (b, (level, (c, (d, e))))) =
     let nets = nets-admitted net a in record {
       two = nets .0;
       most = nets .1;
       class = small (admitted-class net k b);
       class-positive = positive (nets .0) (admitted-class net k b);
+      level-byte = level-admitted net level;
       vectors-most = vectors-admitted vectors c;
       narrow = no-high-bit net vectors d;
     }
@@ -107,7 +156,7 @@ admitted-set net k vectors (a, (b, (c, (d, e)))) =
     positive l (inr (inr (inl q))) = omega arith
     positive l (inr (inr (inr q))) = omega arith
 
--- a call on a test set, by what rows 5 to 8 say
+-- a call on a test set, by what those rows say
 module _ (net : Network) (k : ℕ) (vectors : List ℕ) where
   pub set-refuses : {A : Type 0} (more : List (ℕ × Bool)) (x : A) (number : ℕ) → set-admission net k vectors ≡ refused number
       → by-tests (set-tests net k vectors ++ more) x ≡ refused number

@@ -1,14 +1,28 @@
--- What receivers read: wired OR, and soft 1 where nothing is driven (source document 000, sections 2 and 3).
+-- What receivers read: wired OR, and the soft level where nothing is driven (source document 000, sections 2 and 3).
 use Prim.Native.Nat.{ℕ, _-_, _^_, _<_}
 use mathlib.Core.Path.{_≡_}
 use mathlib.Core.Logic.{_⊎_, _↔_}
-use mathlib.Core.Bool.{Bool, true, _&&_, _||_}
-use mathlib.Core.List.{List, map}
+use mathlib.Core.Bool.{Bool, true, _&&_, cond}
+use mathlib.Core.List.{List, [], _∷_, map}
 use lib.Dec.{eqb}
 use lib.ListN.{length}
 use Rattle.words.specs.Bits.{has, word, at}
 use Rattle.words.specs.Searching.{any}
 use Rattle.network.specs.declared.Network.{Network}
+
+-- ---- networks by name
+
+-- n nets, and the level that their receivers float to
+abbrev pub network-with : (nets level : ℕ) → Network
+network-with nets level = record { nets = nets; level = level }
+
+-- document 01's networks: floating receivers read 1
+abbrev pub network-of : ℕ → Network
+network-of nets = network-with nets 1
+
+-- the soft level, what a floating receiver reads; row 17 refuses every number but 0 and 1
+abbrev pub soft-level : Network → Bool
+soft-level net = eqb (net .level) 1
 
 -- ---- driver sets and vectors by name
 
@@ -27,6 +41,14 @@ walking-vector net i = 2 ^ i
 unfoldable pub extra-vector : Network → ℕ
 extra-vector net = 0
 
+-- whether there is a use for it: a floating receiver reads what a driver that drives 1 makes any other read
+unfoldable pub needs-extra : Network → Bool
+needs-extra net = soft-level net
+
+-- the extra vector, if there is one
+unfoldable pub extra-vectors : Network → List ℕ
+extra-vectors net = cond (needs-extra net) (extra-vector net ∷ []) []
+
 -- ---- reading
 
 -- some driver is in both sets
@@ -35,11 +57,12 @@ meets net a b = any (net .nets) (λ j. has a j && has b j)
 
 -- what a receiver of this reach reads on a vector
 unfoldable pub reads : Network → ℕ → ℕ → Bool
-reads net reach vector = let driven = meets net reach vector in eqb reach 0 || driven
+reads net reach vector = let driven = meets net reach vector in cond (eqb reach 0) (soft-level net) driven
 
--- the same, said of the drivers: the reach is empty, or some driver in it drives 1
+-- the same, said of the drivers: the reach is empty and the level is 1, or some driver in the reach drives 1
 abbrev pub Reads1 : Network → ℕ → ℕ → Type 0
-Reads1 net reach vector = (reach ≡ 0) ⊎ ((j : ℕ) × (j < net .nets) × (has reach j ≡ true) × (has vector j ≡ true))
+Reads1 net reach vector =
+    ((reach ≡ 0) × (net .level ≡ 1)) ⊎ ((j : ℕ) × (j < net .nets) × (has reach j ≡ true) × (has vector j ≡ true))
 
 -- the sequential word (SRV) of a receiver of this reach: bit t is what it reads on vector t
 unfoldable pub sequential-response : Network → List ℕ → ℕ → ℕ

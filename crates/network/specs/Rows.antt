@@ -8,7 +8,7 @@ use lib.Dec.{eqb, leb, ltb}
 use lib.ListN.{length}
 use Rattle.words.specs.Bits.{at}
 use Rattle.words.specs.Searching.{any}
-use Rattle.words.specs.Answers.{Answer, refused, full, by-tests}
+use Rattle.words.specs.Answers.{Answer, refused, full, NoneHolds, by-tests, first-number}
 use Rattle.network.specs.declared.Network.{Network}
 use Rattle.network.specs.declared.Admission.{Admission}
 use Rattle.network.specs.declared.Admission.the-variants.{Admitted, Refused}
@@ -23,6 +23,10 @@ Row5 net = (net .nets < 2) ⊎ (48 < net .nets)
 -- class: k not 1, 2, 3 or n, or above n
 abbrev pub Row6 : Network → ℕ → Type 0
 Row6 net k = (¬ ((k ≡ 1) ⊎ ((k ≡ 2) ⊎ ((k ≡ 3) ⊎ (k ≡ net .nets))))) ⊎ (net .nets < k)
+
+-- soft level: neither 0 nor 1
+abbrev pub Row17 : Network → Type 0
+Row17 net = ¬ ((net .level ≡ 0) ⊎ (net .level ≡ 1))
 
 -- vectors: fewer than 1 or more than 64
 abbrev pub Row7 : List ℕ → Type 0
@@ -52,6 +56,9 @@ bad-net-count net = ltb (net .nets) 2 || ltb 48 (net .nets)
 abbrev pub bad-class : Network → ℕ → Bool
 bad-class net k = not (eqb k 1 || (eqb k 2 || (eqb k 3 || eqb k (net .nets)))) || ltb (net .nets) k
 
+abbrev pub bad-level : Network → Bool
+bad-level net = not (eqb (net .level) 0 || eqb (net .level) 1)
+
 abbrev pub bad-vector-count : List ℕ → Bool
 bad-vector-count vectors = ltb (length vectors) 1 || ltb 64 (length vectors)
 
@@ -64,13 +71,30 @@ bad-response-count vectors responses = not (eqb responses vectors)
 abbrev pub no-room : ℕ → ℕ → Bool
 no-room result room = ltb room result
 
--- ---- rows 5, 6, 7 and 8, with which every call on a test set begins
+-- ---- the rows of a network alone: a call that takes no class begins with them, and a session's record keeps to them
+
+abbrev pub NetworkRows : Network → List (ℕ × Type 0)
+NetworkRows net = (5, Row5 net) ∷ (17, Row17 net) ∷ []
+
+abbrev pub network-tests : Network → List (ℕ × Bool)
+network-tests net = (5, bad-net-count net) ∷ (17, bad-level net) ∷ []
+
+-- the number of the first that holds, or 0
+abbrev pub network-refusal : Network → ℕ
+network-refusal net = first-number (network-tests net)
+
+-- a network that they let through
+abbrev pub AdmittedNetwork : Network → Type 0
+AdmittedNetwork net = NoneHolds (NetworkRows net)
+
+-- ---- rows 5, 6, 17, 7 and 8, with which every call on a test set begins
 
 abbrev pub SetRows : Network → ℕ → List ℕ → List (ℕ × Type 0)
-SetRows net k vectors = (5, Row5 net) ∷ (6, Row6 net k) ∷ (7, Row7 vectors) ∷ (8, HighBit net vectors) ∷ []
+SetRows net k vectors = (5, Row5 net) ∷ (6, Row6 net k) ∷ (17, Row17 net) ∷ (7, Row7 vectors) ∷ (8, HighBit net vectors) ∷ []
 
 abbrev pub set-tests : Network → ℕ → List ℕ → List (ℕ × Bool)
-set-tests net k vectors = (5, bad-net-count net) ∷ (6, bad-class net k) ∷ (7, bad-vector-count vectors) ∷ (8, has-high-bit net vectors) ∷ []
+set-tests net k vectors =
+    (5, bad-net-count net) ∷ (6, bad-class net k) ∷ (17, bad-level net) ∷ (7, bad-vector-count vectors) ∷ (8, has-high-bit net vectors) ∷ []
 
 -- what they say alone, computed, and as the code's enum means it
 abbrev pub set-admission : Network → ℕ → List ℕ → Answer (Unit {0})

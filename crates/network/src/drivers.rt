@@ -1,10 +1,11 @@
 // Driver sets and vectors by name. Helpers between crates: the nets are those that row 5 admits.
 ghost use mathlib.Core.Path.{_≡_};
 ghost use mathlib.Core.Logic.{_↔_};
-ghost use mathlib.Core.Bool.{true};
+ghost use mathlib.Core.Bool.{true, _&&_};
 ghost use Prim.Native.Nat.{ℕ, _<_, _≤_, _^_};
+ghost use lib.Dec.{eqb};
 ghost use Rattle.words.specs.Bits.{has};
-ghost use Rattle.network.specs.Reading.{«all-drivers», «all-but», «walking-vector», «extra-vector»};
+ghost use Rattle.network.specs.Reading.{«all-drivers», «all-but», «walking-vector», «extra-vector», «needs-extra»};
 use crate::Network;
 use words::Ptv;
 
@@ -37,6 +38,22 @@ pub fn extra_vector(net: Network) -> Ptv
     ensures { λ r. ⌜ r .0 ≡ extra-vector net ⌝ }
 {
     Ptv(0)
+}
+
+// Whether there is a use for it.
+pub fn needs_extra(net: Network) -> bool
+    ensures { λ r. ⌜ r ≡ needs-extra net ⌝ }
+{
+    net.level == 1
+}
+
+// Whether a vector is the extra vector, and there is a use for it.
+pub fn is_extra(net: Network, vector: u64) -> bool
+    ensures { λ r. ⌜ r ≡ needs-extra net && eqb vector (extra-vector net) ⌝ }
+{
+    let needed = needs_extra(net);
+    let extra = extra_vector(net);
+    needed & (vector == extra.0)
 }
 
 // The driver that a walking vector names, as a set; the empty set for any other vector. Its trailing zeros are the net.

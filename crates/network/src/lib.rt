@@ -8,12 +8,14 @@ pub mod drivers;
 pub mod receivers;
 pub mod refusals;
 
-// The nets of a network, n in document 01: each has one driver and one receiver.
+// The nets of a network, n in document 01: each has one driver and one receiver. The soft level is what a receiver
+// reads that floats, 0 or 1.
 pub struct Network {
     pub nets: u64,
+    pub level: u64,
 }
 
-// What rows 5 to 8 say of a network, a class and a test set.
+// What the rows of a network, a class and a test set say.
 pub enum Admission {
     Admitted,
     Refused(u64),
@@ -25,7 +27,7 @@ pub enum Responded {
     Refused(u64),
 }
 
-// The call *response from a state*: one response word a vector into the front of `out`. Rows 5, 6, 7, 8, 11, 12.
+// The call *response from a state*: one response word a vector into the front of `out`. Rows 5, 6, 17, 7, 8, 11, 12.
 pub fn response_from_state(
     net: Network,
     class: u64,

@@ -18,15 +18,14 @@ pub fn meets(net: Network, a: u64, b: u64) -> bool
     a & b != 0
 }
 
-// What a receiver of this reach reads on a vector: soft 1 where it floats, else whether a driver in its reach drives 1.
+// What a receiver of this reach reads on a vector: 1 if it floats and the soft level is 1, or if a driver in its reach
+// drives 1. There is no branch on what it reads, since this is the innermost loop of all that compares responses.
 fn reads(net: Network, reach: u64, vector: Ptv) -> bool
     requires { ⌜ reach < 2 ^ (net .nets) ⌝ }
     ensures { λ r. ⌜ r ≡ reads net reach (vector .0) ⌝ }
 {
-    if reach == 0 {
-        return true;
-    }
-    meets(net, reach, vector.0)
+    let driven = meets(net, reach, vector.0);
+    ((reach == 0) & (net.level == 1)) | driven
 }
 
 // Bit t is what a receiver of this reach reads on vector t.

@@ -5,13 +5,13 @@ ghost use Prim.Native.Nat.{ℕ, _<_, _≤_, _^_};
 ghost use lib.ListN.{length};
 ghost use Rattle.words.specs.Bits.{at};
 ghost use Rattle.network.specs.States.{«few-drivers», «has-wrong-reach», «has-conflict», «not-a-state»};
-ghost use Rattle.network.specs.Rows.{«bad-net-count», «bad-class», «bad-vector-count», «has-high-bit»};
-ghost use Rattle.network.specs.Rows.{«bad-response-count», «no-room», «set-admission», admission};
+ghost use Rattle.network.specs.Rows.{«bad-net-count», «bad-class», «bad-level», «bad-vector-count», «has-high-bit»};
+ghost use Rattle.network.specs.Rows.{«bad-response-count», «no-room», «network-refusal», «set-admission», admission};
 use crate::Admission;
 use crate::Network;
 
 // Row 5: n below 2 or above 48.
-pub fn bad_net_count(net: Network) -> bool
+fn bad_net_count(net: Network) -> bool
     ensures { λ r. ⌜ r ≡ bad-net-count net ⌝ }
 {
     let n = net.nets;
@@ -24,6 +24,14 @@ fn bad_class(net: Network, class: u64) -> bool
 {
     let n = net.nets;
     !((class == 1) | ((class == 2) | ((class == 3) | (class == n)))) | (n < class)
+}
+
+// Row 17: the soft level neither 0 nor 1.
+fn bad_level(net: Network) -> bool
+    ensures { λ r. ⌜ r ≡ bad-level net ⌝ }
+{
+    let level = net.level;
+    !((level == 0) | (level == 1))
 }
 
 // Row 7: fewer than 1 vector or more than 64.
@@ -50,7 +58,20 @@ pub fn has_high_bit(net: Network, words: &[u64]) -> bool
     false
 }
 
-// Rows 5 to 8, with which every call on a test set begins.
+// The first of a network's own rows, 5 and 17, that holds, or 0.
+pub fn network_refusal(net: Network) -> u64
+    ensures { λ r. ⌜ r ≡ network-refusal net ⌝ }
+{
+    if bad_net_count(net) {
+        return 5;
+    }
+    if bad_level(net) {
+        return 17;
+    }
+    0
+}
+
+// Rows 5, 6, 17, 7 and 8, with which every call on a test set begins.
 pub fn admit_set(net: Network, class: u64, vectors: &[u64]) -> Admission
     ensures { λ r. ⌜ admission r ≡ set-admission net class (now (vectors .entry)) ⌝ }
 {
@@ -59,6 +80,9 @@ pub fn admit_set(net: Network, class: u64, vectors: &[u64]) -> Admission
     }
     if bad_class(net, class) {
         return Admission::Refused(6);
+    }
+    if bad_level(net) {
+        return Admission::Refused(17);
     }
     if bad_vector_count(vectors) {
         return Admission::Refused(7);

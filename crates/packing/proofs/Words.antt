@@ -10,7 +10,7 @@ use Rattle.words.specs.Answers.{full, lent-after}
 use Rattle.words.specs.Writing.{written}
 use Rattle.words.proofs.Writing.{written-next, written-front}
 use Rattle.session.specs.declared.Session.{Session}
-use Rattle.packing.specs.Packed.{session-words, session-of, session-size}
+use Rattle.packing.specs.Packed.{first-place, reaches-place, spent-place, session-size, session-head, session-words, session-of}
 
 -- words put into the part of a list from a place on
 pub part-written : (out from part : List ℕ) (place : ℕ) → part ≡ lent-after (full from) (take (length out - place) (drop place out))
@@ -39,38 +39,42 @@ all-written words lent e =
 -- the four parts of a record, put one after the other
 pub session-written : (session : Session) (lent headed answered reached all : List ℕ) → length (session .first) ≡ 8
     → length (session .reaches) ≡ 48
-    → headed ≡ written lent 0 (session .step ∷ session .network .nets ∷ []) → answered ≡ written headed 2 (session .first)
-    → reached ≡ written answered 10 (session .reaches) → all ≡ written reached 58 (session .spent ∷ [])
+    → headed ≡ written lent 0 (session-head session) → answered ≡ written headed first-place (session .first)
+    → reached ≡ written answered reaches-place (session .reaches) → all ≡ written reached spent-place (session .spent ∷ [])
     → all ≡ lent-after (full (session-words session)) lent
 unfolding session-words
 session-written session lent headed answered reached all first-size reaches-size a b c d =
-    let head = session .step ∷ session .network .nets ∷ [] in
+    let head = session-head session in
     let two : answered ≡ written lent 0 (head ++ session .first) =
-    written-next lent headed answered 0 2 head (session .first) a b (omega arith) (omega arith) in
+    written-next lent headed answered 0 first-place head (session .first) a b (omega arith) (omega arith) in
     let three : reached ≡ written lent 0 (head ++ session .first ++ session .reaches) =
-    written-next lent answered reached 0 10 (head ++ session .first) (session .reaches) two c (omega arith) (omega arith) in
+    written-next lent answered reached 0 reaches-place (head ++ session .first) (session .reaches) two c (omega arith) (omega arith) in
     let size = length-append (session .first) (session .reaches) in
-    written-next lent reached all 0 58 (head ++ session .first ++ session .reaches) (session .spent ∷ []) three d
+    written-next lent reached all 0 spent-place (head ++ session .first ++ session .reaches) (session .spent ∷ []) three d
     (omega arith) (omega arith)
     ∙ written-front lent (session-words session)
 
--- the words of the record that 59 words are
+-- the words of the record that so many words are
 pub session-there : (words : List ℕ) → length words ≡ session-size → session-words (session-of words) ≡ words
 unfolding session-words session-of
 session-there words e =
-    let step : words ≡ at words 0 ∷ drop 1 words = drop-cons words 0 0 (omega arith) in
-    let nets : drop 1 words ≡ at words 1 ∷ drop 2 words = drop-cons words 1 0 (omega arith) in
-    let first : take 8 (drop 2 words) ++ drop 10 words ≡ drop 2 words =
-    ap (λ (rest : List ℕ). take 8 (drop 2 words) ++ rest) (sym (drop-drop 8 2 words)) ∙ take-append-drop 8 (drop 2 words) in
-    let reaches : take 48 (drop 10 words) ++ drop 58 words ≡ drop 10 words =
-    ap (λ (rest : List ℕ). take 48 (drop 10 words) ++ rest) (sym (drop-drop 48 10 words)) ∙ take-append-drop 48 (drop 10 words) in
-    let spent : drop 58 words ≡ at words 58 ∷ [] =
-    drop-cons words 58 0 (omega arith) ∙ ap (λ (rest : List ℕ). at words 58 ∷ rest) (drop-of-length-le words {i = 59} (omega arith)) in
-    let tail : take 8 (drop 2 words) ++ take 48 (drop 10 words) ++ at words 58 ∷ [] ≡ drop 2 words =
-    append-assoc (take 8 (drop 2 words)) (take 48 (drop 10 words)) (at words 58 ∷ [])
-    ∙ ap (λ (rest : List ℕ). take 8 (drop 2 words) ++ (take 48 (drop 10 words) ++ rest)) (sym spent)
-    ∙ ap (λ (rest : List ℕ). take 8 (drop 2 words) ++ rest) reaches ∙ first in
-    ap (λ (rest : List ℕ). at words 0 ∷ at words 1 ∷ rest) tail ∙ ap (λ (rest : List ℕ). at words 0 ∷ rest) (sym nets) ∙ sym step
+    let answers = take 8 (drop first-place words) in
+    let states = take 48 (drop reaches-place words) in
+    let front : words ≡ at words 0 ∷ at words 1 ∷ at words 2 ∷ drop first-place words =
+    drop-cons words 0 0 (omega arith)
+    ∙ ap (λ (rest : List ℕ). at words 0 ∷ rest)
+    (drop-cons words 1 0 (omega arith) ∙ ap (λ (rest : List ℕ). at words 1 ∷ rest) (drop-cons words 2 0 (omega arith))) in
+    let first : answers ++ drop reaches-place words ≡ drop first-place words =
+    ap (λ (rest : List ℕ). answers ++ rest) (sym (drop-drop 8 first-place words)) ∙ take-append-drop 8 (drop first-place words) in
+    let reaches : states ++ drop spent-place words ≡ drop reaches-place words =
+    ap (λ (rest : List ℕ). states ++ rest) (sym (drop-drop 48 reaches-place words)) ∙ take-append-drop 48 (drop reaches-place words) in
+    let spent : drop spent-place words ≡ at words spent-place ∷ [] =
+    drop-cons words spent-place 0 (omega arith)
+    ∙ ap (λ (rest : List ℕ). at words spent-place ∷ rest) (drop-of-length-le words {i = session-size} (omega arith)) in
+    let tail : answers ++ states ++ at words spent-place ∷ [] ≡ drop first-place words =
+    append-assoc answers states (at words spent-place ∷ []) ∙ ap (λ (rest : List ℕ). answers ++ (states ++ rest)) (sym spent)
+    ∙ ap (λ (rest : List ℕ). answers ++ rest) reaches ∙ first in
+    ap (λ (rest : List ℕ). at words 0 ∷ at words 1 ∷ at words 2 ∷ rest) tail ∙ sym front
 
 -- ---- a record with arrays of 8 and 48 words
 
@@ -78,12 +82,12 @@ pub record Sized (session : Session) : Type 0 where
   pub first-size : length (session .first) ≡ 8
   pub reaches-size : length (session .reaches) ≡ 48
 
--- the record that 59 words are is such
+-- the record that so many words are is such
 pub session-sized : (words : List ℕ) → length words ≡ session-size → Sized (session-of words)
 unfolding session-of
 session-sized words e = record {
-  first-size = length-take-le 8 (drop 2 words) (omega (arith, length-drop 2 words));
-  reaches-size = length-take-le 48 (drop 10 words) (omega (arith, length-drop 10 words));
+  first-size = length-take-le 8 (drop first-place words) (omega (arith, length-drop first-place words));
+  reaches-size = length-take-le 48 (drop reaches-place words) (omega (arith, length-drop reaches-place words));
 }
 
 module _ (session : Session) (sized : Sized session) where

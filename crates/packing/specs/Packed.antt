@@ -1,17 +1,14 @@
 -- Results as words, and a session's record from words, for a caller that knows lists of words only.
-use Prim.Native.Nat.{ℕ}
+use Prim.Native.Nat.{ℕ, _+_}
 use mathlib.Core.List.{List, [], _∷_, _++_}
 use lib.ListN.{length, take, drop}
 use Rattle.words.specs.Bits.{at}
-use Rattle.network.specs.declared.Network.{Network}
+use Rattle.network.specs.Reading.{network-with}
 use Rattle.checker.specs.declared.Verdict.{Verdict}
 use Rattle.checker.specs.declared.Verdict.the-variants.{Pass, Pair}
 use Rattle.findings.specs.declared.Finding.{Finding}
 use Rattle.session.specs.declared.Session.{Session}
 use Rattle.reader.specs.Reader.{JobContent}
-
-abbrev pub network-of : ℕ → Network
-network-of nets = record { nets = nets }
 
 -- 0 0 0 for pass, or 1 and the pair
 unfoldable pub verdict-words : Verdict → List ℕ
@@ -23,29 +20,42 @@ unfoldable pub finding-words : List Finding → List ℕ
 finding-words [] = []
 finding-words (found ∷ table) = found .kind ∷ found .reach ∷ found .partners ∷ finding-words table
 
--- nets, class, number of vectors, number of responses
+-- nets, level, class, number of vectors, number of responses
 unfoldable pub job-words : JobContent → List ℕ
-job-words job = job .network .nets ∷ job .class ∷ length (job .vectors) ∷ length (job .responses) ∷ []
+job-words job = job .network .nets ∷ job .network .level ∷ job .class ∷ length (job .vectors) ∷ length (job .responses) ∷ []
 
 -- how many bytes a file has
 abbrev pub size-words : List ℕ → List ℕ
 size-words file = length file ∷ []
 
--- how many words a session's record has
+-- where the parts of a session's record stand among its words, and how many words it has
+abbrev pub first-place : ℕ
+first-place = 3
+
+abbrev pub reaches-place : ℕ
+reaches-place = first-place + 8
+
+abbrev pub spent-place : ℕ
+spent-place = reaches-place + 48
+
 abbrev pub session-size : ℕ
-session-size = 59
+session-size = spent-place + 1
 
--- step, nets, 8 words of first answers, 48 reaches, vectors spent
+-- step, nets, level
+abbrev pub session-head : Session → List ℕ
+session-head session = session .step ∷ session .network .nets ∷ session .network .level ∷ []
+
+-- then 8 words of first answers, 48 reaches, vectors spent
 unfoldable pub session-words : Session → List ℕ
-session-words session = session .step ∷ session .network .nets ∷ session .first ++ session .reaches ++ session .spent ∷ []
+session-words session = session-head session ++ session .first ++ session .reaches ++ session .spent ∷ []
 
--- the record that 59 words are
+-- the record that so many words are
 unfoldable pub session-of : List ℕ → Session
 session-of words =
     record {
       step = at words 0;
-      network = network-of (at words 1);
-      first = take 8 (drop 2 words);
-      reaches = take 48 (drop 10 words);
-      spent = at words 58;
+      network = network-with (at words 1) (at words 2);
+      first = take 8 (drop first-place words);
+      reaches = take 48 (drop reaches-place words);
+      spent = at words spent-place;
     }

@@ -14,8 +14,8 @@ use Rattle.words.specs.Turning.{tabulate}
 use Rattle.words.proofs.Tests.{neither}
 use Rattle.words.proofs.Columns.{length-tabulate, tabulate-at}
 use Rattle.jobfile.specs.Bytes.{number-at}
-use Rattle.jobfile.specs.Layout.{Layout, entry-count, bodies-at, body-offset, body-length, bad-layout, bad-bodies}
-use Rattle.jobfile.specs.Layout.{body-words, has-responses, file-responses}
+use Rattle.jobfile.specs.Layout.{Layout, entry-count, bodies-at, body-offset, body-length, nets-size, bad-layout}
+use Rattle.jobfile.specs.Layout.{bad-bodies, body-words, has-responses, file-responses}
 use Rattle.jobfile.proofs.FileRows.{test→layout, two-entries}
 
 module _ (file : List ℕ) (e : bad-layout file ≡ false) where
@@ -37,11 +37,12 @@ module _ (file : List ℕ) (e : bad-layout file ≡ false) where
   body-inside : (i : ℕ) → i < entry-count file → body-offset file i + body-length file i ≤ length file
   body-inside i l = body-ends (entry-count file - suc i) i (omega arith)
 
-  pub nets-inside : bad-bodies file ≡ false → body-offset file 0 + 2 ≤ length file
+  pub nets-inside : bad-bodies file ≡ false → body-offset file 0 + nets-size ≤ length file
   unfolding bad-bodies
   nets-inside f =
       let words = any (entry-count file) (λ i. ltb 0 i && not (eqb (body-length file i % 8) 0)) in
-      let two : body-length file 0 ≡ 2 = eqb-true _ _ (not-false _ (neither (not (eqb (body-length file 0) 2)) words f .0)) in
+      let size : body-length file 0 ≡ nets-size =
+      eqb-true _ _ (not-false _ (neither (not (eqb (body-length file 0) nets-size)) words f .0)) in
       omega (arith, body-inside 0 (omega (arith, two-entries file e)))
 
   -- at most 256 words, each in the file

@@ -12,7 +12,7 @@ use Rattle.jobfile.specs.Layout.{bad-mark, bad-layout, bad-bodies, file-network
 use Rattle.reader.specs.declared.Job.{Job}
 use Rattle.reader.specs.Reader.{JobContent, content, read-answer, vectors-read, responses-read, counted}
 
--- rows 5 to 10; 9 and 10 only where responses are given
+-- the rows of the test set, 9 and 10; these two only where responses are given
 abbrev pub content-tests : Network → ℕ → (vectors responses : List ℕ) → Bool → List (ℕ × Bool)
 content-tests net k vectors responses given =
     set-tests net k vectors
@@ -54,24 +54,25 @@ module _ (file : List ℕ) (vectors-room responses-room : ℕ) where
       by-row-3 e = rw (mark, layout, e)
 
       module _ (bodies : bad-bodies file ≡ false) where
-        abbrev rows-5-to-10 : List (ℕ × Bool)
-        rows-5-to-10 = content-tests (file-network file) (file-class file) (body-words file 1) (file-responses file) (has-responses file)
+        abbrev file-content-tests : List (ℕ × Bool)
+        file-content-tests =
+            content-tests (file-network file) (file-class file) (body-words file 1) (file-responses file) (has-responses file)
 
         by-content : read-answer file vectors-room responses-room
-            ≡ by-tests (rows-5-to-10 ++ (12, file-no-room file vectors-room responses-room) ∷ []) (content file)
+            ≡ by-tests (file-content-tests ++ (12, file-no-room file vectors-room responses-room) ∷ []) (content file)
         unfolding read-answer by-tests content
         by-content = rw (mark, layout, bodies)
 
-        pub by-rows-5-to-10 : (number : ℕ) → file-admission file ≡ refused number
+        pub by-content-row : (number : ℕ) → file-admission file ≡ refused number
             → read-answer file vectors-room responses-room ≡ refused number
-        by-rows-5-to-10 number e = by-content
-            ∙ shared-refuse tt (content file) rows-5-to-10
+        by-content-row number e = by-content
+            ∙ shared-refuse tt (content file) file-content-tests
             ((12, file-no-room file vectors-room responses-room) ∷ []) number e
 
         module _ (admitted : file-admission file ≡ full tt) where
           by-own : read-answer file vectors-room responses-room
               ≡ by-tests ((12, file-no-room file vectors-room responses-room) ∷ []) (content file)
-          by-own = by-content ∙ shared-pass tt (content file) rows-5-to-10
+          by-own = by-content ∙ shared-pass tt (content file) file-content-tests
               ((12, file-no-room file vectors-room responses-room) ∷ []) tt admitted
 
           pub by-row-12 : file-no-room file vectors-room responses-room ≡ true → read-answer file vectors-room responses-room ≡ refused 12

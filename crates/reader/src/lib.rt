@@ -25,7 +25,7 @@ pub enum ReadJob {
     Refused(u64),
 }
 
-// Rows 5 to 10 and 12, or the content into the fronts of the lists. Rows 1, 2 and 3 do not hold.
+// The rows of the test set, 9, 10 and 12, or the content into the fronts of the lists. Rows 1, 2 and 3 do not hold.
 fn read_content(file: &[u8], vectors: &mut [u64], responses: &mut [u64]) -> ReadJob
     requires { ⌜ (bad-mark (now file) ≡ false) × (bad-layout (now file) ≡ false) × (bad-bodies (now file) ≡ false) ⌝ }
     ensures answer { λ r. ⌜ meaning r
@@ -71,7 +71,7 @@ fn read_content(file: &[u8], vectors: &mut [u64], responses: &mut [u64]) -> Read
 }
 
 // The call *read a job file*: the vectors into the front of `vectors`, the responses into the front of `responses`.
-// Rows 1, 2, 3, 5 to 10, 12.
+// Rows 1, 2, 3, 5, 6, 17, 7, 8, 9, 10, 12.
 pub fn read_job(file: &[u8], vectors: &mut [u64], responses: &mut [u64]) -> ReadJob
     ensures answer { λ r. ⌜ meaning r
         ≡ counted (read-answer (now (file .entry)) (length (now (vectors .entry)))

@@ -10,8 +10,9 @@ ghost use Rattle.words.specs.Answers.{«by-tests»};
 ghost use Rattle.network.specs.Rows.{admission, «set-tests», «bad-response-count», «has-high-bit», «no-room»};
 ghost use Rattle.jobfile.specs.Bytes.{«number-at»};
 ghost use Rattle.jobfile.specs.Layout.{«entry-count», «bodies-at», «body-offset», «body-length», «bad-entry»};
-ghost use Rattle.jobfile.specs.Layout.{«bad-layout», «bad-bodies», «file-network», «file-class», «body-words»};
-ghost use Rattle.jobfile.specs.Layout.{«has-responses», «file-responses»};
+ghost use Rattle.jobfile.specs.Layout.{«bad-layout», «bad-bodies», «nets-size», «nets-byte», «file-network»};
+ghost use Rattle.jobfile.specs.Layout.{«file-class», «body-words», «has-responses», «file-responses»};
+use jobfile::NETS_SIZE;
 use network::Admission;
 use network::Network;
 
@@ -99,12 +100,12 @@ pub fn bad_layout(file: &[u8]) -> bool
     false
 }
 
-// Row 3: nets body not 2 bytes, or another not a multiple of 8.
+// Row 3: nets body not of its size, or another not a multiple of 8.
 pub fn bad_bodies(file: &[u8]) -> bool
     requires { ⌜ bad-layout (now file) ≡ false ⌝ }
     ensures { λ r. ⌜ r ≡ bad-bodies (now (file .entry)) ⌝ }
 {
-    if body_length(file, 0) != 2 {
+    if body_length(file, 0) != NETS_SIZE as u64 {
         return true;
     }
     let count = entry_count(file);
@@ -118,14 +119,23 @@ pub fn bad_bodies(file: &[u8]) -> bool
     false
 }
 
-// The network: the first byte of the nets body.
+// Byte i of the nets body.
+fn nets_byte(file: &[u8], i: usize) -> u64
+    requires { ⌜ (bad-layout (now file) ≡ false) × (bad-bodies (now file) ≡ false) × (i < nets-size) ⌝ }
+    ensures { λ r. ⌜ r ≡ nets-byte (now (file .entry)) i ⌝ }
+{
+    let at = body_offset(file, 0) as usize;
+    file[at + i] as u64
+}
+
+// The network: the first and the third byte of the nets body.
 pub fn file_network(file: &[u8]) -> Network
     requires { ⌜ (bad-layout (now file) ≡ false) × (bad-bodies (now file) ≡ false) ⌝ }
     ensures { λ r. ⌜ r ≡ file-network (now (file .entry)) ⌝ }
 {
-    let at = body_offset(file, 0) as usize;
     Network {
-        nets: file[at] as u64,
+        nets: nets_byte(file, 0),
+        level: nets_byte(file, 2),
     }
 }
 
@@ -134,8 +144,7 @@ pub fn file_class(file: &[u8]) -> u64
     requires { ⌜ (bad-layout (now file) ≡ false) × (bad-bodies (now file) ≡ false) ⌝ }
     ensures { λ r. ⌜ r ≡ file-class (now (file .entry)) ⌝ }
 {
-    let at = body_offset(file, 0) as usize;
-    file[at + 1] as u64
+    nets_byte(file, 1)
 }
 
 // How many words body i has.
@@ -191,7 +200,7 @@ pub fn response_words(file: &[u8]) -> [u64; 256]
     [0u64; 256]
 }
 
-// Rows 5 to 10 on the content of a file; 9 and 10 only where responses are given.
+// The rows of the test set, 9 and 10 on the content of a file; these two only where responses are given.
 pub fn admit_job(
     network: Network,
     class: u64,

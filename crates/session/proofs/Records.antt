@@ -15,8 +15,8 @@ use Rattle.words.specs.Searching.{any}
 use Rattle.words.proofs.Tests.{and-left, and-right, and-both, and-false}
 use Rattle.words.proofs.Searching.{any-at, any-none, any-false}
 use Rattle.network.specs.declared.Network.{Network}
-use Rattle.network.specs.Rows.{bad-net-count, has-high-bit}
-use Rattle.network.proofs.Rows.{decides-row-5, nets-admitted}
+use Rattle.network.specs.Rows.{AdmittedNetwork, has-high-bit}
+use Rattle.network.proofs.Rows.{network-admitted, admitted-refusal, nets-admitted}
 use Rattle.steps.specs.FirstStep.{word-length}
 use Rattle.steps.specs.SecondStep.{unclear}
 use Rattle.steps.proofs.StepOneWords.{length-bounds}
@@ -98,16 +98,16 @@ hold-at (suc i) (test ∷ tests) e = hold-at i tests (and-right test _ e)
 
 -- ---- a record that waits for first answers
 
-pub awaits-first-of : (net : Network) → bad-net-count net ≡ false → awaits-first (awaiting-first net) ≡ true
+pub awaits-first-of : (net : Network) → AdmittedNetwork net → awaits-first (awaiting-first net) ≡ true
 unfolding awaits-first all-hold
-awaits-first-of net e = rw (e, zeros-of 8, zeros-of 48)
+awaits-first-of net h = rw (admitted-refusal net h, zeros-of 8, zeros-of 48)
 
 module _ (s : Session) (e : awaits-first s ≡ true) where
   pub awaits-first-step : s .step ≡ 1
   unfolding awaits-first
   awaits-first-step = eqb-true (s .step) 1 (hold-at 0 _ e)
 
-  pub awaits-first-is : (s ≡ awaiting-first (s .network)) × (bad-net-count (s .network) ≡ false)
+  pub awaits-first-is : (s ≡ awaiting-first (s .network)) × AdmittedNetwork (s .network)
   unfolding awaits-first
   awaits-first-is = (
     λ j. record {
@@ -117,7 +117,7 @@ module _ (s : Session) (e : awaits-first s ≡ true) where
       reaches = zeros-are 48 (s .reaches) (hold-at 3 _ e) j;
       spent = eqb-true (s .spent) 0 (hold-at 4 _ e) j;
     },
-    not-true _ (hold-at 1 _ e),
+    network-admitted (s .network) (eqb-true _ 0 (hold-at 1 _ e)),
   )
 
 -- ---- a record that waits for second answers
@@ -125,20 +125,29 @@ module _ (s : Session) (e : awaits-first s ≡ true) where
 pub held-of : (net : Network) (answers : List ℕ) → length answers ≡ word-length net → held-answers (awaiting-second net answers) ≡ answers
 held-of net answers e = take-at answers (replicate (8 - length answers) 0) (word-length net) e
 
-pub awaits-second-of : (net : Network) (answers : List ℕ) → bad-net-count net ≡ false → length answers ≡ word-length net
+pub awaits-second-of : (net : Network) (answers : List ℕ) → AdmittedNetwork net → length answers ≡ word-length net
     → word-length net ≤ 8
     → has-high-bit net answers ≡ false → length (unclear net answers) ≢ 0 → awaits-second (awaiting-second net answers) ≡ true
 unfolding awaits-second all-hold
-awaits-second-of net answers count e l high some =
+awaits-second-of net answers h e l high some =
     let size : length (pad 8 answers) ≡ 8 = pad-size 8 answers (omega arith) in
     let rest : drop (word-length net) (pad 8 answers) ≡ replicate (8 - word-length net) 0 =
     drop-at answers (replicate (8 - length answers) 0) (word-length net) e ∙ ap (λ (n : ℕ). replicate (8 - n) 0) e
     in
-    rw (count, eq-eqb _ _ size, rest, zeros-of (8 - word-length net), held-of net answers e, high, ne-eqb _ _ some, zeros-of 48)
+    rw (
+      admitted-refusal net h,
+      eq-eqb _ _ size,
+      rest,
+      zeros-of (8 - word-length net),
+      held-of net answers e,
+      high,
+      ne-eqb _ _ some,
+      zeros-of 48,
+    )
 
 pub record WaitsForSecond (s : Session) : Type 0 where
   pub is : s ≡ awaiting-second (s .network) (held-answers s)
-  pub nets-good : bad-net-count (s .network) ≡ false
+  pub admitted : AdmittedNetwork (s .network)
   pub one-a-vector : length (held-answers s) ≡ word-length (s .network)
   pub no-high-bit : has-high-bit (s .network) (held-answers s) ≡ false
   pub some-unclear : length (unclear (s .network) (held-answers s)) ≢ 0
@@ -148,9 +157,9 @@ module _ (s : Session) (e : awaits-second s ≡ true) where
   unfolding awaits-second
   awaits-second-step = eqb-true (s .step) 2 (hold-at 0 _ e)
 
-  pub awaits-second-nets : bad-net-count (s .network) ≡ false
+  pub awaits-second-network : AdmittedNetwork (s .network)
   unfolding awaits-second
-  awaits-second-nets = not-true _ (hold-at 1 _ e)
+  awaits-second-network = network-admitted (s .network) (eqb-true _ 0 (hold-at 1 _ e))
 
   -- the tests of the first answers held
   tests-held : first-answers-held (s .network) (s .first) ≡ true
@@ -167,7 +176,7 @@ module _ (s : Session) (e : awaits-second s ≡ true) where
       reaches = zeros-are 48 (s .reaches) (hold-at 3 _ e) j;
       spent = eqb-true (s .spent) 0 (hold-at 4 _ e) j;
     };
-    nets-good = awaits-second-nets;
+    admitted = awaits-second-network;
     one-a-vector = size;
     no-high-bit = not-true _ (hold-at 2 _ tests-held);
     some-unclear = eqb-false _ 0 (not-true _ (hold-at 3 _ tests-held));
@@ -175,7 +184,7 @@ module _ (s : Session) (e : awaits-second s ≡ true) where
     where
       bounds : (2 ≤ word-length (s .network)) × (word-length (s .network) ≤ 8)
       bounds =
-          let nets = nets-admitted (s .network) (decides-row-5 (s .network) .1 awaits-second-nets) in
+          let nets = nets-admitted (s .network) (awaits-second-network .0) in
           length-bounds (s .network) (nets .0) (nets .1)
 
       eight : length (s .first) ≡ 8

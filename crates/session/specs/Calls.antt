@@ -5,7 +5,7 @@ use mathlib.Core.List.{List, [], _∷_, _++_}
 use lib.ListN.{length}
 use Rattle.words.specs.Answers.{Answer, refused, full, by-tests}
 use Rattle.network.specs.declared.Network.{Network}
-use Rattle.network.specs.Rows.{bad-net-count, bad-response-count, has-high-bit, no-room}
+use Rattle.network.specs.Rows.{network-tests, bad-response-count, has-high-bit, no-room}
 use Rattle.diagnosis.specs.ReadBack.{read-back, no-state-fits}
 use Rattle.steps.specs.FirstStep.{first-vectors}
 use Rattle.steps.specs.SecondStep.{unclear, second-vectors, session-vectors, fault-free-state}
@@ -19,11 +19,11 @@ unfoldable pub stepped : Answer (List ℕ) → (new old : Session) → Stepped
 stepped (refused number) new old = record { code = number; session = old }
 stepped (full words) new old = record { code = 0; session = new }
 
--- ---- begin: rows 5 and 12
+-- ---- begin: rows 5, 17 and 12
 
 -- the call's answer, computed
 unfoldable pub begin-answer : Network → ℕ → Answer (List ℕ)
-begin-answer net room = by-tests ((5, bad-net-count net) ∷ (12, no-room (length (first-vectors net)) room) ∷ []) (first-vectors net)
+begin-answer net room = by-tests (network-tests net ++ (12, no-room (length (first-vectors net)) room) ∷ []) (first-vectors net)
 
 abbrev pub begun : Session → Network → ℕ → Stepped
 begun session net room = stepped (begin-answer net room) (awaiting-first net) session

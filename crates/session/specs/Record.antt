@@ -7,7 +7,7 @@ use lib.ListN.{length, take, drop, replicate}
 use Rattle.words.specs.Bits.{at}
 use Rattle.words.specs.Searching.{any}
 use Rattle.network.specs.declared.Network.{Network}
-use Rattle.network.specs.Rows.{bad-net-count, has-high-bit}
+use Rattle.network.specs.Rows.{network-refusal, has-high-bit}
 use Rattle.steps.specs.FirstStep.{word-length}
 use Rattle.steps.specs.SecondStep.{unclear}
 use Rattle.session.specs.declared.Session.{Session}
@@ -47,7 +47,7 @@ unfoldable pub awaits-first : Session → Bool
 awaits-first session =
     all-hold
     (eqb (session .step) 1
-    ∷ not (bad-net-count (session .network))
+    ∷ eqb (network-refusal (session .network)) 0
     ∷ is-zeros 8 (session .first)
     ∷ is-zeros 48 (session .reaches)
     ∷ eqb (session .spent) 0
@@ -68,7 +68,7 @@ unfoldable pub awaits-second : Session → Bool
 awaits-second session =
     all-hold
     (eqb (session .step) 2
-    ∷ not (bad-net-count (session .network))
+    ∷ eqb (network-refusal (session .network)) 0
     ∷ first-answers-held (session .network) (session .first)
     ∷ is-zeros 48 (session .reaches)
     ∷ eqb (session .spent) 0

@@ -38,14 +38,15 @@ fn refused(number: u64, session: Session) -> Stepped
     }
 }
 
-// The step of *begin*, by value: the vectors of step one into the front of `list`. Rows 5 and 12.
+// The step of *begin*, by value: the vectors of step one into the front of `list`. Rows 5, 17 and 12.
 fn begin_step(session: Session, net: Network, list: &mut [u64]) -> Stepped
     ensures session { λ r. ⌜ r .session ≡ begun session net (length (now (list .entry))) .session ⌝ }
     ensures code { λ r. ⌜ r .code ≡ begun session net (length (now (list .entry))) .code ⌝ }
     ensures list { λ r. ⌜ now (list .exit) ≡ lent-after (begin-answer net (length (now (list .entry)))) (now (list .entry)) ⌝ }
 {
-    if network::refusals::bad_net_count(net) {
-        return refused(5, session);
+    let code = network::refusals::network_refusal(net);
+    if code != 0 {
+        return refused(code, session);
     }
     let p = steps::first::word_length(net);
     if network::refusals::no_room(p as usize, list.len()) {

@@ -54,7 +54,7 @@ pub fn awaits_first(session: Session) -> bool
     if session.step != 1 {
         return false;
     }
-    if network::refusals::bad_net_count(session.network) {
+    if network::refusals::network_refusal(session.network) != 0 {
         return false;
     }
     if !is_zeros(&session.first) {
@@ -73,7 +73,7 @@ pub fn awaits_second(session: Session) -> bool
     if session.step != 2 {
         return false;
     }
-    if network::refusals::bad_net_count(session.network) {
+    if network::refusals::network_refusal(session.network) != 0 {
         return false;
     }
     if !holds_first_answers(session.network, &session.first) {

@@ -1,9 +1,9 @@
 // The calls on a session's record. A line is one of these:
-//     1 n room                    begin; `room` is the length of the list lent, at most 64
+//     1 n room                    begin, at the soft level set; `room` is the length of the list lent, at most 64
 //     2 room: answers             first answers
 //     3: answers                  second answers
 //     4: words; words             the vectors to drive next, of these two lists
-//     5 step n first reach spent  no call: the record is filled with these numbers
+//     5 step n first reach spent  no call: the record is filled with these numbers, and with the soft level set
 ghost use mathlib.Core.Path.{_≡_};
 ghost use Prim.Native.Nat.{_≤_};
 ghost use lib.ListN.{length};
@@ -14,13 +14,22 @@ use trials::lent::MARKER;
 use trials::read;
 use trials::read::END;
 use trials::read::MOST;
+use trials::setting::Setting;
 use trials::show;
 
+// The network of n nets in a setting.
+fn network_in(setting: Setting, nets: u64) -> Network {
+    Network {
+        nets: nets,
+        level: setting.level,
+    }
+}
+
 // A record with these numbers, in every entry of its lists too.
-fn filled(step: u64, nets: u64, first: u64, reach: u64, spent: u64) -> Session {
+fn filled(step: u64, net: Network, first: u64, reach: u64, spent: u64) -> Session {
     Session {
         step: step,
-        network: Network { nets: nets },
+        network: net,
         first: [first; 8],
         reaches: [reach; 48],
         spent: spent,
@@ -29,17 +38,17 @@ fn filled(step: u64, nets: u64, first: u64, reach: u64, spent: u64) -> Session {
 
 // A record that is no call's.
 pub fn junk() -> Session {
-    filled(7, 9, 5, 3, 4)
+    filled(7, Network { nets: 9, level: 6 }, 5, 3, 4)
 }
 
 // The record, shown and filled.
-fn try_record(step: u64, nets: u64, first: u64, reach: u64, spent: u64) -> Session {
+fn try_record(step: u64, net: Network, first: u64, reach: u64, spent: u64) -> Session {
     show::entry(b"record: step", step);
-    show::entry(b", nets", nets);
+    show::entry(b", nets", net.nets);
     show::entry(b", first answers all", first);
     show::entry(b", reaches all", reach);
     show::entry(b", spent", spent);
-    filled(step, nets, first, reach, spent)
+    filled(step, net, first, reach, spent)
 }
 
 fn answer_words(words: &[u64]) {
@@ -104,8 +113,8 @@ fn answered(after: Session, list: &[u64]) {
 }
 
 // Makes the call *begin* and shows its answer and the lent list.
-fn begin_into(before: Session, nets: u64, list: &mut [u64]) -> Session {
-    let done = session::by_value::begin(before, Network { nets: nets }, list);
+fn begin_into(before: Session, net: Network, list: &mut [u64]) -> Session {
+    let done = session::by_value::begin(before, net, list);
     if done.code != 0 {
         lent::refused(done.code, list);
     } else {
@@ -126,13 +135,13 @@ fn first_into(before: Session, answers: &[u64], list: &mut [u64]) -> Session {
 }
 
 // The call *begin*, with `room` entries lent.
-fn try_begin(before: Session, nets: u64, room: usize) -> Session
+fn try_begin(before: Session, net: Network, room: usize) -> Session
     requires { ⌜ room ≤ 64 ⌝ }
 {
     let mut list = [MARKER; 64];
-    show::entry(b"begin", nets);
+    show::entry(b"begin", net.nets);
     lent::room(room);
-    begin_into(before, nets, &mut list[0..room])
+    begin_into(before, net, &mut list[0..room])
 }
 
 // The call *first answers*, with `room` entries lent.
@@ -174,15 +183,21 @@ fn try_drive<'a>(before: Session, first: &'a [u64], second: &'a [u64]) {
 }
 
 // A line with no colon: *begin*, or a record that is filled.
-fn try_numbers(before: Session, head: &[u64; MOST], count: usize) -> Session
+fn try_numbers(before: Session, setting: Setting, head: &[u64; MOST], count: usize) -> Session
     requires { ⌜ length (now head) ≡ 65 ⌝ }
 {
     let room = head[2];
     if (count == 3) & (head[0] == 1) && room <= 64 {
-        return try_begin(before, head[1], room as usize);
+        return try_begin(before, network_in(setting, head[1]), room as usize);
     }
     if (count == 6) & (head[0] == 5) {
-        return try_record(head[1], head[2], head[3], head[4], head[5]);
+        return try_record(
+            head[1],
+            network_in(setting, head[2]),
+            head[3],
+            head[4],
+            head[5],
+        );
     }
     show::unreadable();
     before
@@ -216,14 +231,14 @@ fn try_lists(before: Session, head: &[u64; MOST], count: usize, line: &[u8], at:
 }
 
 // Tries a line, and returns the record after it.
-pub fn try_line(before: Session, line: &[u8]) -> Session {
+pub fn try_line(before: Session, setting: Setting, line: &[u8]) -> Session {
     let mut head = [0u64; MOST];
     let start = read::list_at(line, 0, &mut head);
     if start.mark == b':' {
         return try_lists(before, &head, start.count, line, start.end);
     }
     if start.mark == END {
-        return try_numbers(before, &head, start.count);
+        return try_numbers(before, setting, &head, start.count);
     }
     show::unreadable();
     before

@@ -1,12 +1,16 @@
-// The bench examples of document 01 for the session, its refusals, and records that no calls leave. Standard input has
-// them, a call a line (calls.rt). After a line `session`, the lines are calls on one record, which is junk at first. A
-// line a call: what it was given, and what it answered. `lent` gives the length of the list lent, and after `kept`
-// stand its entries that the call left as they were; after an accepted call stand what the record then says, and the
-// vectors to drive next.
+// The bench examples of document 01 for the session, its refusals, and records that no calls leave, at both soft
+// levels. Standard input has them, a call a line (calls.rt). After a line `session`, the lines are calls on one record,
+// which is junk at first, and the soft level is 1; a line `level L` gives that of the lines after it, up to the next
+// such line. A line a call: what it was given, and what it answered; `session` and `level` lines are shown too, and
+// what has not its form as unreadable. `lent` gives the length of the list lent, and after `kept` stand its entries
+// that the call left as they were; after an accepted call stand what the record then says, and the vectors to drive
+// next.
 mod calls;
 
 use session::Session;
 use trials::Line;
+use trials::setting;
+use trials::setting::Setting;
 use trials::show;
 
 // A line `session` starts a record of junk.
@@ -21,28 +25,32 @@ fn begun(line: &[u8]) -> Session {
 }
 
 // Makes the call that a line gives, and returns the record after it.
-fn called(before: Session, line: &[u8]) -> Session {
-    let after = calls::try_line(before, line);
+fn called(before: Session, setting: Setting, line: &[u8]) -> Session {
+    let after = calls::try_line(before, setting, line);
     show::end_line();
     after
 }
 
 // Tries a line, and returns the record after it.
-fn try_line(before: Session, line: &[u8]) -> Session {
+fn try_line(before: Session, setting: Setting, line: &[u8]) -> Session {
     match trials::kind_of(line) {
         Line::Skipped => before,
+        Line::Setting => before,
         Line::Name => begun(line),
-        Line::Call => called(before, line),
+        Line::Call => called(before, setting, line),
     }
 }
 
 // Tries the lines of a text one by one.
 fn try_each(text: &[u8]) {
     let mut record = calls::junk();
+    let mut setting = setting::usual();
     let mut at: usize = 0;
     while at < text.len() {
         let end = bytes::scan::find(text, at, text.len(), b'\n');
-        record = try_line(record, &text[at..end]);
+        let line = &text[at..end];
+        setting = setting::after(setting, line);
+        record = try_line(record, setting, line);
         at = end + 1;
     }
 }

@@ -2,8 +2,8 @@
 use mathlib.Core.Path.{_≡_, refl, sym, ap, ap₂, _∙_, subst}
 use mathlib.Core.Bool.{Bool, true, false, not, _&&_}
 use mathlib.Core.Logic.{⊎-elim, _≢_}
-use mathlib.Core.List.{List, [], _∷_, _++_, map-append}
-use Prim.Native.Nat.{ℕ, suc, _+_, _-_, _^_, _≤_, _<_, zero-le}
+use mathlib.Core.List.{List, [], _∷_, _++_, map, map-append}
+use Prim.Native.Nat.{ℕ, _+_, _-_, _^_, _≤_, _<_, zero-le}
 use native.Mathlib.Nat.{not-suc-le-zero}
 use native.Mathlib.Omega.{arith}
 use lib.Dec.{eqb}
@@ -23,10 +23,12 @@ use Rattle.words.proofs.Passing.{count-most, count-grows-past, larger-by-count,
 use Rattle.words.proofs.Searching.{any-at, any-none}
 use Rattle.words.proofs.Tests.{cases, contrary, and-left, and-right, and-both, same-truth, less-or-not, test-fails}
 use Rattle.network.specs.declared.Network.{Network}
-use Rattle.network.specs.Reading.{walking-vector, extra-vector, reads, ReadAlike, sequential-response, response-word, response}
+use Rattle.network.specs.Reading.{soft-level, walking-vector, extra-vector, needs-extra, extra-vectors, reads, ReadAlike}
+use Rattle.network.specs.Reading.{sequential-response, response-word, response}
 use Rattle.network.specs.States.{DriverSet, State, Fits}
-use Rattle.network.proofs.Reading.{reads-floating, reads-driven, reads-only, reads-walking, reads-extra, has-sequential}
-use Rattle.network.proofs.Reading.{sequential-below, alike-sequential, response-is}
+use Rattle.network.proofs.Reading.{active, extra-one, extra-most, reads-floating, reads-active, reads-alone, reads-walking}
+use Rattle.network.proofs.Reading.{reads-walking-all, reads-extra, has-sequential, active-answers, sequential-below}
+use Rattle.network.proofs.Reading.{alike-sequential, response-is}
 use Rattle.diagnosis.specs.ReadBack.{read-back, no-state-fits}
 use Rattle.diagnosis.specs.Walking.{Walked}
 use Rattle.diagnosis.proofs.Gathering.{walked-is}
@@ -102,18 +104,16 @@ module _ (net : Network) (k : ℕ) (vectors responses state : List ℕ) (fits : 
 
 -- ---- the vectors of step one
 
-module _ (net : Network) where
-  -- a receiver that one driver alone reaches reads what it drives
-  reads-alone : (i vector : ℕ) → i < net .nets → reads net (2 ^ i) vector ≡ has vector i
-  reads-alone i vector l =
-      same-truth (reads net (2 ^ i) vector) (has vector i)
-      (λ e. let r = reads-only net (2 ^ i) vector (has-not-zero (2 ^ i) i (has-own i)) e in
-      subst (λ (x : ℕ). has vector x ≡ true) (sym (has-only i (r .0) (r .2))) (r .3))
-      (λ e. reads-driven net (2 ^ i) vector i l (has-own i) e)
-
 module _ (net : Network) (apart : WordsApart net) where
   has-first : (t i : ℕ) → t < word-length net → i < net .nets → has (at (first-vectors net) t) i ≡ has (at (sequential-words net) i) t
   has-first t i l m = first-has net t i l (rw (apart .size) m)
+
+  -- of two words, the one is active at a vector where the other is not
+  uncovered-active : (i j : ℕ) → i < net .nets → j < net .nets → i ≢ j
+      → (t : ℕ) × (t < word-length net) × (active net (has (at (sequential-words net) j) t) ≡ true)
+      × (active net (has (at (sequential-words net) i) t) ≡ false)
+  unfolding active
+  uncovered-active i j l m d = apart .uncovered i j l m d
 
   -- a reach that returns net i's word is its driver alone
   own-word : (i a : ℕ) → i < net .nets → a < 2 ^ (net .nets)
@@ -125,18 +125,23 @@ module _ (net : Network) (apart : WordsApart net) where
       returned : (t : ℕ) → t < word-length net → reads net a (at (first-vectors net) t) ≡ has (at (sequential-words net) i) t
       returned t m = sym (has-sequential net (first-vectors net) a t (rw (first-size net) m)) ∙ ap (λ (w : ℕ). has w t) e
 
+      -- a floating receiver reads the soft level, and the word has the other value somewhere
+      floats : a ≡ 0 → (t : ℕ) → t < word-length net → soft-level net ≡ has (at (sequential-words net) i) t
+      floats q t m =
+          sym (ap (λ (x : ℕ). reads net x (at (first-vectors net) t)) q ∙ reads-floating net (at (first-vectors net) t))
+          ∙ returned t m
+
       driven : a ≢ 0
       driven q =
-          let g = apart .has-gap i l in
-          contrary (ap (λ (x : ℕ). reads net x (at (first-vectors net) (g .0))) q
-          ∙ reads-floating net (at (first-vectors net) (g .0))) (returned (g .0) (g .1) ∙ g .2)
+          ⊎-elim (λ s. let g = apart .has-gap i l in contrary s (floats q (g .0) (g .1) ∙ g .2))
+          (λ s. let g = apart .has-one i l in contrary (floats q (g .0) (g .1) ∙ g .2) s) (cases (soft-level net))
 
       only : (j : ℕ) → j < net .nets → has a j ≡ true → i ≡ j
       only j m on =
           ⊎-elim (λ q. eqb-true i j q)
-          (λ q. let o = apart .uncovered i j l m (eqb-false i j q) in
-          contrary (reads-driven net a (at (first-vectors net) (o .0)) j m on (has-first (o .0) j (o .1) m ∙ o .2))
-          (returned (o .0) (o .1) ∙ o .3)) (cases (eqb i j))
+          (λ q. let o = uncovered-active i j l m (eqb-false i j q) in
+          contrary (reads-active net a (at (first-vectors net) (o .0)) j m on (ap (active net) (has-first (o .0) j (o .1) m) ∙ o .2))
+          (ap (active net) (returned (o .0) (o .1)) ∙ o .3)) (cases (eqb i j))
 
       there : (j : ℕ) → j < net .nets → has a j ≡ true → has (2 ^ i) j ≡ true
       there j m on = ap (has (2 ^ i)) (sym (only j m on)) ∙ has-own i
@@ -202,17 +207,25 @@ module _ (net : Network) (answers : List ℕ) where
 -- ---- the vectors of step two
 
 module _ (net : Network) where
-  pub settling-size : (nets : List ℕ) → length nets ≢ 0 → length (settling-vectors net nets) ≡ length nets + 1
-  settling-size [] some = absurd (some refl)
-  settling-size (i ∷ nets) some = let e = length-map (i ∷ nets) (walking-vector net) in omega (arith, e)
+  settling-is : (nets : List ℕ) → length nets ≢ 0 → settling-vectors net nets ≡ extra-vectors net ++ map (walking-vector net) nets
+  settling-is [] some = absurd (some refl)
+  settling-is (i ∷ nets) some = refl
 
-  pub settling-extra : (nets : List ℕ) → length nets ≢ 0 → at (settling-vectors net nets) 0 ≡ extra-vector net
-  settling-extra [] some = absurd (some refl)
-  settling-extra (i ∷ nets) some = refl
+  pub settling-size : (nets : List ℕ) → length nets ≢ 0 → length (settling-vectors net nets) ≡ length nets + length (extra-vectors net)
+  settling-size nets some =
+      ap length (settling-is nets some)
+      ∙ omega (arith, length-append (extra-vectors net) (map (walking-vector net) nets), length-map nets (walking-vector net))
 
-  pub settling-walking : (nets : List ℕ) (u : ℕ) → u < length nets → at (settling-vectors net nets) (suc u) ≡ walking-vector net (at nets u)
-  settling-walking [] u l = absurd (not-suc-le-zero l)
-  settling-walking (i ∷ nets) u l = map-at (walking-vector net) 0 (i ∷ nets) u l
+  pub settling-extra : needs-extra net ≡ true → (nets : List ℕ) → length nets ≢ 0 → at (settling-vectors net nets) 0 ≡ extra-vector net
+  settling-extra e nets some =
+      ap (λ (ws : List ℕ). at ws 0)
+      (settling-is nets some ∙ ap (λ (xs : List ℕ). xs ++ map (walking-vector net) nets) (extra-one net e))
+
+  pub settling-walking : (nets : List ℕ) (u : ℕ) → u < length nets
+      → at (settling-vectors net nets) (length (extra-vectors net) + u) ≡ walking-vector net (at nets u)
+  settling-walking nets u l =
+      ap (λ (ws : List ℕ). at ws (length (extra-vectors net) + u)) (settling-is nets (λ e. not-suc-le-zero {n = u} (rw e at l)))
+      ∙ getD-append-add (extra-vectors net) (map (walking-vector net) nets) u 0 ∙ map-at (walking-vector net) 0 nets u l
 
   settling-none : (nets : List ℕ) → length nets ≡ 0 → settling-vectors net nets ≡ []
   settling-none [] none = refl
@@ -220,7 +233,9 @@ module _ (net : Network) where
 
   settling-most : (nets : List ℕ) → length (settling-vectors net nets) ≤ length nets + 1
   settling-most [] = zero-le
-  settling-most (i ∷ nets) = let e = settling-size (i ∷ nets) (λ q. absurd (not-suc-le-zero {n = 0} (omega (arith, q)))) in omega (arith, e)
+  settling-most (i ∷ nets) =
+      let e = settling-size (i ∷ nets) (λ q. absurd (not-suc-le-zero {n = 0} (omega (arith, q)))) in
+      omega (arith, e, extra-most net)
 
 module _ (net : Network) (answers : List ℕ) where
   is-unclear : ℕ → Bool
@@ -259,7 +274,8 @@ module _ (net : Network) (answers : List ℕ) where
   some-unclear : (j : ℕ) → j < net .nets → is-clear net answers j ≡ false → length (unclear net answers) ≢ 0
   some-unclear j l e none = contrary (all-clear none j l) e
 
-  pub second-size : length (unclear net answers) ≢ 0 → length (second-vectors net answers) ≡ length (unclear net answers) + 1
+  pub second-size : length (unclear net answers) ≢ 0
+      → length (second-vectors net answers) ≡ length (unclear net answers) + length (extra-vectors net)
   unfolding second-vectors
   second-size some = settling-size net (unclear net answers) some
 
@@ -267,11 +283,14 @@ module _ (net : Network) (answers : List ℕ) where
   unfolding second-vectors
   second-none none = settling-none net (unclear net answers) none
 
-  -- the extra vector comes first
-  extra-in : length (unclear net answers) ≢ 0
+  -- the extra vector comes first, if there is one
+  extra-in : length (unclear net answers) ≢ 0 → needs-extra net ≡ true
       → (0 < length (second-vectors net answers)) × (at (second-vectors net answers) 0 ≡ extra-vector net)
   unfolding second-vectors
-  extra-in some = (omega (arith, settling-size net (unclear net answers) some), settling-extra net (unclear net answers) some)
+  extra-in some e = (
+    omega (arith, settling-size net (unclear net answers) some, ap length (extra-one net e)),
+    settling-extra net e (unclear net answers) some,
+  )
 
   -- then the walking vector of each unclear net
   unclear-in : (j : ℕ) → j < net .nets → is-clear net answers j ≡ false
@@ -279,7 +298,7 @@ module _ (net : Network) (answers : List ℕ) where
   unfolding second-vectors
   unclear-in j l e =
       let r = unclear-place j l e in (
-        suc (r .0),
+        length (extra-vectors net) + r .0,
         omega (arith, r .1, settling-size net (unclear net answers) (some-unclear j l e)),
         settling-walking net (unclear net answers) (r .0) (r .1) ∙ ap (walking-vector net) (r .2),
       )
@@ -362,10 +381,21 @@ module _ (net : Network) (apart : WordsApart net) (first second state : List ℕ
           (reach-inside net (net .nets) (session-vectors net first) (first ++ second) state fits i l)
           (λ j m on. also j m on (unclear-drivers i j l m e on))
         where
-          extra : reads net set (extra-vector net) ≡ reads net (at state i) (extra-vector net)
-          extra =
-              let r = extra-in net first (some-unclear net first i l e) in
+          extra : needs-extra net ≡ true → reads net set (extra-vector net) ≡ reads net (at state i) (extra-vector net)
+          extra s =
+              let r = extra-in net first (some-unclear net first i l e) s in
               ap (reads net set) (sym (r .1)) ∙ parts .1 0 (r .0) ∙ ap (reads net (at state i)) (r .1)
+
+          also-driven : at state i ≢ 0 → needs-extra net ≡ true → set ≢ 0
+          also-driven driven s =
+              eqb-false set 0
+              (sym (reads-extra net s set) ∙ ap (active net) (extra s) ∙ reads-extra net s (at state i)
+              ∙ ne-eqb (at state i) 0 driven)
+
+          shown : at state i ≢ 0 → (j : ℕ) → j < net .nets → active net (reads net set (walking-vector net j)) ≡ has set j
+          shown driven j m =
+              ⊎-elim (λ s. reads-walking net set j m (also-driven driven s)) (λ s. reads-walking-all net s set j m)
+              (cases (needs-extra net))
 
           also : (j : ℕ) → j < net .nets → has (at state i) j ≡ true
               → (u : ℕ) × (u < length (second-vectors net first))
@@ -373,11 +403,9 @@ module _ (net : Network) (apart : WordsApart net) (first second state : List ℕ
               → has set j ≡ true
           also j m on (u, lu, w) =
               let driven : at state i ≢ 0 = has-not-zero (at state i) j on in
-              let also-driven : set ≢ 0 =
-              eqb-false set 0 (sym (reads-extra net set) ∙ extra ∙ reads-extra net (at state i)
-              ∙ ne-eqb (at state i) 0 driven) in
-              sym (reads-walking net set j m also-driven) ∙ ap (reads net set) (sym w) ∙ parts .1 u lu
-              ∙ ap (reads net (at state i)) w ∙ reads-walking net (at state i) j m driven ∙ on
+              sym (shown driven j m)
+              ∙ ap (active net) (ap (reads net set) (sym w) ∙ parts .1 u lu ∙ ap (reads net (at state i)) w)
+              ∙ reads-walking net (at state i) j m driven ∙ on
 
   -- so the state is what is read back
   pub both-read-back : (no-state-fits net (net .nets) (session-vectors net first) (first ++ second) ≡ false)
@@ -390,12 +418,13 @@ module _ (net : Network) (apart : WordsApart net) (first second state : List ℕ
   pub decoded-reach : (i reach : ℕ) → i < net .nets → is-clear net first i ≡ false
       → Walked net (second-vectors net first) (column second i) reach → reach ≡ at state i
   decoded-reach i reach l e w =
-      let extra = extra-in net first (some-unclear net first i l e) in
       sym
       (walked-is net (second-vectors net first) (column second i) (at state i) reach
-      (reach-answers net (net .nets) (second-vectors net first) second state fits-second i l)
+      (active-answers net (second-vectors net first) (at state i) (column second i)
+      (reach-answers net (net .nets) (second-vectors net first) second state fits-second i l))
       (reach-inside net (net .nets) (session-vectors net first) (first ++ second) state fits i l)
-      (0, extra .0, extra .1) (λ j m on. unclear-drivers i j l m e on) w)
+      (λ s. let extra = extra-in net first (some-unclear net first i l e) s in (0, extra .0, extra .1))
+      (λ j m on. unclear-drivers i j l m e on) w)
 
 -- ---- whether some state fits both
 

@@ -4,7 +4,7 @@ use mathlib.Core.Path.{_≡_, refl, sym, ap, _∙_}
 use mathlib.Core.Bool.{Bool, true, false, not, _&&_}
 use mathlib.Core.Logic.{inl, inr, ⊎-elim, _≢_}
 use mathlib.Core.List.{List, [], _∷_}
-use Prim.Native.Nat.{ℕ, suc, _+_, _-_, _/_, _^_, _<_, _≤_, zero-le}
+use Prim.Native.Nat.{ℕ, zero, suc, _+_, _-_, _/_, _^_, _<_, _≤_, zero-le}
 use native.Mathlib.Nat.{not-suc-le-zero}
 use native.Mathlib.Omega.{arith}
 use lib.Dec.{eqb, leb}
@@ -20,6 +20,7 @@ use Rattle.words.proofs.Searching.{Least, first, nowhere, least-below, any-some
 use Rattle.words.proofs.Passing.{Entry, entry-is, entry-of, larger-by-count}
 use Rattle.words.proofs.Columns.{transpose-size, transpose-below, transpose-bits}
 use Rattle.network.specs.declared.Network.{Network}
+use Rattle.network.specs.Reading.{network-of}
 use Rattle.steps.specs.FirstStep.{binomial, word-length, balanced-words, sequential-words, first-vectors}
 use Rattle.steps.specs.FirstStep.{WordLength, SmallestWords, VectorsOfWords}
 use Rattle.steps.specs.Open.{open-steps}
@@ -37,13 +38,6 @@ none-from-two test k e n two l =
 unfoldable wrong-count : ℕ → Bool
 wrong-count p = not (eqb (length (balanced-words p)) (binomial p (p / 2)))
 
--- a word of p bits has no 0
-unfoldable gapless : ℕ → ℕ → Bool
-gapless p word = not (any p (λ t. not (has word t)))
-
-unfoldable some-gapless : ℕ → List ℕ → Bool
-some-gapless p words = any (length words) (λ i. gapless p (at words i))
-
 -- of words of p bits, a has every 1 of b
 unfoldable pub covers : ℕ → ℕ → ℕ → Bool
 covers p a b = not (any p (λ t. let a-has = has a t in has b t && not a-has))
@@ -55,17 +49,13 @@ none-wrong-count : any 7 (λ m. wrong-count (2 + m)) ≡ false
 unfolding open-steps wrong-count
 none-wrong-count = refl
 
-none-gapless : any 7 (λ m. some-gapless (2 + m) (balanced-words (2 + m))) ≡ false
-unfolding open-steps gapless some-gapless
-none-gapless = refl
-
 none-covers : any 7 (λ m. some-covers (2 + m) (balanced-words (2 + m))) ≡ false
 unfolding open-steps covers some-covers
 none-covers = refl
 
 -- n takes a p that is not from 2 to 8
 unfoldable length-outside : ℕ → Bool
-length-outside n = let p = word-length (record { nets = n }) in not (leb 2 p && leb p 8)
+length-outside n = let p = word-length (network-of n) in not (leb 2 p && leb p 8)
 
 none-outside : any 47 (λ m. length-outside (2 + m)) ≡ false
 unfolding open-steps length-outside
@@ -106,15 +96,6 @@ module _ (p : ℕ) (two : 2 ≤ p) (eight : p ≤ 8) where
   balanced-count : length (balanced-words p) ≡ binomial p (p / 2)
   unfolding wrong-count
   balanced-count = eqb-true _ _ (not-false _ (none-from-two wrong-count 7 none-wrong-count p two (omega arith)))
-
-  balanced-gap : (i : ℕ) → i < length (balanced-words p) → (t : ℕ) × (t < p) × (has (at (balanced-words p) i) t ≡ false)
-  unfolding some-gapless gapless
-  balanced-gap i l =
-      let words = balanced-words p in
-      let none : some-gapless p words ≡ false = none-from-two (λ q. some-gapless q (balanced-words q)) 7 none-gapless p two (omega arith) in
-      let here : gapless p (at words i) ≡ false = any-false (λ k. gapless p (at words k)) (length words) i l none in
-      let r = any-some (λ t. not (has (at words i) t)) p (not-false _ here) in
-      (r .0, r .1, not-true _ (r .2))
 
   balanced-apart : (i j : ℕ) → i < length (balanced-words p) → j < length (balanced-words p) → i ≢ j
       → (t : ℕ) × (t < p) × (has (at (balanced-words p) j) t ≡ true) × (has (at (balanced-words p) i) t ≡ false)
@@ -192,18 +173,24 @@ module _ (net : Network) (two : 2 ≤ net .nets) (most : net .nets ≤ 48) where
   }
 
   pub words-apart : WordsApart net
-  words-apart =
-      let p = word-length net in
-      let bounds = length-bounds in
-      record {
-        size = size;
-        below = λ i l. word-is i l .below;
-        has-gap = λ i l. rw (word-at i l) (balanced-gap p (bounds .0) (bounds .1) i (omega (arith, enough-words)));
-        uncovered = λ i j l m d.
-            rw (word-at i l, word-at j m)
-            (balanced-apart p (bounds .0) (bounds .1) i j (omega (arith, enough-words))
-            (omega (arith, enough-words)) d);
-      }
+  words-apart = record {
+    size = size;
+    below = λ i l. word-is i l .below;
+    has-gap = λ i l. let o = another i in let r = apart-at i (o .0) l (o .1) (λ e. o .2 (sym e)) in (r .0, r .1, r .3);
+    has-one = λ i l. let o = another i in let r = apart-at (o .0) i (o .1) l (o .2) in (r .0, r .1, r .2);
+    uncovered = apart-at;
+  }
+    where
+      apart-at : (i j : ℕ) → i < net .nets → j < net .nets → i ≢ j
+          → (t : ℕ) × (t < word-length net) × (has (at (sequential-words net) j) t ≡ true) × (has (at (sequential-words net) i) t ≡ false)
+      apart-at i j l m d =
+          rw (word-at i l, word-at j m)
+          (balanced-apart (word-length net) (length-bounds .0) (length-bounds .1) i j (omega (arith, enough-words, l))
+          (omega (arith, enough-words, m)) d)
+
+      another : (i : ℕ) → (j : ℕ) × (j < net .nets) × (j ≢ i)
+      another zero = (1, omega (arith, two), λ e. omega arith)
+      another (suc i) = (0, omega (arith, two), λ e. omega arith)
 
 -- ---- the vectors
 

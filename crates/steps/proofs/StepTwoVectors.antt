@@ -2,12 +2,12 @@
 use mathlib.Core.Path.{_≡_, refl, sym, ap, ap₂, _∙_}
 use mathlib.Core.Bool.{Bool, true, false, not}
 use mathlib.Core.Logic.{_≢_}
-use mathlib.Core.List.{List, [], _∷_, _++_, map}
+use mathlib.Core.List.{List, [], _∷_, _++_, map, append-nil, append-assoc}
 use Prim.Native.Nat.{ℕ, suc, _+_, _≤_, _<_}
 use native.Mathlib.Numerals.{add-one}
 use native.Mathlib.Omega.{arith}
 use lib.Dec.{eqb}
-use lib.ListN.{length, take, set, replicate, length-set, length-replicate}
+use lib.ListN.{length, take, set, length-set, length-append}
 use lib.Seq.{take-suc-set, length-take-le, getD-take, ext-getD}
 use borrow.Author.Tests.{ne-eqb}
 use Rattle.words.specs.Bits.{at}
@@ -17,21 +17,24 @@ use Rattle.words.proofs.Passing.{passing-yes, passing-no, count-passed}
 use Rattle.words.proofs.Making.{map-snoc}
 use Rattle.words.proofs.Columns.{transpose-size, transpose-at}
 use Rattle.network.specs.declared.Network.{Network}
-use Rattle.network.specs.Reading.{walking-vector, extra-vector}
+use Rattle.network.specs.Reading.{walking-vector, extra-vectors}
+use Rattle.network.proofs.Reading.{extra-most}
 use Rattle.steps.specs.FirstStep.{sequential-words}
 use Rattle.steps.specs.SecondStep.{only-at, is-clear, unclear, settling-vectors, second-vectors}
 use Rattle.steps.proofs.BothSteps.{second-none}
 
--- ---- no vectors where no net is given, and else the extra vector first
+-- ---- no vectors where no net is given, and else the extra vector first, if there is one
 
 settling-some : (net : Network) (nets : List ℕ) → length nets ≢ 0
-    → extra-vector net ∷ map (walking-vector net) nets ≡ settling-vectors net nets
+    → extra-vectors net ++ map (walking-vector net) nets ≡ settling-vectors net nets
 settling-some net [] n = absurd (n refl)
 settling-some net (i ∷ nets) n = refl
 
 settling-empty : (net : Network) (nets : List ℕ) → eqb (length (settling-vectors net nets)) 0 ≡ eqb (length nets) 0
 settling-empty net [] = refl
-settling-empty net (i ∷ nets) = ne-eqb (length (settling-vectors net (i ∷ nets))) 0 (λ e. omega arith)
+settling-empty net (i ∷ nets) =
+    ne-eqb (length (settling-vectors net (i ∷ nets))) 0
+    (λ e. omega (arith, length-append (extra-vectors net) (map (walking-vector net) (i ∷ nets)), e))
     ∙ sym (ne-eqb (suc (length nets)) 0 (λ e. omega arith))
 
 pub second-empty : (net : Network) (answers : List ℕ) → eqb (length (second-vectors net answers)) 0 ≡ eqb (length (unclear net answers)) 0
@@ -57,17 +60,18 @@ unclear-below words returned i = passing (λ z. not (only-at (at words z) return
 pub record Listed (net : Network) (words returned vectors : List ℕ) (count i : ℕ) : Type 0 where
   pub size : length vectors ≡ 49
   pub few : count ≤ i + 1
-  pub number : count ≡ suc (length (unclear-below words returned i))
-  pub front : take count vectors ≡ extra-vector net ∷ map (walking-vector net) (unclear-below words returned i)
+  pub number : count ≡ length (unclear-below words returned i) + length (extra-vectors net)
+  pub front : take count vectors ≡ extra-vectors net ++ map (walking-vector net) (unclear-below words returned i)
 
 module _ (net : Network) (words returned : List ℕ) where
-  pub listed-start : (x : ℕ) → x ≡ extra-vector net → Listed net words returned (set (replicate 49 0) 0 x) 1 0
+  pub listed-start : (vectors : List ℕ) (count : ℕ) → length vectors ≡ 49 → count ≡ length (extra-vectors net)
+      → take count vectors ≡ extra-vectors net → Listed net words returned vectors count 0
   unfolding passing
-  listed-start x e = record {
-    size = length-set (replicate 49 0) 0 x ∙ length-replicate {A = ℕ} 49 0;
-    few = omega arith;
-    number = refl;
-    front = ap (λ (y : ℕ). y ∷ []) e;
+  listed-start vectors count size e front = record {
+    size = size;
+    few = omega (arith, e, extra-most net);
+    number = e ∙ omega arith;
+    front = front ∙ sym (append-nil (extra-vectors net));
   }
 
   -- a net that is unclear, a net that is clear, and the end
@@ -77,12 +81,13 @@ module _ (net : Network) (words returned : List ℕ) where
     listed-more x l e w = rw (add-one i, add-one count) record {
       size = length-set vectors count x ∙ s .size;
       few = omega (arith, s .few);
-      number = ap suc (s .number ∙ sym (count-passed p i unsure));
+      number = omega (arith, s .number, count-passed p i unsure);
       front =
           take-suc-set vectors count x (omega (arith, s .few, s .size))
           ∙ ap₂ (λ (ys : List ℕ) (y : ℕ). ys ++ y ∷ []) (s .front) w
-          ∙ ap (λ (ys : List ℕ). extra-vector net ∷ ys) (sym (map-snoc (walking-vector net) (passing p i) i))
-          ∙ ap (λ (nets : List ℕ). extra-vector net ∷ map (walking-vector net) nets) (sym (passing-yes p i unsure));
+          ∙ append-assoc (extra-vectors net) (map (walking-vector net) (passing p i)) (walking-vector net i ∷ [])
+          ∙ ap (λ (ys : List ℕ). extra-vectors net ++ ys) (sym (map-snoc (walking-vector net) (passing p i) i))
+          ∙ ap (λ (nets : List ℕ). extra-vectors net ++ map (walking-vector net) nets) (sym (passing-yes p i unsure));
     }
       where
         p : ℕ → Bool
@@ -107,9 +112,10 @@ module _ (net : Network) (words returned : List ℕ) where
       unfolding unclear is-clear
       all-nets = rw (e, f, g)
 
-      pub listed-none : count ≡ 1 → [] ≡ second-vectors net answers
+      pub listed-none : count ≡ length (extra-vectors net) → [] ≡ second-vectors net answers
       listed-none h = sym (second-none net answers (omega (arith, s .number, ap length all-nets)))
 
-      pub listed-some : count ≢ 1 → take count vectors ≡ second-vectors net answers
+      pub listed-some : count ≢ length (extra-vectors net) → take count vectors ≡ second-vectors net answers
       unfolding second-vectors
-      listed-some h = s .front ∙ rw (← all-nets) (settling-some net (unclear-below words returned i) (λ z. h (s .number ∙ ap suc z)))
+      listed-some h = s .front
+          ∙ rw (← all-nets) (settling-some net (unclear-below words returned i) (λ z. h (s .number ∙ omega (arith, z))))

@@ -10,7 +10,7 @@ use Rattle.words.specs.Bits.{at}
 use Rattle.words.specs.Searching.{passing, any}
 use Rattle.words.specs.Turning.{tabulate, column, transpose}
 use Rattle.network.specs.declared.Network.{Network}
-use Rattle.network.specs.Reading.{walking-vector, extra-vector}
+use Rattle.network.specs.Reading.{walking-vector, extra-vectors}
 use Rattle.steps.specs.FirstStep.{sequential-words, first-vectors}
 
 -- entry i of a list is this word, and no other entry is
@@ -39,10 +39,10 @@ pub record UnclearNets (net : Network) (answers nets : List ℕ) : Type 0 where
   pub ascending : (u v : ℕ) → u < v → v < length nets → at nets u < at nets v
   pub not-clear : (i : ℕ) → i < net .nets → ((u : ℕ) × (u < length nets) × (at nets u ≡ i)) ↔ (¬ (Clear net answers i))
 
--- the extra vector, then the walking vector of each net given; nothing if there is none
+-- the extra vector, if there is one, then the walking vector of each net given; nothing if no net is
 abbrev pub settling-vectors : Network → List ℕ → List ℕ
 settling-vectors net [] = []
-settling-vectors net (i ∷ nets) = extra-vector net ∷ map (walking-vector net) (i ∷ nets)
+settling-vectors net (i ∷ nets) = extra-vectors net ++ map (walking-vector net) (i ∷ nets)
 
 -- the vectors of step two, by the first answers
 unfoldable pub second-vectors : Network → List ℕ → List ℕ

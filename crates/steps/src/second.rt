@@ -5,6 +5,7 @@ ghost use mathlib.Core.List.{List};
 ghost use Prim.Native.Nat.{ℕ, _<_, _≤_};
 ghost use lib.ListN.{length, take};
 ghost use Rattle.words.specs.Turning.{transpose};
+ghost use Rattle.network.specs.Reading.{«extra-vectors»};
 ghost use Rattle.steps.specs.FirstStep.{«sequential-words»};
 ghost use Rattle.steps.specs.SecondStep.{«only-at», «second-vectors»};
 use crate::SecondVectors;
@@ -28,8 +29,25 @@ pub fn only_at(word: u64, words: &[u64], i: usize) -> bool
     true
 }
 
-// The extra vector, then the walking vector of each net whose word its own receiver alone did not return; none if there
-// is no such net.
+// The extra vector, if there is one, and no other yet.
+fn extra_alone(net: Network) -> SecondVectors
+    ensures { λ r. ⌜ (length (r .words) ≡ 49) × (r .count ≡ length (extra-vectors net))
+        × (take (r .count) (r .words) ≡ extra-vectors net) ⌝ }
+{
+    let mut vectors = [0u64; 49];
+    let mut count: usize = 0;
+    if network::drivers::needs_extra(net) {
+        vectors[0] = network::drivers::extra_vector(net).0;
+        count = 1;
+    }
+    SecondVectors {
+        count: count,
+        words: vectors,
+    }
+}
+
+// The extra vector, if there is one, then the walking vector of each net whose word its own receiver alone did not
+// return; none if there is no such net.
 fn vectors_for_unclear(net: Network, words: &[u64], returned: &[u64]) -> SecondVectors
     requires { ⌜ (net .nets ≤ 48) × (now words ≡ sequential-words net) × (length (now words) ≡ net .nets)
         × (length (now returned) ≡ net .nets) ⌝ }
@@ -37,9 +55,10 @@ fn vectors_for_unclear(net: Network, words: &[u64], returned: &[u64]) -> SecondV
         → (length (r .words) ≡ 49) × (r .count ≤ 49)
         × (take (r .count) (r .words) ≡ second-vectors net answers)) ⌝ }
 {
-    let mut vectors = [0u64; 49];
-    vectors[0] = network::drivers::extra_vector(net).0;
-    let mut count: usize = 1;
+    let extra = extra_alone(net);
+    let start = extra.count;
+    let mut vectors = extra.words;
+    let mut count = start;
     let mut i: usize = 0;
     while i < words.len() {
         if !only_at(words[i], returned, i) {
@@ -48,7 +67,7 @@ fn vectors_for_unclear(net: Network, words: &[u64], returned: &[u64]) -> SecondV
         }
         i += 1;
     }
-    if count == 1 {
+    if count == start {
         count = 0;
     }
     SecondVectors {

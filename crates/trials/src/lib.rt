@@ -1,26 +1,32 @@
-// What the programs that try tables of calls share: the input, the lines of a table, the numbers in a line, and what is
-// shown of a call.
+// What the programs that try tables of calls share: the input, the lines of a table, what they say of the networks of
+// the calls, the numbers in a line, and what is shown of a call.
 ghost use Rattle.io.specs.Counts.{Counts};
 
 pub mod lent;
 pub mod read;
+pub mod setting;
 pub mod show;
 
 // What a line of a table is.
 pub enum Line {
     Skipped,
+    Setting,
     Name,
     Call,
 }
 
-// Empty lines and lines that begin with `#` are skipped, and a line that begins with a letter names the calls of the
-// lines after it.
+// Empty lines and lines that begin with `#` are skipped. A line that begins with `level` gives the soft level of the
+// calls on the lines after it (setting.rt). Any other that begins with a letter names those calls, or starts a record
+// for them.
 pub fn kind_of(line: &[u8]) -> Line {
     if line.len() == 0 {
         return Line::Skipped;
     }
     if line[0] == b'#' {
         return Line::Skipped;
+    }
+    if setting::is_setting(line) {
+        return Line::Setting;
     }
     if b'a' <= line[0] {
         return Line::Name;

@@ -7,7 +7,7 @@ pub fn text(bytes: &[u8]) {
     io::write_all(1, bytes);
 }
 
-// A line of the input that has not the form of its call.
+// A line of the input that has not the form it should have.
 pub fn unreadable() {
     text(b"unreadable line");
 }

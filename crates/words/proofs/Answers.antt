@@ -74,6 +74,19 @@ module _ {A : Type 0} (result : A → Type 0) where
   table-not-refused ((other, holds) ∷ rows) number (n, m) (inl (h, e)) = n h
   table-not-refused ((other, holds) ∷ rows) number (n, m) (inr (k, p)) = table-not-refused rows number m p
 
+-- of rows and others after them, none holds
+pub none-front : (rows more : List (ℕ × Type 0)) → NoneHolds (rows ++ more) → NoneHolds rows
+none-front [] more none = tt
+none-front ((number, holds) ∷ rows) more (fails, none) = (fails, none-front rows more none)
+
+pub none-rest : (rows more : List (ℕ × Type 0)) → NoneHolds (rows ++ more) → NoneHolds more
+none-rest [] more none = none
+none-rest ((number, holds) ∷ rows) more (fails, none) = none-rest rows more none
+
+pub none-both : (rows more : List (ℕ × Type 0)) → NoneHolds rows → NoneHolds more → NoneHolds (rows ++ more)
+none-both [] more none others = others
+none-both ((number, holds) ∷ rows) more (fails, none) others = (fails, none-both rows more none others)
+
 pub decided-append : (rows more : List (ℕ × Type 0)) (tests others : List (ℕ × Bool)) → Decided rows tests
     → (NoneHolds rows → Decided more others)
     → Decided (rows ++ more) (tests ++ others)

@@ -200,7 +200,7 @@ has-without (suc i) w (suc j) e =
 
 -- ---- two words that differ
 
-some-bit-differs : (n a b : ℕ) → a < 2 ^ n → b < 2 ^ n → a ≢ b → (i : ℕ) × (i < n) × (has a i ≢ has b i)
+pub some-bit-differs : (n a b : ℕ) → a < 2 ^ n → b < 2 ^ n → a ≢ b → (i : ℕ) × (i < n) × (has a i ≢ has b i)
 some-bit-differs zero a b ha hb d = absurd (d (lt-one ha ∙ sym (lt-one hb)))
 some-bit-differs (suc n) a b ha hb d =
     go (has a 0) (has b 0) refl refl (some-bit-differs n (a / 2) (b / 2) (half-below n ha) (half-below n hb))

@@ -30,6 +30,11 @@ unfoldable pub by-tests : {A : Type 0} → List (ℕ × Bool) → A → Answer A
 by-tests [] x = full x
 by-tests ((number, test) ∷ tests) x = let rest = by-tests tests x in cond test (refused number) rest
 
+-- that number alone, or 0
+abbrev pub first-number : List (ℕ × Bool) → ℕ
+first-number [] = 0
+first-number ((number, test) ∷ tests) = cond test number (first-number tests)
+
 -- a test that passes exactly where something holds
 abbrev pub Decides : Bool → Type 0 → Type 0
 Decides test holds = (test ≡ true → holds) × (test ≡ false → ¬ holds)

@@ -17,10 +17,10 @@ use Rattle.network.specs.declared.Network.{Network}
 use Rattle.network.specs.Rows.{SetRows, set-tests, bad-response-count}
 use Rattle.network.proofs.Rows.{decides-set, decides-row-9, decides-high-bit, decides-row-12}
 use Rattle.jobfile.specs.Bytes.{bytes-of, word-bytes}
-use Rattle.jobfile.specs.Layout.{mark, bodies-at}
+use Rattle.jobfile.specs.Layout.{mark, entry-at, bodies-at, nets-bytes, nets-size}
 use Rattle.jobfile.proofs.ByteLaws.{bytes-count, word-bytes-count}
-use Rattle.writer.specs.Writer.{entry-bytes, response-entry, entries-for, head-of, file-of, OwnRows, WriterRows}
-use Rattle.writer.specs.Writer.{given, own-tests, writer-tests, write-answer}
+use Rattle.writer.specs.Writer.{entry-bytes, response-entry, entries-for, head-of, bodies-of, file-of, OwnRows}
+use Rattle.writer.specs.Writer.{WriterRows, given, own-tests, writer-tests, write-answer}
 
 -- two entries, or three if there are responses
 pub entries-two : (responses : List ℕ) → length responses ≤ 0 → entries-for responses ≡ 2
@@ -54,7 +54,7 @@ entry-size kind offset size =
     omega arith
 
 pub response-entry-size : (offset : ℕ) (responses : List ℕ)
-    → 23 + length (response-entry offset responses) ≡ bodies-at (entries-for responses)
+    → entry-at 2 + length (response-entry offset responses) ≡ bodies-at (entries-for responses)
 response-entry-size offset [] = omega arith
 response-entry-size offset (word ∷ words) = let size = entry-size 3 offset (8 * length (word ∷ words)) in omega arith
 
@@ -62,24 +62,24 @@ module _ (vectors responses : List ℕ) where
   pub head-size : length (head-of vectors responses) ≡ bodies-at (entries-for responses)
   head-size =
       let start = bodies-at (entries-for responses) in
-      let one = entry-bytes 1 start 2 in
-      let two = entry-bytes 2 (start + 2) (8 * length vectors) in
-      let three = response-entry (start + 2 + 8 * length vectors) responses in
+      let one = entry-bytes 1 start nets-size in
+      let two = entry-bytes 2 (start + nets-size) (8 * length vectors) in
+      let three = response-entry (start + nets-size + 8 * length vectors) responses in
       let a = length-append (mark ++ entries-for responses ∷ one ++ two) three in
       let b = length-append (mark ++ entries-for responses ∷ one) two in
       let c = length-append mark (entries-for responses ∷ one) in
-      let d = entry-size 1 start 2 in
-      let e = entry-size 2 (start + 2) (8 * length vectors) in
-      let f = response-entry-size (start + 2 + 8 * length vectors) responses in
+      let d = entry-size 1 start nets-size in
+      let e = entry-size 2 (start + nets-size) (8 * length vectors) in
+      let f = response-entry-size (start + nets-size + 8 * length vectors) responses in
       omega arith
 
   pub file-size : (net : Network) (k : ℕ)
       → length (file-of net k vectors responses)
-      ≡ bodies-at (entries-for responses) + 2 + 8 * length vectors + 8 * length responses
+      ≡ bodies-at (entries-for responses) + nets-size + 8 * length vectors + 8 * length responses
   unfolding file-of
   file-size net k =
-      let a = length-append (head-of vectors responses ++ net .nets ∷ k ∷ word-bytes vectors) (word-bytes responses) in
-      let b = length-append (head-of vectors responses) (net .nets ∷ k ∷ word-bytes vectors) in
+      let a = length-append (head-of vectors responses) (bodies-of net k vectors responses) in
+      let b = length-append (nets-bytes net k ++ word-bytes vectors) (word-bytes responses) in
       let c = word-bytes-count vectors in
       let d = word-bytes-count responses in
       let e = head-size in

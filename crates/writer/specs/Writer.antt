@@ -1,4 +1,4 @@
--- The call *write a job file*: rows 5 to 10 and 12.
+-- The call *write a job file*: rows 5, 6, 17, 7, 8, 9, 10, 12.
 use Prim.Native.Nat.{ℕ, _+_, _*_}
 use mathlib.Core.Bool.{Bool, true, false, _&&_}
 use mathlib.Core.Logic.{_≢_}
@@ -8,7 +8,7 @@ use Rattle.words.specs.Answers.{Answer, refused, full, by-tests}
 use Rattle.network.specs.declared.Network.{Network}
 use Rattle.network.specs.Rows.{SetRows, Row9, HighBit, Row12, set-tests, bad-response-count, has-high-bit, no-room}
 use Rattle.jobfile.specs.Bytes.{bytes-of, word-bytes}
-use Rattle.jobfile.specs.Layout.{mark, bodies-at}
+use Rattle.jobfile.specs.Layout.{mark, bodies-at, nets-bytes, nets-size}
 use Rattle.writer.specs.declared.Wrote.{Wrote}
 use Rattle.writer.specs.declared.Wrote.the-variants.{Bytes, Refused}
 
@@ -31,13 +31,17 @@ head-of vectors responses =
     let start = bodies-at (entries-for responses) in
     mark
     ++ entries-for responses
-    ∷ entry-bytes 1 start 2
-    ++ entry-bytes 2 (start + 2) (8 * length vectors)
-    ++ response-entry (start + 2 + 8 * length vectors) responses
+    ∷ entry-bytes 1 start nets-size
+    ++ entry-bytes 2 (start + nets-size) (8 * length vectors)
+    ++ response-entry (start + nets-size + 8 * length vectors) responses
+
+-- the bodies
+abbrev pub bodies-of : Network → ℕ → (vectors responses : List ℕ) → List ℕ
+bodies-of net k vectors responses = nets-bytes net k ++ word-bytes vectors ++ word-bytes responses
 
 -- the file of this content
 unfoldable pub file-of : Network → ℕ → (vectors responses : List ℕ) → List ℕ
-file-of net k vectors responses = head-of vectors responses ++ net .nets ∷ k ∷ word-bytes vectors ++ word-bytes responses
+file-of net k vectors responses = head-of vectors responses ++ bodies-of net k vectors responses
 
 -- with no responses, rows 9 and 10 are not tested
 abbrev pub OwnRows : Network → ℕ → (vectors responses : List ℕ) → ℕ → List (ℕ × Type 0)

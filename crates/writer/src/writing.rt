@@ -1,15 +1,17 @@
-// Bytes put into a lent file. Helpers: each asks for room, and for nets, class and lists as the rows before row 12
-// leave them.
+// Bytes put into a lent file. Helpers: each asks for room, and for a network, class and lists as the rows before
+// row 12 leave them.
 ghost use mathlib.Core.Path.{_≡_};
-ghost use mathlib.Core.List.{[], _∷_, _++_};
+ghost use mathlib.Core.List.{[], _∷_};
 ghost use Prim.Native.Nat.{ℕ, _+_, _*_, _<_, _≤_};
 ghost use lib.ListN.{length};
 ghost use Rattle.words.specs.Answers.{full, «lent-after»};
 ghost use Rattle.words.specs.Writing.{written};
 ghost use Rattle.network.specs.declared.Network.{Network};
-ghost use Rattle.jobfile.specs.Bytes.{«bytes-of», «word-bytes»};
-ghost use Rattle.jobfile.specs.Layout.{«bodies-at»};
-ghost use Rattle.writer.specs.Writer.{«entry-bytes», «response-entry», «entries-for», «head-of», «file-of»};
+ghost use Rattle.jobfile.specs.Bytes.{«bytes-of», «word-bytes», AllBytes};
+ghost use Rattle.jobfile.specs.Layout.{«bodies-at», «nets-bytes», «nets-size»};
+ghost use Rattle.writer.specs.Writer.{«entry-bytes», «response-entry», «entries-for», «head-of»};
+ghost use Rattle.writer.specs.Writer.{«bodies-of», «file-of»};
+use jobfile::NETS_SIZE;
 use network::Network;
 
 // One byte.
@@ -78,7 +80,7 @@ pub fn file_size(vectors: &[u64], responses: &[u64]) -> usize
     requires { ⌜ (length (now vectors) ≤ 64) × (length (now responses) ≤ 64) ⌝ }
     ensures { λ r. ⌜ ((net : Network) (k : ℕ) → r ≡ length (file-of net k (now (vectors .entry)) (now (responses .entry)))) ⌝ }
 {
-    bodies_at(responses) + 2 + 8 * vectors.len() + 8 * responses.len()
+    bodies_at(responses) + NETS_SIZE + 8 * vectors.len() + 8 * responses.len()
 }
 
 // The entry of the responses, if there are any.
@@ -101,12 +103,22 @@ fn put_head(file: &mut [u8], vectors: &[u64], responses: &[u64])
     let size = 8 * vectors.len();
     jobfile::put_mark(file);
     put_byte(file, 4, entries as u8);
-    put_entry(file, 5, 1, start, 2);
-    put_entry(file, 14, 2, start + 2, size);
-    put_response_entry(file, 23, start + 2 + size, responses);
+    put_entry(file, 5, 1, start, NETS_SIZE);
+    put_entry(file, 14, 2, start + NETS_SIZE, size);
+    put_response_entry(file, 23, start + NETS_SIZE + size, responses);
 }
 
-// The bodies: the nets and the class, a byte each, then the words.
+// The nets body.
+fn put_nets(file: &mut [u8], offset: usize, net: Network, class: u64)
+    requires { ⌜ AllBytes (nets-bytes net class) × (offset + nets-size ≤ length (now file)) ⌝ }
+    ensures { λ r. ⌜ now (file .exit) ≡ written (now (file .entry)) offset (nets-bytes net class) ⌝ }
+{
+    put_byte(file, offset, net.nets as u8);
+    put_byte(file, offset + 1, class as u8);
+    put_byte(file, offset + 2, net.level as u8);
+}
+
+// The nets body, then the words.
 fn put_bodies(
     file: &mut [u8],
     offset: usize,
@@ -115,21 +127,20 @@ fn put_bodies(
     vectors: &[u64],
     responses: &[u64],
 )
-    requires { ⌜ (net .nets < 256) × (class < 256)
-        × (offset + 2 + 8 * length (now vectors) + 8 * length (now responses) ≤ length (now file)) ⌝ }
+    requires { ⌜ AllBytes (nets-bytes net class)
+        × (offset + nets-size + 8 * length (now vectors) + 8 * length (now responses) ≤ length (now file)) ⌝ }
     ensures { λ r. ⌜ now (file .exit)
         ≡ written (now (file .entry)) offset
-        (net .nets ∷ class ∷ word-bytes (now (vectors .entry)) ++ word-bytes (now (responses .entry))) ⌝ }
+        (bodies-of net class (now (vectors .entry)) (now (responses .entry))) ⌝ }
 {
-    put_byte(file, offset, net.nets as u8);
-    put_byte(file, offset + 1, class as u8);
-    put_words(file, offset + 2, vectors);
-    put_words(file, offset + 2 + 8 * vectors.len(), responses);
+    put_nets(file, offset, net, class);
+    put_words(file, offset + NETS_SIZE, vectors);
+    put_words(file, offset + NETS_SIZE + 8 * vectors.len(), responses);
 }
 
 // The whole file into the front of a lent one.
 pub fn put_file(file: &mut [u8], net: Network, class: u64, vectors: &[u64], responses: &[u64])
-    requires { ⌜ (net .nets < 256) × (class < 256) × (length (now vectors) ≤ 64)
+    requires { ⌜ AllBytes (nets-bytes net class) × (length (now vectors) ≤ 64)
         × (length (file-of net class (now vectors) (now responses)) ≤ length (now file)) ⌝ }
     ensures { λ r. ⌜ now (file .exit)
         ≡ lent-after (full (file-of net class (now (vectors .entry)) (now (responses .entry))))

@@ -1,6 +1,6 @@
 //! The checker, by the rule as it stands.
 
-use crate::network::read_along;
+use crate::network::{extra_vector, read_along, Network};
 use crate::rows::{rows_of_set, Rows};
 
 #[derive(Clone, Copy, Debug, PartialEq, Eq)]
@@ -40,9 +40,9 @@ fn with_a_higher_driver(set: u64, n: u64) -> Vec<u64> {
 }
 
 /// k below n: the smallest B for which a smaller set reads the same, with the smallest such set.
-pub fn search(n: u64, k: u64, vectors: &[u64]) -> Verdict {
-    let sets = sets_of_class(n, k);
-    let readings: Vec<u64> = sets.iter().map(|set| read_along(*set, vectors)).collect();
+pub fn search(net: Network, k: u64, vectors: &[u64]) -> Verdict {
+    let sets = sets_of_class(net.nets, k);
+    let readings: Vec<u64> = sets.iter().map(|set| read_along(net, *set, vectors)).collect();
     for b in 0..sets.len() {
         for a in 0..b {
             if readings[a] == readings[b] {
@@ -53,35 +53,35 @@ pub fn search(n: u64, k: u64, vectors: &[u64]) -> Verdict {
     Verdict::Pass
 }
 
-/// k = n: vector 0, and a walking vector for each net.
-fn walking_rule(n: u64, vectors: &[u64]) -> Verdict {
-    let all: u64 = (0..n).map(|i| 1u64 << i).sum();
-    if !vectors.contains(&0) {
+/// k = n: the extra vector, if there is one, and a walking vector for each net.
+fn walking_rule(net: Network, vectors: &[u64]) -> Verdict {
+    let all: u64 = (0..net.nets).map(|i| 1u64 << i).sum();
+    if extra_vector(net).is_some_and(|extra| !vectors.contains(&extra)) {
         return Verdict::Pair(0, all);
     }
-    match (0..n).find(|i| !vectors.contains(&(1u64 << i))) {
+    match (0..net.nets).find(|i| !vectors.contains(&(1u64 << i))) {
         Some(i) => Verdict::Pair(all - (1u64 << i), all),
         None => Verdict::Pass,
     }
 }
 
-/// The verdict on a test set that rows 5 to 8 admit.
-pub fn verdict(n: u64, k: u64, vectors: &[u64]) -> Verdict {
-    if k == n {
-        walking_rule(n, vectors)
+/// The verdict on a test set that the rows of check admit.
+pub fn verdict(net: Network, k: u64, vectors: &[u64]) -> Verdict {
+    if k == net.nets {
+        walking_rule(net, vectors)
     } else {
-        search(n, k, vectors)
+        search(net, k, vectors)
     }
 }
 
-pub fn rows_of_check(n: u64, k: u64, vectors: &[u64]) -> Rows<'_> {
-    rows_of_set(n, k, vectors)
+pub fn rows_of_check(net: Network, k: u64, vectors: &[u64]) -> Rows<'_> {
+    rows_of_set(net, k, vectors)
 }
 
 /// The call *check*.
-pub fn check(n: u64, k: u64, vectors: &[u64]) -> Result<Verdict, u64> {
-    rows_of_check(n, k, vectors).admit()?;
-    Ok(verdict(n, k, vectors))
+pub fn check(net: Network, k: u64, vectors: &[u64]) -> Result<Verdict, u64> {
+    rows_of_check(net, k, vectors).admit()?;
+    Ok(verdict(net, k, vectors))
 }
 
 #[cfg(test)]
@@ -90,9 +90,18 @@ mod tests {
     use crate::network::{all_lists, all_states, response};
     use std::collections::HashSet;
 
+    /// Nets, class and vectors, and the verdict on them.
+    type Case = (u64, u64, &'static [u64], Verdict);
+
+    fn assert_verdicts(level: u64, cases: &[Case]) {
+        for (nets, k, vectors, expected) in cases {
+            assert_eq!(check(Network { nets: *nets, level }, *k, vectors), Ok(*expected), "{nets} {k} {vectors:?}");
+        }
+    }
+
     #[test]
     fn the_papers_verdicts() {
-        let cases: [(u64, u64, &[u64], Verdict); 9] = [
+        let cases: [Case; 9] = [
             (4, 4, &[0, 1, 2, 4, 8], Verdict::Pass),
             (4, 4, &[1, 2, 4, 8], Verdict::Pair(0, 15)),
             (4, 4, &[0, 1, 2, 4], Verdict::Pair(7, 15)),
@@ -103,10 +112,19 @@ mod tests {
             (7, 2, &[34, 9, 49, 6, 76, 86, 96], Verdict::Pass),
             (2, 2, &[1, 2, 0], Verdict::Pass),
         ];
-        for (n, k, vectors, expected) in cases {
-            assert_eq!(check(n, k, vectors), Ok(expected), "{n} {k} {vectors:?}");
-        }
-        assert_ne!(check(7, 3, &[34, 9, 49, 6, 76, 86, 96]), Ok(Verdict::Pass));
+        assert_verdicts(1, &cases);
+        assert_ne!(check(Network { nets: 7, level: 1 }, 3, &[34, 9, 49, 6, 76, 86, 96]), Ok(Verdict::Pass));
+    }
+
+    #[test]
+    fn verdicts_at_soft_level_0() {
+        let cases: [Case; 4] = [
+            (4, 4, &[1, 2, 4, 8], Verdict::Pass),
+            (4, 4, &[0, 1, 2, 4], Verdict::Pair(7, 15)),
+            (4, 2, &[3, 5, 12, 10], Verdict::Pair(6, 9)),
+            (2, 1, &[1], Verdict::Pair(0, 2)),
+        ];
+        assert_verdicts(0, &cases);
     }
 
     #[test]
@@ -119,17 +137,34 @@ mod tests {
         assert_eq!(chosen_sets(48, 3).len(), 1 + 48 + 48 * 47 / 2 + 48 * 47 * 46 / 6);
     }
 
+    /// Tries every set of up to `longest` vectors for one class, by the rule and by the states' answers, and gives how
+    /// many pass.
+    fn passing(net: Network, k: u64, longest: usize) -> usize {
+        let states = all_states(net.nets, k);
+        let passes = |vectors: &Vec<u64>| {
+            let answers: HashSet<_> = states.iter().map(|state| response(net, vectors, state)).collect();
+            let passes = verdict(net, k, vectors) == Verdict::Pass;
+            assert_eq!(passes, answers.len() == states.len(), "{net:?} {k} {vectors:?}");
+            passes
+        };
+        (1..=longest).flat_map(|length| all_lists(1 << net.nets, length)).filter(passes).count()
+    }
+
     /// Demand 3: pass exactly when no two states of the class answer alike.
     #[test]
     fn pass_means_that_no_two_states_answer_alike() {
-        for (n, longest) in [(2u64, 4), (3, 3)] {
-            for k in 1..=n {
-                let states = all_states(n, k);
-                for vectors in (1..=longest).flat_map(|length| all_lists(1 << n, length)) {
-                    let answers: HashSet<_> = states.iter().map(|state| response(&vectors, state)).collect();
-                    assert_eq!(verdict(n, k, &vectors) == Verdict::Pass, answers.len() == states.len());
-                }
-            }
+        for (nets, level, longest) in [(2, 0, 4), (2, 1, 4), (3, 0, 3), (3, 1, 3)] {
+            (1..=nets).for_each(|k| _ = passing(Network { nets, level }, k, longest));
+        }
+    }
+
+    /// A set that passes for class n has at least n + 1 vectors at soft level 1, and n at 0. With that many it is the
+    /// extra vector and the walking ones, in any of their orders.
+    #[test]
+    fn the_fewest_vectors_of_class_n() {
+        for (nets, level, fewest, orders) in [(2, 0, 2, 2), (2, 1, 3, 6), (3, 0, 3, 6), (3, 1, 4, 24)] {
+            let net = Network { nets, level };
+            assert_eq!((passing(net, nets, fewest - 1), passing(net, nets, fewest)), (0, orders));
         }
     }
 }

@@ -1,8 +1,8 @@
 //! Reading back: the state that fits a response, and the findings.
 
 use crate::checker::{check, sets_of_class, Verdict};
-use crate::network::{all_states, extended, is_state, meet_and_differ, reads, response};
-use crate::rows::{bad_net_count, bad_state, rows_of_responses, rows_of_set, Rows};
+use crate::network::{all_states, extended, extra_vector, is_state, meet_and_differ, reads, response, Network};
+use crate::rows::{bad_state, rows_of_network, rows_of_responses, rows_of_set, Rows};
 use crate::words::{bit, word_of};
 
 /// A record of the findings.
@@ -14,23 +14,24 @@ pub struct Finding {
 }
 
 /// Those of the states that give exactly this response.
-pub fn fitting_among(states: &[Vec<u64>], vectors: &[u64], responses: &[u64]) -> Vec<Vec<u64>> {
-    states.iter().filter(|state| response(vectors, state) == responses).cloned().collect()
+pub fn fitting_among(net: Network, states: &[Vec<u64>], vectors: &[u64], responses: &[u64]) -> Vec<Vec<u64>> {
+    states.iter().filter(|state| response(net, vectors, state) == responses).cloned().collect()
 }
 
 /// Every state of the class that gives exactly this response, from all states. For n up to 4.
-pub fn fitting_states(n: u64, k: u64, vectors: &[u64], responses: &[u64]) -> Vec<Vec<u64>> {
-    fitting_among(&all_states(n, k), vectors, responses)
+pub fn fitting_states(net: Network, k: u64, vectors: &[u64], responses: &[u64]) -> Vec<Vec<u64>> {
+    fitting_among(net, &all_states(net.nets, k), vectors, responses)
 }
 
 /// The same for more nets, receiver by receiver: every set that reads as the receiver answered, joined to every front
 /// whose reaches it does not meet and differ from. Wants as many responses as vectors and no high bit.
-pub fn fitting_by_receivers(n: u64, k: u64, vectors: &[u64], responses: &[u64]) -> Vec<Vec<u64>> {
-    let sets = sets_of_class(n, k);
+pub fn fitting_by_receivers(net: Network, k: u64, vectors: &[u64], responses: &[u64]) -> Vec<Vec<u64>> {
+    let sets = sets_of_class(net.nets, k);
     let mut fronts = vec![Vec::new()];
-    for receiver in 0..n {
-        let reads_so = |set: u64| vectors.iter().zip(responses).all(|(v, word)| reads(set, *v) == bit(*word, receiver));
-        let reaches: Vec<u64> = sets.iter().copied().filter(|set| reads_so(*set)).collect();
+    for receiver in 0..net.nets {
+        let answered = |set: u64, (v, word): (&u64, &u64)| reads(net, set, *v) == bit(*word, receiver);
+        let reads_so = |set: &u64| vectors.iter().zip(responses).all(|asked| answered(*set, asked));
+        let reaches: Vec<u64> = sets.iter().copied().filter(reads_so).collect();
         fronts = joined(&fronts, &reaches);
     }
     fronts
@@ -49,51 +50,53 @@ fn joined(fronts: &[Vec<u64>], reaches: &[u64]) -> Vec<Vec<u64>> {
     longer
 }
 
-/// Class n, for any n: with vector 0 and every walking vector in the set, the answers spell out each reach.
-/// Wants a set that passes for class n.
-pub fn fitting_by_walking(n: u64, vectors: &[u64], responses: &[u64]) -> Vec<Vec<u64>> {
+/// Class n, for any n: with the extra vector, if there is one, and every walking vector in the set, the answers spell
+/// out each reach. Wants a set that passes for class n.
+pub fn fitting_by_walking(net: Network, vectors: &[u64], responses: &[u64]) -> Vec<Vec<u64>> {
+    let n = net.nets;
     let answer_to = |vector: u64| responses[vectors.iter().position(|v| *v == vector).expect("a passed set")];
-    let reach_of = |receiver: u64| match bit(answer_to(0), receiver) {
+    let floats = |receiver: u64| extra_vector(net).is_some_and(|extra| bit(answer_to(extra), receiver));
+    let reach_of = |receiver: u64| match floats(receiver) {
         true => 0,
         false => word_of((0..n).map(|driver| bit(answer_to(1 << driver), receiver))),
     };
     let state: Vec<u64> = (0..n).map(reach_of).collect();
-    let fits = is_state(n, n, &state) && response(vectors, &state) == responses;
+    let fits = is_state(n, n, &state) && response(net, vectors, &state) == responses;
     Vec::from_iter(fits.then_some(state))
 }
 
 /// The states of the class that fit, by the plainest of the three ways that the size allows.
-pub fn fitting(n: u64, k: u64, vectors: &[u64], responses: &[u64]) -> Vec<Vec<u64>> {
-    if n <= 3 {
-        fitting_states(n, k, vectors, responses)
-    } else if n <= 10 || k < n {
-        fitting_by_receivers(n, k, vectors, responses)
+pub fn fitting(net: Network, k: u64, vectors: &[u64], responses: &[u64]) -> Vec<Vec<u64>> {
+    if net.nets <= 3 {
+        fitting_states(net, k, vectors, responses)
+    } else if net.nets <= 10 || k < net.nets {
+        fitting_by_receivers(net, k, vectors, responses)
     } else {
-        fitting_by_walking(n, vectors, responses)
+        fitting_by_walking(net, vectors, responses)
     }
 }
 
 /// Row 14. It may be asked of any input, so it says first what no state can give. Over 48 nets it is taken not to hold.
-fn no_state_fits(n: u64, k: u64, vectors: &[u64], responses: &[u64]) -> bool {
-    if n > 48 {
+fn no_state_fits(net: Network, k: u64, vectors: &[u64], responses: &[u64]) -> bool {
+    if net.nets > 48 {
         return false;
     }
-    let shaped = rows_of_responses(n, vectors.len(), responses).admit().is_ok();
-    !shaped || fitting(n, k, vectors, responses).is_empty()
+    let shaped = rows_of_responses(net.nets, vectors.len(), responses).admit().is_ok();
+    !shaped || fitting(net, k, vectors, responses).is_empty()
 }
 
-pub fn rows_of_diagnose<'a>(n: u64, k: u64, vectors: &'a [u64], responses: &'a [u64], room: usize) -> Rows<'a> {
-    rows_of_set(n, k, vectors)
-        .then(rows_of_responses(n, vectors.len(), responses))
-        .row(12, move || (room as u64) < n)
-        .row(13, move || check(n, k, vectors) != Ok(Verdict::Pass))
-        .row(14, move || no_state_fits(n, k, vectors, responses))
+pub fn rows_of_diagnose<'a>(net: Network, k: u64, vectors: &'a [u64], responses: &'a [u64], room: usize) -> Rows<'a> {
+    rows_of_set(net, k, vectors)
+        .then(rows_of_responses(net.nets, vectors.len(), responses))
+        .row(12, move || (room as u64) < net.nets)
+        .row(13, move || check(net, k, vectors) != Ok(Verdict::Pass))
+        .row(14, move || no_state_fits(net, k, vectors, responses))
 }
 
 /// The call *diagnose*.
-pub fn diagnose(n: u64, k: u64, vectors: &[u64], responses: &[u64], room: usize) -> Result<Vec<u64>, u64> {
-    rows_of_diagnose(n, k, vectors, responses, room).admit()?;
-    Ok(only(fitting(n, k, vectors, responses)))
+pub fn diagnose(net: Network, k: u64, vectors: &[u64], responses: &[u64], room: usize) -> Result<Vec<u64>, u64> {
+    rows_of_diagnose(net, k, vectors, responses, room).admit()?;
+    Ok(only(fitting(net, k, vectors, responses)))
 }
 
 /// The one state of the list.
@@ -131,16 +134,13 @@ pub fn finding(state: &[u64], i: usize) -> Finding {
     Finding { kind, reach, partners }
 }
 
-pub fn rows_of_findings(n: u64, state: &[u64], room: usize) -> Rows<'_> {
-    Rows::new()
-        .row(5, move || bad_net_count(n))
-        .row(11, move || bad_state(n, n, state))
-        .row(12, move || (room as u64) < n)
+pub fn rows_of_findings(net: Network, state: &[u64], room: usize) -> Rows<'_> {
+    rows_of_network(net).row(11, move || bad_state(net.nets, net.nets, state)).row(12, move || (room as u64) < net.nets)
 }
 
 /// The call *findings*; room is in records.
-pub fn findings(n: u64, state: &[u64], room: usize) -> Result<Vec<Finding>, u64> {
-    rows_of_findings(n, state, room).admit()?;
+pub fn findings(net: Network, state: &[u64], room: usize) -> Result<Vec<Finding>, u64> {
+    rows_of_findings(net, state, room).admit()?;
     Ok((0..state.len()).map(|i| finding(state, i)).collect())
 }
 
@@ -150,18 +150,25 @@ mod tests {
     use crate::network::all_lists;
 
     const WALKING: [u64; 5] = [0, 1, 2, 4, 8];
+    const PULL_UP: Network = Network { nets: 4, level: 1 };
+    const PULL_DOWN: Network = Network { nets: 4, level: 0 };
 
     #[test]
     fn the_papers_state_is_read_back() {
-        assert_eq!(diagnose(4, 4, &WALKING, &[4, 7, 7, 4, 12], 4), Ok(vec![3, 3, 0, 8]));
-        assert_eq!(diagnose(4, 4, &WALKING, &[4, 7, 7, 4, 4], 4), Err(14));
+        assert_eq!(diagnose(PULL_UP, 4, &WALKING, &[4, 7, 7, 4, 12], 4), Ok(vec![3, 3, 0, 8]));
+        assert_eq!(diagnose(PULL_UP, 4, &WALKING, &[4, 7, 7, 4, 4], 4), Err(14));
+        assert_eq!(diagnose(PULL_DOWN, 4, &WALKING, &[0, 3, 3, 0, 8], 4), Ok(vec![3, 3, 0, 8]));
+        assert_eq!(diagnose(PULL_DOWN, 4, &WALKING[1..], &[3, 3, 0, 8], 4), Ok(vec![3, 3, 0, 8]));
+        assert_eq!(diagnose(PULL_DOWN, 4, &WALKING, &[4, 7, 7, 4, 12], 4), Err(14));
     }
 
     #[test]
     fn the_papers_findings() {
-        let lines = findings(4, &[3, 3, 0, 8], 4).unwrap();
-        let plain: Vec<_> = lines.iter().map(|line| (line.kind, line.reach, line.partners)).collect();
-        assert_eq!(plain, [(2, 3, 2), (2, 3, 1), (1, 0, 0), (0, 8, 0)]);
+        for net in [PULL_UP, PULL_DOWN] {
+            let lines = findings(net, &[3, 3, 0, 8], 4).unwrap();
+            let plain: Vec<_> = lines.iter().map(|line| (line.kind, line.reach, line.partners)).collect();
+            assert_eq!(plain, [(2, 3, 2), (2, 3, 1), (1, 0, 0), (0, 8, 0)]);
+        }
     }
 
     /// Each clause of the rule alone, and what it must not name: nets 0 and 1 have a driver in common, a receiver in
@@ -176,21 +183,29 @@ mod tests {
         assert_eq!(partners(&[1, 2]), [0, 0]);
     }
 
+    fn assert_receivers_agree(net: Network, k: u64, states: &[Vec<u64>], vectors: &[u64]) {
+        for responses in all_lists(8, 2) {
+            let plain = fitting_among(net, states, vectors, &responses);
+            assert_eq!(fitting_by_receivers(net, k, vectors, &responses), plain);
+        }
+    }
+
+    fn assert_walking_agrees(net: Network, states: &[Vec<u64>], vectors: &[u64]) {
+        for responses in all_lists(8, vectors.len()) {
+            let plain = fitting_among(net, states, vectors, &responses);
+            assert_eq!(fitting_by_walking(net, vectors, &responses), plain);
+        }
+    }
+
     #[test]
     fn the_three_ways_to_find_a_state_agree() {
-        for k in 1..=3 {
-            let states = all_states(3, k);
-            for vectors in all_lists(8, 2) {
-                for responses in all_lists(8, 2) {
-                    let plain = fitting_among(&states, &vectors, &responses);
-                    assert_eq!(fitting_by_receivers(3, k, &vectors, &responses), plain);
-                }
+        for net in [0, 1].map(|level| Network { nets: 3, level }) {
+            for k in 1..=3 {
+                let states = all_states(3, k);
+                all_lists(8, 2).iter().for_each(|vectors| assert_receivers_agree(net, k, &states, vectors));
             }
+            assert_walking_agrees(net, &all_states(3, 3), &[0, 4, 1, 2]);
         }
-        let states = all_states(3, 3);
-        for responses in all_lists(8, 4) {
-            let plain = fitting_among(&states, &[0, 4, 1, 2], &responses);
-            assert_eq!(fitting_by_walking(3, &[0, 4, 1, 2], &responses), plain);
-        }
+        assert_walking_agrees(Network { nets: 3, level: 0 }, &all_states(3, 3), &[4, 1, 2]);
     }
 }

@@ -1,14 +1,15 @@
 //! The job file: reader and writer.
 
+use crate::network::Network;
 use crate::rows::{rows_of_responses, rows_of_set, Rows};
 
-const MARK: &[u8] = b"BSJ1";
+const MARK: &[u8] = b"BSJ2";
 const MOST_BYTES: usize = 2048;
 
 /// What a job file holds. No third entry and an empty list of responses are told apart by the reader's rows only.
 #[derive(Clone, Debug, PartialEq, Eq)]
 pub struct Job {
-    pub n: u64,
+    pub network: Network,
     pub k: u64,
     pub vectors: Vec<u64>,
     pub responses: Vec<u64>,
@@ -66,14 +67,15 @@ fn bad_contents(file: &[u8]) -> bool {
 /// Row 3.
 fn bad_bodies(bodies: &Bodies) -> bool {
     let half_word = |body: &[u8]| !body.len().is_multiple_of(8);
-    bodies.nets.len() != 2 || half_word(bodies.vectors) || bodies.responses.is_some_and(half_word)
+    bodies.nets.len() != 3 || half_word(bodies.vectors) || bodies.responses.is_some_and(half_word)
 }
 
 /// What the file says, taken as far as its bodies go: missing numbers are 0, and half words are left out.
 fn content(bodies: &Bodies) -> Job {
+    let [nets, k, level] = [0, 1, 2].map(|place| bodies.nets.get(place).map_or(0, |byte| u64::from(*byte)));
     Job {
-        n: number(&bodies.nets[..bodies.nets.len().min(1)]),
-        k: number(&bodies.nets[bodies.nets.len().min(1)..bodies.nets.len().min(2)]),
+        network: Network { nets, level },
+        k,
         vectors: words(bodies.vectors),
         responses: words(bodies.responses.unwrap_or(&[])),
     }
@@ -84,12 +86,12 @@ fn content(bodies: &Bodies) -> Job {
 fn with_rows<T>(file: &[u8], vector_room: usize, response_room: usize, then: impl Fn(&Rows, &Job) -> T) -> T {
     let rows = Rows::new().row(1, || bad_mark(file)).row(2, || bad_contents(file));
     let Some(bodies) = bodies(file) else {
-        return then(&rows, &Job { n: 0, k: 0, vectors: vec![], responses: vec![] });
+        return then(&rows, &Job { network: Network { nets: 0, level: 0 }, k: 0, vectors: vec![], responses: vec![] });
     };
     let job = content(&bodies);
-    let rows = rows.row(3, || bad_bodies(&bodies)).then(rows_of_set(job.n, job.k, &job.vectors));
+    let rows = rows.row(3, || bad_bodies(&bodies)).then(rows_of_set(job.network, job.k, &job.vectors));
     let rows = match bodies.responses {
-        Some(_) => rows.then(rows_of_responses(job.n, job.vectors.len(), &job.responses)),
+        Some(_) => rows.then(rows_of_responses(job.network.nets, job.vectors.len(), &job.responses)),
         None => rows,
     };
     let rows = rows.row(12, || vector_room < job.vectors.len() || response_room < job.responses.len());
@@ -106,9 +108,9 @@ pub fn read_job(file: &[u8], vector_room: usize, response_room: usize) -> Result
     with_rows(file, vector_room, response_room, |rows, job| rows.admit().map(|()| job.clone()))
 }
 
-/// The bytes of a job, in the layout that document 01 gives. The numbers are taken as they come.
-pub fn bytes_of(n: u64, k: u64, vectors: &[u64], responses: &[u64]) -> Vec<u8> {
-    let mut bodies = vec![vec![n as u8, k as u8], bytes(vectors)];
+/// The bytes of a job, in the layout that documents 01 and 02 give. Of each number the low byte is taken.
+pub fn bytes_of(net: Network, k: u64, vectors: &[u64], responses: &[u64]) -> Vec<u8> {
+    let mut bodies = vec![vec![net.nets as u8, k as u8, net.level as u8], bytes(vectors)];
     if !responses.is_empty() {
         bodies.push(bytes(responses));
     }
@@ -134,19 +136,19 @@ pub fn laid_out(bodies: &[Vec<u8>]) -> Vec<u8> {
     file
 }
 
-pub fn rows_of_write_job<'a>(n: u64, k: u64, vectors: &'a [u64], responses: &'a [u64], room: usize) -> Rows<'a> {
-    let rows = rows_of_set(n, k, vectors);
+pub fn rows_of_write_job<'a>(net: Network, k: u64, vectors: &'a [u64], responses: &'a [u64], room: usize) -> Rows<'a> {
+    let rows = rows_of_set(net, k, vectors);
     let rows = match responses {
         [] => rows,
-        _ => rows.then(rows_of_responses(n, vectors.len(), responses)),
+        _ => rows.then(rows_of_responses(net.nets, vectors.len(), responses)),
     };
-    rows.row(12, move || room < bytes_of(n, k, vectors, responses).len())
+    rows.row(12, move || room < bytes_of(net, k, vectors, responses).len())
 }
 
 /// The call *write a job file*.
-pub fn write_job(n: u64, k: u64, vectors: &[u64], responses: &[u64], room: usize) -> Result<Vec<u8>, u64> {
-    rows_of_write_job(n, k, vectors, responses, room).admit()?;
-    Ok(bytes_of(n, k, vectors, responses))
+pub fn write_job(net: Network, k: u64, vectors: &[u64], responses: &[u64], room: usize) -> Result<Vec<u8>, u64> {
+    rows_of_write_job(net, k, vectors, responses, room).admit()?;
+    Ok(bytes_of(net, k, vectors, responses))
 }
 
 #[cfg(test)]
@@ -155,18 +157,28 @@ mod tests {
 
     #[test]
     fn a_written_job_is_read() {
-        let job = Job { n: 4, k: 4, vectors: vec![0, 1, 2, 4, 8], responses: vec![4, 7, 7, 4, 12] };
-        let file = write_job(4, 4, &job.vectors, &job.responses, 2048).unwrap();
-        assert_eq!(file.len(), 5 + 27 + 2 + 80);
-        assert_eq!(read_job(&file, 5, 5), Ok(job.clone()));
-        assert_eq!(read_job(&file, 4, 5), Err(12));
-        let shorter = write_job(4, 4, &job.vectors, &[], 2048).unwrap();
-        assert_eq!(read_job(&shorter, 5, 0), Ok(Job { responses: vec![], ..job }));
+        for (level, responses) in [(0, vec![0, 3, 3, 0, 8]), (1, vec![4, 7, 7, 4, 12])] {
+            let network = Network { nets: 4, level };
+            let job = Job { network, k: 4, vectors: vec![0, 1, 2, 4, 8], responses };
+            let file = write_job(network, 4, &job.vectors, &job.responses, 2048).unwrap();
+            assert_eq!((file.len(), &file[32..35]), (5 + 27 + 3 + 80, &[4, 4, level as u8][..]));
+            assert_eq!(read_job(&file, 5, 5), Ok(job.clone()));
+            assert_eq!(read_job(&file, 4, 5), Err(12));
+            let shorter = write_job(network, 4, &job.vectors, &[], 2048).unwrap();
+            assert_eq!(read_job(&shorter, 5, 0), Ok(Job { responses: vec![], ..job }));
+        }
+    }
+
+    #[test]
+    fn a_nets_body_of_another_length_or_level() {
+        let read = |nets: &[u8]| read_job(&laid_out(&[nets.to_vec(), bytes(&[1])]), 64, 64).map(|job| job.network);
+        assert_eq!(read(&[3, 1, 0]), Ok(Network { nets: 3, level: 0 }));
+        assert_eq!([read(&[3, 1]), read(&[3, 1, 1, 1]), read(&[3, 1, 2]), read(&[3, 4, 2])], [3, 3, 17, 6].map(Err));
     }
 
     #[test]
     fn a_third_entry_of_length_0_is_9() {
-        let file = laid_out(&[vec![2, 1], bytes(&[1]), vec![]]);
+        let file = laid_out(&[vec![2, 1, 1], bytes(&[1]), vec![]]);
         assert_eq!(read_job(&file, 64, 64), Err(9));
     }
 
@@ -174,6 +186,7 @@ mod tests {
     fn a_file_without_its_mark_is_1_at_any_length() {
         assert_eq!(read_job(b"BSJ", 0, 0), Err(1));
         assert_eq!(read_job(&[0; 5000], 0, 0), Err(1));
-        assert_eq!(read_job(b"BSJ1", 0, 0), Err(2));
+        assert_eq!(read_job(b"BSJ1", 0, 0), Err(1));
+        assert_eq!(read_job(b"BSJ2", 0, 0), Err(2));
     }
 }

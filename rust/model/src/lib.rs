@@ -4,9 +4,9 @@
 //! So it is slow and plain, and made for small boards. For class n above 10 nets it decodes the answers and tries the
 //! result; that way is compared with enumeration on small boards.
 //!
-//! Each call has two functions. `rows_of_*` gives the rows of document 01's table that the call has, in order, each
-//! as a test of its own. The other gives the call's answer: the number of the first row that holds, else the full
-//! result. What a call is lent comes in as its room, the number of words that it has place for.
+//! Each call has two functions. `rows_of_*` gives the rows of the table that the call has, in order, each as a test of
+//! its own. The other gives the call's answer: the number of the first row that holds, else the full result. What a
+//! call is lent comes in as its room, the number of words that it has place for.
 
 pub mod checker;
 pub mod diagnosis;
@@ -20,5 +20,6 @@ pub mod words;
 pub use checker::{check, Verdict};
 pub use diagnosis::{diagnose, findings, Finding};
 pub use jobfile::{read_job, write_job, Job};
+pub use network::Network;
 pub use responding::respond;
 pub use session::{begin, first_answers, second_answers, to_drive, Record};

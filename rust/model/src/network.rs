@@ -2,22 +2,40 @@
 
 use crate::words::{bit, word_of};
 
-/// What a receiver with this reach reads on a vector.
-pub fn reads(reach: u64, vector: u64) -> bool {
+/// A network, of any numbers: how many nets it has, and the level that a floating receiver reads.
+#[derive(Clone, Copy, Debug, PartialEq, Eq, Hash)]
+pub struct Network {
+    pub nets: u64,
+    pub level: u64,
+}
+
+/// What a receiver with this reach reads on a vector: 1 if a driver in its reach drives 1; one with an empty reach
+/// floats and reads the soft level; otherwise it reads 0.
+pub fn reads(net: Network, reach: u64, vector: u64) -> bool {
     let floats = reach == 0;
     let driven = reach & vector != 0;
-    floats || driven
+    if floats {
+        net.level == 1
+    } else {
+        driven
+    }
 }
 
 /// What a receiver with this reach reads on every vector, as a sequential word.
-pub fn read_along(reach: u64, vectors: &[u64]) -> u64 {
+pub fn read_along(net: Network, reach: u64, vectors: &[u64]) -> u64 {
     assert!(vectors.len() <= 64, "a sequential word has 64 bits");
-    word_of(vectors.iter().map(|vector| reads(reach, *vector)))
+    word_of(vectors.iter().map(|vector| reads(net, reach, *vector)))
 }
 
 /// The response of a state: a parallel word a vector.
-pub fn response(vectors: &[u64], state: &[u64]) -> Vec<u64> {
-    vectors.iter().map(|vector| word_of(state.iter().map(|reach| reads(*reach, *vector)))).collect()
+pub fn response(net: Network, vectors: &[u64], state: &[u64]) -> Vec<u64> {
+    vectors.iter().map(|vector| word_of(state.iter().map(|reach| reads(net, *reach, *vector)))).collect()
+}
+
+/// The vector that class n and step two want beside the walking ones, to tell a receiver that floats from one that all
+/// drivers reach: vector 0 at soft level 1, and none at 0.
+pub fn extra_vector(net: Network) -> Option<u64> {
+    (net.level == 1).then_some(0)
 }
 
 /// Do two reaches break the rule on states: neither empty, a driver in common, and different?
@@ -66,14 +84,21 @@ mod tests {
 
     #[test]
     fn the_example_state_answers_as_the_paper_says() {
-        assert_eq!(response(&[0, 1, 2, 4, 8], &[3, 3, 0, 8]), [4, 7, 7, 4, 12]);
-        assert_eq!(response(&[11, 5, 6, 8], &[3, 3, 0, 8]), [15, 7, 7, 12]);
+        let net = Network { nets: 4, level: 1 };
+        assert_eq!(response(net, &[0, 1, 2, 4, 8], &[3, 3, 0, 8]), [4, 7, 7, 4, 12]);
+        assert_eq!(response(net, &[11, 5, 6, 8], &[3, 3, 0, 8]), [15, 7, 7, 12]);
+        let pull_down = Network { level: 0, ..net };
+        assert_eq!(response(pull_down, &[0, 1, 2, 4, 8], &[3, 3, 0, 8]), [0, 3, 3, 0, 8]);
+        assert_eq!(response(pull_down, &[11, 5, 6, 8], &[3, 3, 0, 8]), [11, 3, 3, 8]);
     }
 
     #[test]
-    fn an_empty_reach_reads_one() {
-        assert!(reads(0, 0));
-        assert!(!reads(1, 2));
+    fn an_empty_reach_reads_the_soft_level() {
+        for level in [0, 1] {
+            let net = Network { nets: 2, level };
+            assert_eq!([0, 1, 3].map(|vector| reads(net, 0, vector)), [level == 1; 3]);
+            assert_eq!([0, 1, 2, 3].map(|vector| reads(net, 1, vector)), [false, true, false, true]);
+        }
     }
 
     #[test]

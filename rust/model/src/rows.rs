@@ -1,6 +1,6 @@
 //! The table "Where a call is turned away": its rows, each a test of its own.
 
-use crate::network::is_state;
+use crate::network::{is_state, Network};
 use crate::words::bit;
 
 /// The rows of a call in the table's order: number, and whether it holds.
@@ -53,6 +53,11 @@ pub fn bad_class(n: u64, k: u64) -> bool {
     !(k == 1 || k == 2 || k == 3 || k == n) || k > n
 }
 
+/// Row 17.
+pub fn bad_level(level: u64) -> bool {
+    level != 0 && level != 1
+}
+
 /// Row 7.
 pub fn bad_vector_count(count: usize) -> bool {
     !(1..=64).contains(&count)
@@ -68,13 +73,19 @@ pub fn bad_state(n: u64, k: u64, state: &[u64]) -> bool {
     !is_state(n, k, state)
 }
 
-/// Rows 5 to 8, which begin every call on a test set.
-pub fn rows_of_set<'a>(n: u64, k: u64, vectors: &'a [u64]) -> Rows<'a> {
+/// Rows 5 and 17, which begin the calls that take a network and no class.
+pub fn rows_of_network<'a>(net: Network) -> Rows<'a> {
+    Rows::new().row(5, move || bad_net_count(net.nets)).row(17, move || bad_level(net.level))
+}
+
+/// Rows 5, 6, 17, 7 and 8, which begin every call on a test set.
+pub fn rows_of_set<'a>(net: Network, k: u64, vectors: &'a [u64]) -> Rows<'a> {
     Rows::new()
-        .row(5, move || bad_net_count(n))
-        .row(6, move || bad_class(n, k))
+        .row(5, move || bad_net_count(net.nets))
+        .row(6, move || bad_class(net.nets, k))
+        .row(17, move || bad_level(net.level))
         .row(7, move || bad_vector_count(vectors.len()))
-        .row(8, move || has_high_bit(n, vectors))
+        .row(8, move || has_high_bit(net.nets, vectors))
 }
 
 /// Rows 9 and 10 on the responses to `asked` vectors.

@@ -1,8 +1,8 @@
 //! The two-step session.
 
 use crate::diagnosis::{fitting_by_receivers, fitting_states, only};
-use crate::network::{is_state, response};
-use crate::rows::{bad_net_count, rows_of_responses, Rows};
+use crate::network::{extra_vector, is_state, response, Network};
+use crate::rows::{bad_net_count, rows_of_network, rows_of_responses, Rows};
 use crate::words::{bit, word_of};
 
 /// Waits for first answers.
@@ -13,44 +13,45 @@ pub const SECOND: u64 = 2;
 pub const FINISHED: u64 = 3;
 
 /// How many words a record has.
-pub const WORDS: usize = 59;
+pub const WORDS: usize = 60;
 
 /// A session record. What a step does not use is 0.
 #[derive(Clone, Debug, PartialEq, Eq, Hash)]
 pub struct Record {
     pub step: u64,
-    pub nets: u64,
+    pub network: Network,
     pub answers: [u64; 8],
     pub reaches: [u64; 48],
     pub spent: u64,
 }
 
 impl Record {
-    fn blank(step: u64, nets: u64) -> Record {
-        Record { step, nets, answers: [0; 8], reaches: [0; 48], spent: 0 }
+    fn blank(step: u64, network: Network) -> Record {
+        Record { step, network, answers: [0; 8], reaches: [0; 48], spent: 0 }
     }
 
     pub fn words(&self) -> [u64; WORDS] {
         let mut words = [0; WORDS];
         words[0] = self.step;
-        words[1] = self.nets;
-        words[2..10].copy_from_slice(&self.answers);
-        words[10..58].copy_from_slice(&self.reaches);
-        words[58] = self.spent;
+        words[1] = self.network.nets;
+        words[2] = self.network.level;
+        words[3..11].copy_from_slice(&self.answers);
+        words[11..59].copy_from_slice(&self.reaches);
+        words[59] = self.spent;
         words
     }
 
     pub fn from_words(words: &[u64; WORDS]) -> Record {
-        let mut record = Record::blank(words[0], words[1]);
-        record.answers.copy_from_slice(&words[2..10]);
-        record.reaches.copy_from_slice(&words[10..58]);
-        record.spent = words[58];
+        let mut record = Record::blank(words[0], Network { nets: words[1], level: words[2] });
+        record.answers.copy_from_slice(&words[3..11]);
+        record.reaches.copy_from_slice(&words[11..59]);
+        record.spent = words[59];
         record
     }
 
     /// The answers of step one that the record holds.
     fn first_answers(&self) -> &[u64] {
-        &self.answers[..first_length(self.nets)]
+        &self.answers[..first_length(self.network.nets)]
     }
 }
 
@@ -89,31 +90,30 @@ pub fn unclear_nets(n: u64, answers: &[u64]) -> Vec<u64> {
 }
 
 /// The vectors of step two; none if no net is unclear.
-pub fn second_vectors(n: u64, answers: &[u64]) -> Vec<u64> {
-    let unclear = unclear_nets(n, answers);
+pub fn second_vectors(net: Network, answers: &[u64]) -> Vec<u64> {
+    let unclear = unclear_nets(net.nets, answers);
     if unclear.is_empty() {
         return vec![];
     }
-    std::iter::once(0).chain(unclear.iter().map(|i| 1 << i)).collect()
+    extra_vector(net).into_iter().chain(unclear.iter().map(|i| 1 << i)).collect()
 }
 
-pub fn rows_of_begin<'a>(n: u64, room: usize) -> Rows<'a> {
-    Rows::new().row(5, move || bad_net_count(n)).row(12, move || room < first_length(n))
+pub fn rows_of_begin<'a>(net: Network, room: usize) -> Rows<'a> {
+    rows_of_network(net).row(12, move || room < first_length(net.nets))
 }
 
 /// The call *begin*: the record and the vectors of step one.
-pub fn begin(n: u64, room: usize) -> Result<(Record, Vec<u64>), u64> {
-    rows_of_begin(n, room).admit()?;
-    Ok((Record::blank(FIRST, n), first_vectors(n)))
+pub fn begin(net: Network, room: usize) -> Result<(Record, Vec<u64>), u64> {
+    rows_of_begin(net, room).admit()?;
+    Ok((Record::blank(FIRST, net), first_vectors(net.nets)))
 }
 
 /// Do accepted calls leave this very record, waiting for answers?
 /// At step one only begin leaves it; at step two first answers do, and those can only be the ones that it holds.
 pub fn left_waiting(record: &Record) -> bool {
-    if bad_net_count(record.nets) {
+    let Ok((begun, _)) = begin(record.network, usize::MAX) else {
         return false;
-    }
-    let begun = Record::blank(FIRST, record.nets);
+    };
     match record.step {
         FIRST => *record == begun,
         SECOND => match first_answers(&begun, record.first_answers(), usize::MAX) {
@@ -130,20 +130,21 @@ fn waits_for(record: &Record, step: u64) -> bool {
 
 /// The rows of first answers. Rows 9 to 12 are asked of any record with 2 to 48 nets; else they are taken not to hold.
 pub fn rows_of_first_answers<'a>(record: &'a Record, answers: &'a [u64], room: usize) -> Rows<'a> {
-    let n = record.nets;
+    let net = record.network;
     let rows = Rows::new().row(4, move || !waits_for(record, FIRST));
-    if bad_net_count(n) {
+    if bad_net_count(net.nets) {
         return rows;
     }
-    rows.then(rows_of_responses(n, first_length(n), answers)).row(12, move || room < second_vectors(n, answers).len())
+    rows.then(rows_of_responses(net.nets, first_length(net.nets), answers))
+        .row(12, move || room < second_vectors(net, answers).len())
 }
 
 /// The call *first answers*: the record and the vectors of step two.
 pub fn first_answers(record: &Record, answers: &[u64], room: usize) -> Result<(Record, Vec<u64>), u64> {
     rows_of_first_answers(record, answers, room).admit()?;
-    let n = record.nets;
-    let second = second_vectors(n, answers);
-    let mut left = Record::blank(SECOND, n);
+    let n = record.network.nets;
+    let second = second_vectors(record.network, answers);
+    let mut left = Record::blank(SECOND, record.network);
     if second.is_empty() {
         left.step = FINISHED;
         left.spent = first_length(n) as u64;
@@ -157,18 +158,18 @@ pub fn first_answers(record: &Record, answers: &[u64], room: usize) -> Result<(R
 /// The vectors and the answers of both steps of a record that waits for second answers.
 fn both_steps(record: &Record, second_answers: &[u64]) -> (Vec<u64>, Vec<u64>) {
     let first = record.first_answers();
-    let vectors = [first_vectors(record.nets), second_vectors(record.nets, first)].concat();
+    let vectors = [first_vectors(record.network.nets), second_vectors(record.network, first)].concat();
     (vectors, [first, second_answers].concat())
 }
 
 /// Every state of class n that gives the first answers that the record holds and these second ones.
 fn fitting_both(record: &Record, second_answers: &[u64]) -> Vec<Vec<u64>> {
-    let n = record.nets;
+    let (net, n) = (record.network, record.network.nets);
     let (vectors, answers) = both_steps(record, second_answers);
     if n <= 3 {
-        fitting_states(n, n, &vectors, &answers)
+        fitting_states(net, n, &vectors, &answers)
     } else if n <= 10 {
-        fitting_by_receivers(n, n, &vectors, &answers)
+        fitting_by_receivers(net, n, &vectors, &answers)
     } else {
         fitting_by_steps(record, second_answers)
     }
@@ -177,52 +178,54 @@ fn fitting_both(record: &Record, second_answers: &[u64]) -> Vec<Vec<u64>> {
 /// The same for any n. A clear net's reach is its own driver, and no other reach has that driver; so the second answers
 /// spell out the reaches of the unclear nets. What they spell is tried.
 fn fitting_by_steps(record: &Record, second_answers: &[u64]) -> Vec<Vec<u64>> {
-    let n = record.nets;
+    let (net, n) = (record.network, record.network.nets);
     let unclear = unclear_nets(n, record.first_answers());
+    let (to_extra, to_walking) = second_answers.split_at(extra_vector(net).iter().count());
     let drivers_read = |receiver: u64| {
         let read = |(driver, answer): (&u64, &u64)| u64::from(bit(*answer, receiver)) << driver;
-        unclear.iter().zip(&second_answers[1..]).map(read).sum()
+        unclear.iter().zip(to_walking).map(read).sum()
     };
-    let reach_of = |receiver: u64| match (unclear.contains(&receiver), bit(second_answers[0], receiver)) {
+    let floats = |receiver: u64| to_extra.iter().any(|answer| bit(*answer, receiver));
+    let reach_of = |receiver: u64| match (unclear.contains(&receiver), floats(receiver)) {
         (false, _) => 1 << receiver,
         (true, true) => 0,
         (true, false) => drivers_read(receiver),
     };
     let state: Vec<u64> = (0..n).map(reach_of).collect();
     let (vectors, answers) = both_steps(record, second_answers);
-    let fits = is_state(n, n, &state) && response(&vectors, &state) == answers;
+    let fits = is_state(n, n, &state) && response(net, &vectors, &state) == answers;
     Vec::from_iter(fits.then_some(state))
 }
 
 fn no_state_fits_both(record: &Record, second_answers: &[u64]) -> bool {
-    let asked = second_vectors(record.nets, record.first_answers()).len();
-    let shaped = rows_of_responses(record.nets, asked, second_answers).admit().is_ok();
+    let asked = second_vectors(record.network, record.first_answers()).len();
+    let shaped = rows_of_responses(record.network.nets, asked, second_answers).admit().is_ok();
     !shaped || fitting_both(record, second_answers).is_empty()
 }
 
 /// The rows of second answers. Rows 9 to 14 are asked of any record with 2 to 48 nets; else they are taken not to hold.
 pub fn rows_of_second_answers<'a>(record: &'a Record, answers: &'a [u64]) -> Rows<'a> {
-    let n = record.nets;
+    let net = record.network;
     let rows = Rows::new().row(4, move || !waits_for(record, SECOND));
-    if bad_net_count(n) {
+    if bad_net_count(net.nets) {
         return rows;
     }
-    let asked = second_vectors(n, record.first_answers()).len();
-    rows.then(rows_of_responses(n, asked, answers)).row(14, move || no_state_fits_both(record, answers))
+    let asked = second_vectors(net, record.first_answers()).len();
+    rows.then(rows_of_responses(net.nets, asked, answers)).row(14, move || no_state_fits_both(record, answers))
 }
 
 /// The call *second answers*.
 pub fn second_answers(record: &Record, answers: &[u64]) -> Result<Record, u64> {
     rows_of_second_answers(record, answers).admit()?;
-    let n = record.nets;
+    let net = record.network;
     let state = only(fitting_both(record, answers));
-    let asked = second_vectors(n, record.first_answers()).len();
-    Ok(finished(n, &state, first_length(n) + asked))
+    let asked = second_vectors(net, record.first_answers()).len();
+    Ok(finished(net, &state, first_length(net.nets) + asked))
 }
 
 /// The finished record with this state and this many vectors spent.
-pub fn finished(n: u64, state: &[u64], spent: usize) -> Record {
-    let mut record = Record::blank(FINISHED, n);
+pub fn finished(net: Network, state: &[u64], spent: usize) -> Record {
+    let mut record = Record::blank(FINISHED, net);
     record.reaches[..state.len()].copy_from_slice(state);
     record.spent = spent as u64;
     record
@@ -234,8 +237,8 @@ pub fn to_drive(record: &Record, first_room: usize, second_room: usize) -> usize
         return 0;
     }
     let (count, room) = match record.step {
-        FIRST => (first_length(record.nets), first_room),
-        _ => (second_vectors(record.nets, record.first_answers()).len(), second_room),
+        FIRST => (first_length(record.network.nets), first_room),
+        _ => (second_vectors(record.network, record.first_answers()).len(), second_room),
     };
     if room < count {
         0
@@ -252,7 +255,7 @@ mod tests {
 
     #[test]
     fn the_papers_session_of_four_nets() {
-        let (record, first) = begin(4, 4).unwrap();
+        let (record, first) = begin(Network { nets: 4, level: 1 }, 4).unwrap();
         assert_eq!(first, [11, 5, 6, 8]);
         let (record, second) = first_answers(&record, &[15, 7, 7, 12], 4).unwrap();
         assert_eq!(second, [0, 1, 2, 4]);
@@ -261,8 +264,18 @@ mod tests {
     }
 
     #[test]
+    fn the_same_session_at_soft_level_0() {
+        let (record, first) = begin(Network { nets: 4, level: 0 }, 4).unwrap();
+        assert_eq!(first, [11, 5, 6, 8]);
+        let (record, second) = first_answers(&record, &[11, 3, 3, 8], 3).unwrap();
+        assert_eq!(second, [1, 2, 4]);
+        let record = second_answers(&record, &[3, 3, 0]).unwrap();
+        assert_eq!((&record.reaches[..4], record.spent), (&[3, 3, 0, 8][..], 7));
+    }
+
+    #[test]
     fn the_papers_sessions_of_two_nets() {
-        let (begun, _) = begin(2, 2).unwrap();
+        let (begun, _) = begin(Network { nets: 2, level: 1 }, 2).unwrap();
         let (sound, second) = first_answers(&begun, &[1, 2], 0).unwrap();
         assert_eq!((sound.step, sound.spent, second.len()), (FINISHED, 2, 0));
         let (floating, _) = first_answers(&begun, &[3, 3], 3).unwrap();
@@ -277,40 +290,62 @@ mod tests {
     }
 
     fn assert_ways_agree(states: &[Vec<u64>], record: &Record, answers: &[u64]) {
+        let net = record.network;
         let (vectors, all) = both_steps(record, answers);
-        let plain = fitting_among(states, &vectors, &all);
+        let plain = fitting_among(net, states, &vectors, &all);
         assert_eq!(fitting_by_steps(record, answers), plain);
-        assert_eq!(fitting_by_receivers(record.nets, record.nets, &vectors, &all), plain);
+        assert_eq!(fitting_by_receivers(net, net.nets, &vectors, &all), plain);
+    }
+
+    /// Every second answer after these first ones, on two nets.
+    fn assert_ways_agree_after(net: Network, states: &[Vec<u64>], answers: &[u64]) {
+        let (begun, _) = begin(net, 2).unwrap();
+        let (record, second) = first_answers(&begun, answers, 3).unwrap();
+        if record.step == SECOND {
+            all_lists(4, second.len()).iter().for_each(|answers| assert_ways_agree(states, &record, answers));
+        }
     }
 
     #[test]
     fn the_ways_to_find_a_sessions_state_agree_on_all_answers_of_two_nets() {
         let states = all_states(2, 2);
-        let (begun, _) = begin(2, 2).unwrap();
-        for answers in all_lists(4, 2) {
-            let (record, second) = first_answers(&begun, &answers, 3).unwrap();
-            if record.step == SECOND {
-                all_lists(4, second.len()).iter().for_each(|answers| assert_ways_agree(&states, &record, answers));
-            }
+        for net in [0, 1].map(|level| Network { nets: 2, level }) {
+            all_lists(4, 2).iter().for_each(|answers| assert_ways_agree_after(net, &states, answers));
         }
     }
 
-    /// The right answers of every state, and each with one bit of a second answer turned.
+    /// The right answers of a board, and each with one bit of a second answer turned, on three nets.
+    fn assert_ways_agree_on(net: Network, states: &[Vec<u64>], board: &[u64]) {
+        let (begun, first) = begin(net, 3).unwrap();
+        let (record, second) = first_answers(&begun, &response(net, &first, board), 4).unwrap();
+        if record.step == FINISHED {
+            return;
+        }
+        let right = response(net, &second, board);
+        assert_ways_agree(states, &record, &right);
+        for place in 0..3 * right.len() {
+            let mut turned = right.clone();
+            turned[place / 3] ^= 1 << (place % 3);
+            assert_ways_agree(states, &record, &turned);
+        }
+    }
+
     #[test]
     fn the_ways_to_find_a_sessions_state_agree_on_boards_of_three_nets() {
         let states = all_states(3, 3);
-        let (begun, first) = begin(3, 3).unwrap();
-        for state in &states {
-            let (record, second) = first_answers(&begun, &response(&first, state), 4).unwrap();
-            if record.step == FINISHED {
-                continue;
-            }
-            let right = response(&second, state);
-            assert_ways_agree(&states, &record, &right);
-            for place in 0..3 * right.len() {
-                let mut turned = right.clone();
-                turned[place / 3] ^= 1 << (place % 3);
-                assert_ways_agree(&states, &record, &turned);
+        for net in [0, 1].map(|level| Network { nets: 3, level }) {
+            states.iter().for_each(|board| assert_ways_agree_on(net, &states, board));
+        }
+    }
+
+    #[test]
+    fn a_record_of_a_level_above_1_is_left_by_no_call() {
+        let (begun, _) = begin(Network { nets: 2, level: 1 }, 2).unwrap();
+        let (waiting, _) = first_answers(&begun, &[3, 3], 3).unwrap();
+        for record in [begun, waiting] {
+            for (level, left) in [(0, true), (1, true), (2, false), (u64::MAX, false)] {
+                let network = Network { nets: 2, level };
+                assert_eq!(left_waiting(&Record { network, ..record.clone() }), left);
             }
         }
     }

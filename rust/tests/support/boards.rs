@@ -1,7 +1,8 @@
 //! Random boards and test sets.
 
 use super::generator::Generator;
-use model::network::is_state;
+use model::network::{extra_vector, is_state};
+use model::Network;
 
 /// A wiring state of class k: drivers in groups of at most k, and for each receiver a group, or none.
 pub fn state(g: &mut Generator, n: u64, k: u64) -> Vec<u64> {
@@ -33,10 +34,14 @@ fn groups(g: &mut Generator, n: u64, k: u64) -> Vec<u64> {
     groups
 }
 
-/// Vector 0 and the walking vectors in any order, and a few more, some of them twice.
-pub fn walking_set(g: &mut Generator, n: u64) -> Vec<u64> {
+/// The walking vectors in any order, vector 0 among them where it is wanted and else on every second board, and a few
+/// more, some of them twice.
+pub fn walking_set(g: &mut Generator, net: Network) -> Vec<u64> {
+    let n = net.nets;
     let mut vectors: Vec<u64> = (0..n).map(|i| 1 << i).collect();
-    vectors.push(0);
+    if extra_vector(net).is_some() || g.once_in(2) {
+        vectors.push(0);
+    }
     for _ in 0..g.below(65 - vectors.len()) {
         let again = *g.pick(&vectors);
         vectors.push(if g.once_in(2) { again } else { g.word() & low_bits(n) });

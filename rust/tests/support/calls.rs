@@ -2,11 +2,15 @@
 //! it was.
 
 use super::lent::{Given, Lent};
+use super::networks::of_library;
 use fontarelga::{raw, JOB_WORDS, VERDICT_WORDS};
-use model::{Finding, Job, Verdict};
+use model::{Finding, Job, Network, Verdict};
+
+/// What a call should give: its result, or the refusal's number.
+pub type Answer<T> = Result<T, u64>;
 
 /// The number that a call with this answer returns.
-pub fn code<T>(answer: &Result<T, u64>) -> u64 {
+pub fn code<T>(answer: &Answer<T>) -> u64 {
     match answer {
         Ok(_) => 0,
         Err(number) => *number,
@@ -14,7 +18,7 @@ pub fn code<T>(answer: &Result<T, u64>) -> u64 {
 }
 
 /// What an answer's words are; none after a refusal.
-fn written<T: Clone>(answer: &Result<Vec<T>, u64>) -> Vec<T> {
+fn written<T: Clone>(answer: &Answer<Vec<T>>) -> Vec<T> {
     answer.clone().unwrap_or_default()
 }
 
@@ -26,31 +30,38 @@ pub fn verdict_words(verdict: &Verdict) -> Vec<u64> {
     }
 }
 
-pub fn check_gives(n: u64, k: u64, vectors: &[u64], answer: &Result<Verdict, u64>) {
-    let what = ("check", n, k, vectors);
+pub fn check_gives(net: Network, k: u64, vectors: &[u64], answer: &Answer<Verdict>) {
+    let what = ("check", net, k, vectors);
     let given = Given::of(vectors);
     let mut verdict = Lent::words(VERDICT_WORDS + 2);
-    let number = raw::check(n, k, given.give(), verdict.lend_front());
+    let number = raw::check(of_library(net), k, given.give(), verdict.lend_front());
     assert_eq!(number, code(answer), "{what:?}");
     verdict.assert_holds(&written(&answer.as_ref().map(verdict_words).map_err(|e| *e)), &what);
     given.assert_unchanged();
 }
 
-pub fn respond_gives(n: u64, k: u64, vectors: &[u64], state: &[u64], room: usize, answer: &Result<Vec<u64>, u64>) {
-    let what = ("respond", n, k, vectors, state, room);
+pub fn respond_gives(net: Network, k: u64, vectors: &[u64], state: &[u64], room: usize, answer: &Answer<Vec<u64>>) {
+    let what = ("respond", net, k, vectors, state, room);
     let given = [Given::of(vectors), Given::of(state)];
     let mut response = Lent::words(room);
-    let number = raw::respond(n, k, given[0].give(), given[1].give(), response.lend());
+    let number = raw::respond(of_library(net), k, given[0].give(), given[1].give(), response.lend());
     assert_eq!(number, code(answer), "{what:?}");
     response.assert_holds(&written(answer), &what);
     given.iter().for_each(Given::assert_unchanged);
 }
 
-pub fn diagnose_gives(n: u64, k: u64, vectors: &[u64], responses: &[u64], room: usize, answer: &Result<Vec<u64>, u64>) {
-    let what = ("diagnose", n, k, vectors, responses, room);
+pub fn diagnose_gives(
+    net: Network,
+    k: u64,
+    vectors: &[u64],
+    responses: &[u64],
+    room: usize,
+    answer: &Answer<Vec<u64>>,
+) {
+    let what = ("diagnose", net, k, vectors, responses, room);
     let given = [Given::of(vectors), Given::of(responses)];
     let mut state = Lent::words(room);
-    let number = raw::diagnose(n, k, given[0].give(), given[1].give(), state.lend());
+    let number = raw::diagnose(of_library(net), k, given[0].give(), given[1].give(), state.lend());
     assert_eq!(number, code(answer), "{what:?}");
     state.assert_holds(&written(answer), &what);
     given.iter().for_each(Given::assert_unchanged);
@@ -62,17 +73,22 @@ pub fn table_words(records: &[Finding]) -> Vec<u64> {
 }
 
 /// The table is lent with `room` words, which is room for a third as many records.
-pub fn findings_gives(n: u64, state: &[u64], room: usize, answer: &Result<Vec<Finding>, u64>) {
-    let what = ("findings", n, state, room);
+pub fn findings_gives(net: Network, state: &[u64], room: usize, answer: &Answer<Vec<Finding>>) {
+    let what = ("findings", net, state, room);
     let given = Given::of(state);
     let mut table = Lent::words(room);
-    let number = raw::findings(n, given.give(), table.lend());
+    let number = raw::findings(of_library(net), given.give(), table.lend());
     assert_eq!(number, code(answer), "{what:?}");
     table.assert_holds(&written(&answer.as_ref().map(|records| table_words(records)).map_err(|e| *e)), &what);
     given.assert_unchanged();
 }
 
-pub fn read_job_gives(file: &[u8], vector_room: usize, response_room: usize, answer: &Result<Job, u64>) {
+/// The words of a job.
+fn job_words(job: &Job) -> [u64; JOB_WORDS] {
+    [job.network.nets, job.network.level, job.k, job.vectors.len() as u64, job.responses.len() as u64]
+}
+
+pub fn read_job_gives(file: &[u8], vector_room: usize, response_room: usize, answer: &Answer<Job>) {
     let what = ("read", file, vector_room, response_room);
     let given = Given::of(file);
     let (mut vectors, mut responses) = (Lent::words(vector_room), Lent::words(response_room));
@@ -83,19 +99,25 @@ pub fn read_job_gives(file: &[u8], vector_room: usize, response_room: usize, ans
         Ok(read) => {
             vectors.assert_holds(&read.vectors, &what);
             responses.assert_holds(&read.responses, &what);
-            let counts = [read.n, read.k, read.vectors.len() as u64, read.responses.len() as u64];
-            job.assert_holds(&counts, &what);
+            job.assert_holds(&job_words(read), &what);
         }
         Err(_) => [&vectors, &responses, &job].iter().for_each(|list| list.assert_holds(&[], &what)),
     }
     given.assert_unchanged();
 }
 
-pub fn write_job_gives(n: u64, k: u64, vectors: &[u64], responses: &[u64], room: usize, answer: &Result<Vec<u8>, u64>) {
-    let what = ("write", n, k, vectors, responses, room);
+pub fn write_job_gives(
+    net: Network,
+    k: u64,
+    vectors: &[u64],
+    responses: &[u64],
+    room: usize,
+    answer: &Answer<Vec<u8>>,
+) {
+    let what = ("write", net, k, vectors, responses, room);
     let given = [Given::of(vectors), Given::of(responses)];
     let (mut file, mut size) = (Lent::bytes(room), Lent::words(3));
-    let number = raw::write_job(n, k, given[0].give(), given[1].give(), file.lend(), &mut size.lend()[0]);
+    let number = raw::write_job(of_library(net), k, given[0].give(), given[1].give(), file.lend(), &mut size.lend()[0]);
     assert_eq!(number, code(answer), "{what:?}");
     file.assert_holds(&written(answer), &what);
     size.assert_holds(&Vec::from_iter(answer.as_ref().ok().map(|bytes| bytes.len() as u64)), &what);

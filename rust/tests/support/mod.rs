@@ -6,4 +6,5 @@ pub mod boards;
 pub mod calls;
 pub mod generator;
 pub mod lent;
+pub mod networks;
 pub mod session;

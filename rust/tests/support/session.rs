@@ -1,14 +1,15 @@
 //! The calls of a session, made on a record.
 
 use super::lent::{Given, Lent};
+use super::networks::of_library;
 use fontarelga::raw;
 use model::session::WORDS;
-use model::Record;
+use model::{Network, Record};
 
 /// A call on a session record, with the room of the list that it is lent.
 #[derive(Clone, Debug)]
 pub enum Call {
-    Begin { n: u64, room: usize },
+    Begin { net: Network, room: usize },
     First { answers: Vec<u64>, room: usize },
     Second { answers: Vec<u64> },
 }
@@ -20,7 +21,7 @@ impl Call {
     /// The model's answer.
     pub fn answer(&self, record: &Record) -> Result<Left, u64> {
         match self {
-            Call::Begin { n, room } => model::begin(*n, *room),
+            Call::Begin { net, room } => model::begin(*net, *room),
             Call::First { answers, room } => model::first_answers(record, answers, *room),
             Call::Second { answers } => model::second_answers(record, answers).map(|left| (left, vec![])),
         }
@@ -36,7 +37,7 @@ impl Call {
     /// Makes the call on a record and a lent list, and gives its number.
     pub fn make(&self, record: &mut [u64; WORDS], list: &mut [u64]) -> u64 {
         match self {
-            Call::Begin { n, .. } => raw::begin(record, *n, list),
+            Call::Begin { net, .. } => raw::begin(record, of_library(*net), list),
             Call::First { answers, .. } => raw::first_answers(record, answers, list),
             Call::Second { answers } => raw::second_answers(record, answers),
         }
@@ -74,7 +75,7 @@ pub fn session_call_gives(record: &[u64; WORDS], call: &Call, answer: &Result<Le
 /// Compares the part to drive for lists that are too short, long enough and longer.
 pub fn part_to_drive_agrees(words: &[u64; WORDS]) {
     let record = Record::from_words(words);
-    for (first, second) in [(8, 49), (0, 49), (8, 0), (2, 3), (1, 3), (2, 2), (9, 60)] {
+    for (first, second) in [(8, 49), (0, 49), (8, 0), (2, 3), (1, 3), (2, 2), (2, 1), (9, 60)] {
         let part = raw::to_drive(words, &vec![7; first], &vec![7; second]);
         assert_eq!(part, model::to_drive(&record, first, second) as u64, "{words:?} {first} {second}");
     }

@@ -12,7 +12,7 @@ use Rattle.checker.specs.Check.{check-answer}
 use Rattle.checker.proofs.check.Statement.{statement}
 use Rattle.checker.proofs.check.Tie as tie
 
--- the answer where rows 5 to 8 refuse, and where they admit the test set
+-- the answer where the rows of a test set refuse, and where they admit it
 module _ (net : Network) (k : ℕ) (vectors : List ℕ) where
   by-set : (number : ℕ) → set-admission net k vectors ≡ refused number → check-answer net k vectors ≡ refused number
   unfolding check-answer
@@ -38,7 +38,7 @@ returns c =
 enum-told : tie.Need-enum-told
 enum-told c = search needs
 
--- rows 5 to 8 have admitted the test set
+-- the rows have admitted the test set
 admitted : (c : tie.After-enum-told) → let a = c .before .before .before .before .args in
     set-admission (a .net) (a .class) (a .vectors .now) ≡ full tt
 admitted c = sym (c .before .before .admit-set .ensures) ∙ ap admission (c .enum-told .given .1)

@@ -17,7 +17,7 @@ use Rattle.diagnosis.proofs.DiagnosisLaws.{passes-rule}
 use Rattle.diagnosis.proofs.diagnose.Statement.{statement}
 use Rattle.diagnosis.proofs.diagnose.Tie as tie
 
--- the answer where rows 5 to 8 refuse, and by the call's own rows where they do not
+-- the answer where the rows of a test set refuse, and by the call's own rows where they do not
 module _ (net : Network) (k : ℕ) (vectors responses lent : List ℕ) where
   by-set : (number : ℕ) → set-admission net k vectors ≡ refused number
       → diagnosis-answer net k vectors responses (length lent) ≡ refused number
@@ -72,7 +72,7 @@ returns c =
 enum-told : tie.Need-enum-told
 enum-told c = search needs
 
--- rows 5 to 8 have admitted the test set
+-- the rows have admitted the test set
 admitted : (c : tie.After-enum-told) → let a = c .before .before .before .before .before .before .args in
     set-admission (a .net) (a .class) (a .vectors .now) ≡ full tt
 admitted c = sym (c .before .before .admit-set .ensures) ∙ ap admission (c .enum-told .given .1)
@@ -126,7 +126,7 @@ returns-4 c =
     (by-row-12 (a .net) (a .class) (a .vectors .now) (a .responses .now) (a .out .now) (admitted d) (nine e) (ten f)
     (sym (c .before .no-room .ensures) ∙ c .if3 .taken))
 
--- rows 5 to 12 do not hold
+-- no row up to 12 holds
 module _ (c : tie.Else3) where
   abbrev response-passed : tie.Else2
   response-passed = c .before .before

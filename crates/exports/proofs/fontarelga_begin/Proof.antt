@@ -7,7 +7,7 @@ use Rattle.words.specs.Answers.{Answer}
 use Rattle.session.specs.declared.Session.{Session}
 use Rattle.session.specs.declared.Stepped.{Stepped}
 use Rattle.session.specs.Calls.{stepped, begin-answer, begun}
-use Rattle.packing.specs.Packed.{network-of}
+use Rattle.network.specs.Reading.{network-with}
 use Rattle.exports.proofs.CallLaws.{step-code, step-words}
 use Rattle.exports.proofs.fontarelga_begin.Statement.{statement}
 use Rattle.exports.proofs.fontarelga_begin.Tie as tie
@@ -29,8 +29,8 @@ returns c =
     let k = c .before .before .before in
     let h = k .before .before in
     let a = h .before .before .before .args in
-    let answer : Session → Answer (List ℕ) = λ session. begin-answer (network-of (a .nets)) (length (a .first .now)) in
-    let done : Session → Stepped = λ session. begun session (network-of (a .nets)) (length (a .first .now)) in
+    let answer : Session → Answer (List ℕ) = λ session. begin-answer (network-with (a .nets) (a .level)) (length (a .first .now)) in
+    let done : Session → Stepped = λ session. begun session (network-with (a .nets) (a .level)) (length (a .first .now)) in
     let by : (session : Session) → (new : Session) × (done session ≡ stepped (answer session) new session) =
     λ session. (_, refl) in
     let held = h .session-of .ensures in

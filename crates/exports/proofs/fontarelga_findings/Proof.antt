@@ -10,7 +10,8 @@ use Rattle.words.specs.Answers.{full, lent-after}
 use Rattle.findings.specs.declared.Finding.{Finding}
 use Rattle.findings.specs.FindingsTable.{blank-table}
 use Rattle.findings.proofs.FindingsLaws.{Accepted, table-refused, table-accepted, records-written, refused-in-any-room, accepted-by-room}
-use Rattle.packing.specs.Packed.{finding-words, network-of}
+use Rattle.network.specs.Reading.{network-with}
+use Rattle.packing.specs.Packed.{finding-words}
 use Rattle.exports.proofs.CallLaws.{code-refused, words-refused, code-full, words-full}
 use Rattle.exports.proofs.fontarelga_findings.Statement.{statement}
 use Rattle.exports.proofs.fontarelga_findings.Tie as tie
@@ -23,8 +24,8 @@ returns c =
     let r = c .before .before in
     let a = r .before .before .before .args in
     let d = r .by-value in
-    let e = refused-in-any-room (network-of (a .nets)) (a .state .now) (length (a .table .now) / 3) (d .result .code)
-    (table-refused (network-of (a .nets)) (a .state .now) 48 (d .result .code) (c .if1 .taken) (d .ensures .0)) in
+    let e = refused-in-any-room (network-with (a .nets) (a .level)) (a .state .now) (length (a .table .now) / 3) (d .result .code)
+    (table-refused (network-with (a .nets) (a .level)) (a .state .now) 48 (d .result .code) (c .if1 .taken) (d .ensures .0)) in
     (code-refused _ _ e, words-refused _ _ e finding-words (a .table .now))
 
 -- accepted with a table of 48 records
@@ -32,10 +33,11 @@ module _ (c : tie.Else1) where
   abbrev start : tie.Start
   start = c .before .before .before .before .before
 
-  accepted : Accepted (network-of (start .args .nets)) (start .args .state .now) 48
+  accepted : Accepted (network-with (start .args .nets) (start .args .level)) (start .args .state .now) 48
   accepted =
       let d = c .before .before .by-value in
-      table-accepted (network-of (start .args .nets)) (start .args .state .now) 48 (d .result .code) (c .if1 .left) (d .ensures .0)
+      table-accepted (network-with (start .args .nets) (start .args .level)) (start .args .state .now) 48 (d .result .code)
+      (c .if1 .left) (d .ensures .0)
 
 no-room-requires : tie.Need-no-room-requires
 no-room-requires c κs = search needs
@@ -44,7 +46,7 @@ returns-2 : tie.Need-returns-2
 returns-2 c =
     let d = c .before .before in
     let a = start d .args in
-    let e = accepted-by-room (network-of (a .nets)) (a .state .now) (length (a .table .now) / 3) (accepted d) true
+    let e = accepted-by-room (network-with (a .nets) (a .level)) (a .state .now) (length (a .table .now) / 3) (accepted d) true
     (sym (c .before .no-room .ensures) ∙ c .if2 .taken) in
     (code-refused _ _ e, words-refused _ _ e finding-words (a .table .now))
 
@@ -66,9 +68,10 @@ returns-3 c =
     let d = e .before .before in
     let a = start d .args in
     let b = d .before .before .by-value in
-    let ok = accepted-by-room (network-of (a .nets)) (a .state .now) (length (a .table .now) / 3) (accepted d) false
+    let ok = accepted-by-room (network-with (a .nets) (a .level)) (a .state .now) (length (a .table .now) / 3) (accepted d) false
     (sym (e .before .no-room .ensures) ∙ e .if2 .left) in
-    let written = records-written (network-of (a .nets)) (a .state .now) blank-table (b .result .table) (accepted d) (b .ensures .1) in (
+    let net = network-with (a .nets) (a .level) in
+    let written = records-written net (a .state .now) blank-table (b .result .table) (accepted d) (b .ensures .1) in (
       code-full _ _ ok,
       words-full _ _ ok finding-words (a .table .now) _
           (p .put-findings .ensures ∙ ap (λ (found : List Finding). lent-after (full (finding-words found)) (a .table .now)) written),

@@ -4,7 +4,8 @@ use lib.ListN.{length}
 use Rattle.words.specs.Answers.{refused, full, count-of}
 use Rattle.words.proofs.Answers.{counted-refused}
 use Rattle.writer.specs.Writer.{write-answer, meaning}
-use Rattle.packing.specs.Packed.{network-of, size-words}
+use Rattle.network.specs.Reading.{network-with}
+use Rattle.packing.specs.Packed.{size-words}
 use Rattle.exports.specs.Exported.{code}
 use Rattle.exports.proofs.CallLaws.{fixed-refused, code-counted, fixed-size}
 use Rattle.exports.proofs.fontarelga_write_job.Statement.{statement}
@@ -28,7 +29,8 @@ returns c =
     let t = c .before .before in
     let k = t .before .before .before .before in
     let a = k .before .before .before .before .before .args in
-    let answer = write-answer (network-of (a .nets)) (a .class) (a .vectors .now) (a .responses .now) (length (a .file .now)) in
+    let net = network-with (a .nets) (a .level) in
+    let answer = write-answer net (a .class) (a .vectors .now) (a .responses .now) (length (a .file .now)) in
     let count = t .count .given .0 .0 in
     let said : full count ≡ count-of answer = sym (ap meaning (t .count .given .1)) ∙ k .write-job .ensures .0 in
     (code-counted answer (full count) said, (k .write-job .ensures .1, fixed-size answer count (a .size .now) said))
@@ -42,7 +44,8 @@ returns-2 c =
     let t = c .before in
     let k = t .before .before .before .before in
     let a = k .before .before .before .before .before .args in
-    let answer = write-answer (network-of (a .nets)) (a .class) (a .vectors .now) (a .responses .now) (length (a .file .now)) in
+    let net = network-with (a .nets) (a .level) in
+    let answer = write-answer net (a .class) (a .vectors .now) (a .responses .now) (length (a .file .now)) in
     let number = t .number .given .0 .0 in
     let said : refused number ≡ count-of answer = sym (ap meaning (t .number .given .1)) ∙ k .write-job .ensures .0 in
     let e = counted-refused answer number (sym said) in

@@ -1,58 +1,70 @@
 use borrow.Author.Needs.{needs}
-use Prim.Native.Nat.{ℕ}
-use mathlib.Core.Path.{_≡_, sym, ap, _∙_}
+use Prim.Native.Nat.{ℕ, zero, suc}
+use mathlib.Core.Path.{_≡_, refl, sym, ap, _∙_}
 use mathlib.Core.Bool.{true, false}
+use mathlib.Core.Logic.{_≢_}
 use mathlib.Core.List.{List}
-use Rattle.words.specs.Answers.{full, by-tests, count-of}
+use Rattle.words.specs.Answers.{refused, full, by-tests, count-of}
 use Rattle.network.specs.declared.Network.{Network}
 use Rattle.network.specs.States.{not-a-state}
-use Rattle.network.specs.Rows.{bad-net-count, no-room}
+use Rattle.network.specs.Rows.{network-refusal, no-room}
 use Rattle.network.proofs.States.{test→state}
-use Rattle.network.proofs.Rows.{decides-row-5, nets-admitted}
-use Rattle.findings.specs.FindingsTable.{findings-answer, table-meaning}
+use Rattle.network.proofs.Rows.{network-refuses, network-admits, network-admitted, nets-admitted}
+use Rattle.findings.specs.FindingsTable.{table-tests, findings, findings-answer, table-meaning}
 use Rattle.findings.proofs.FindingsLaws.{findings-size}
 use Rattle.findings.proofs.table_refusal.Statement.{statement}
 use Rattle.findings.proofs.table_refusal.Tie as tie
 
 -- the answer by the rows
 module _ (net : Network) (state : List ℕ) (room : ℕ) where
-  by-row-5 : bad-net-count net ≡ true → table-meaning net 5 ≡ count-of (findings-answer net state room)
-  unfolding findings-answer by-tests count-of table-meaning
-  by-row-5 e = rw e
+  meaning-of : (number : ℕ) → number ≢ 0 → table-meaning net number ≡ refused number
+  unfolding table-meaning
+  meaning-of zero some = absurd (some refl)
+  meaning-of (suc number) some = refl
 
-  module _ (five : bad-net-count net ≡ false) where
+  by-network : (code : ℕ) → code ≡ network-refusal net → code ≢ 0 → table-meaning net code ≡ count-of (findings-answer net state room)
+  unfolding findings-answer count-of
+  by-network code e some =
+      meaning-of code some
+      ∙ sym (ap count-of (network-refuses net (table-tests net state room) (findings net state) (λ z. some (e ∙ z)) ∙ ap refused (sym e)))
+
+  module _ (good : network-refusal net ≡ 0) where
+    by-own : findings-answer net state room ≡ by-tests (table-tests net state room) (findings net state)
+    unfolding findings-answer
+    by-own = network-admits net (table-tests net state room) (findings net state) good
+
     by-row-11 : not-a-state net (net .nets) state ≡ true → table-meaning net 11 ≡ count-of (findings-answer net state room)
-    unfolding findings-answer by-tests count-of table-meaning
-    by-row-11 e = rw (five, e)
+    unfolding by-tests count-of table-meaning
+    by-row-11 e = rw (by-own, e)
 
     module _ (eleven : not-a-state net (net .nets) state ≡ false) where
       by-row-12 : no-room (net .nets) room ≡ true → table-meaning net 12 ≡ count-of (findings-answer net state room)
-      unfolding findings-answer by-tests count-of table-meaning
-      by-row-12 e = rw (five, eleven, e)
+      unfolding by-tests count-of table-meaning
+      by-row-12 e = rw (by-own, eleven, e)
 
       by-none : no-room (net .nets) room ≡ false → table-meaning net 0 ≡ count-of (findings-answer net state room)
-      unfolding findings-answer by-tests count-of table-meaning
-      by-none e = rw (five, eleven, e) (ap full (sym (findings-size net state ∙ test→state net (net .nets) state eleven .size)))
+      unfolding by-tests count-of table-meaning
+      by-none e = rw (by-own, eleven, e) (ap full (sym (findings-size net state ∙ test→state net (net .nets) state eleven .size)))
 
-bad-net-count-requires : tie.Need-bad-net-count-requires
-bad-net-count-requires c κs = search needs
+network-refusal-requires : tie.Need-network-refusal-requires
+network-refusal-requires c κs = search needs
 
 returns : tie.Need-returns
 returns c =
     let a = c .before .before .before .args in
-    by-row-5 (a .net) (a .state .now) (a .room) (sym (c .before .bad-net-count .ensures) ∙ c .if1 .taken)
+    by-network (a .net) (a .state .now) (a .room) _ (c .before .network-refusal .ensures) (c .if1 .taken)
 
-five : (c : tie.Else1) → bad-net-count (c .before .before .before .args .net) ≡ false
-five c = sym (c .before .bad-net-count .ensures) ∙ c .if1 .left
+good : (c : tie.Else1) → network-refusal (c .before .before .before .args .net) ≡ 0
+good c = sym (c .before .network-refusal .ensures) ∙ c .if1 .left
 
 not-a-state-requires : tie.Need-not-a-state-requires
-not-a-state-requires c κs = let net = c .before .before .before .args .net in nets-admitted net (decides-row-5 net .1 (five c)) .1
+not-a-state-requires c κs = let net = c .before .before .before .args .net in nets-admitted net (network-admitted net (good c) .0) .1
 
 returns-2 : tie.Need-returns-2
 returns-2 c =
     let d = c .before .before in
     let a = d .before .before .before .args in
-    by-row-11 (a .net) (a .state .now) (a .room) (five d) (sym (c .before .not-a-state .ensures) ∙ c .if2 .taken)
+    by-row-11 (a .net) (a .state .now) (a .room) (good d) (sym (c .before .not-a-state .ensures) ∙ c .if2 .taken)
 
 no-room-requires : tie.Need-no-room-requires
 no-room-requires c κs = search needs
@@ -65,19 +77,19 @@ returns-3 : tie.Need-returns-3
 returns-3 c =
     let d = c .before .before in
     let a = d .before .before .before .before .before .args in
-    by-row-12 (a .net) (a .state .now) (a .room) (five (d .before .before)) (eleven d) (sym (c .before .no-room .ensures) ∙ c .if3 .taken)
+    by-row-12 (a .net) (a .state .now) (a .room) (good (d .before .before)) (eleven d) (sym (c .before .no-room .ensures) ∙ c .if3 .taken)
 
 returns-4 : tie.Need-returns-4
 returns-4 c =
     let d = c .before .before in
     let a = d .before .before .before .before .before .args in
-    by-none (a .net) (a .state .now) (a .room) (five (d .before .before)) (eleven d) (sym (c .before .no-room .ensures) ∙ c .if3 .left)
+    by-none (a .net) (a .state .now) (a .room) (good (d .before .before)) (eleven d) (sym (c .before .no-room .ensures) ∙ c .if3 .left)
 
 pub table-refusal-spec : {M : Type 1} → statement M
 table-refusal-spec =
     tie.close
     (tie.spec
-    bad-net-count-requires
+    network-refusal-requires
     returns
     not-a-state-requires
     returns-2

@@ -20,7 +20,7 @@ use Rattle.network.proofs.response_from_state.Statement.{statement}
 use Rattle.network.proofs.response_from_state.Tie as tie
 
 module _ (net : Network) (k : ℕ) (vectors state lent : List ℕ) where
-  -- the answer where rows 5 to 8 refuse
+  -- the answer where the rows of a test set refuse
   by-set : (number : ℕ) → set-admission net k vectors ≡ refused number → response-answer net k vectors state (length lent) ≡ refused number
   unfolding response-answer
   by-set number e = set-refuses net k vectors (own-tests net k vectors state (length lent)) (response net state vectors) number e
@@ -67,7 +67,7 @@ returns c =
 enum-told : tie.Need-enum-told
 enum-told c = search needs
 
--- rows 5 to 8 have admitted the test set
+-- the rows have admitted the test set
 admitted : (c : tie.After-enum-told)
     → set-admission (c .before .before .before .before .before .before .args .net)
     (c .before .before .before .before .before .before .args .class)

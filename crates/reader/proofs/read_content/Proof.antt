@@ -14,7 +14,7 @@ use Rattle.network.specs.Rows.{admission, no-room}
 use Rattle.jobfile.specs.Layout.{body-words, file-responses}
 use Rattle.jobfile.proofs.FileRows.{two-entries}
 use Rattle.reader.specs.declared.Job.{Job}
-use Rattle.reader.proofs.ReaderAnswers.{file-admission, content-same, file-no-room, by-rows-5-to-10, by-row-12}
+use Rattle.reader.proofs.ReaderAnswers.{file-admission, content-same, file-no-room, by-content-row, by-row-12}
 use Rattle.reader.proofs.ReaderAnswers.{by-none, owed-refused-both, owed-content}
 use Rattle.reader.proofs.read_content.Statement.{statement}
 use Rattle.reader.proofs.read_content.Tie as tie
@@ -100,7 +100,7 @@ admit-job-requires c κs = search needs
 enum-known-admission : tie.Need-enum-known-admission
 enum-known-admission c = search needs
 
--- rows 5 to 10 of the words read are those of the file
+-- the rows of the test set, 9 and 10 of the words read are those of the file
 module _ (c : tie.After-admit-job) where
   abbrev read : tie.After-response-count
   read = c .before .before .before
@@ -121,7 +121,7 @@ returns c =
     let vectors = s .args .vectors .now in
     let responses = s .args .responses .now in
     owed-refused-both _ number vectors responses
-    (by-rows-5-to-10 (file (read d)) (length vectors) (length responses) (s .pre .0) (s .pre .1) (s .pre .2) number
+    (by-content-row (file (read d)) (length vectors) (length responses) (s .pre .0) (s .pre .1) (s .pre .2) number
     (told d ∙ ap admission (c .before .admission .given .1)))
 
 enum-told : tie.Need-enum-told
@@ -130,7 +130,7 @@ enum-told c = search needs
 no-room-requires : tie.Need-no-room-requires
 no-room-requires c κs = search needs
 
--- rows 5 to 10 do not hold, and row 12 is asked
+-- none of them holds, and row 12 is asked
 module _ (c : tie.After-no-room) where
   abbrev asked : tie.After-admit-job
   asked = c .before .before .before

@@ -2,12 +2,14 @@ use borrow.Author.Needs.{needs}
 use Prim.Native.Nat.{ℕ, _≤_}
 use mathlib.Core.Path.{_≡_, sym, ap, _∙_}
 use mathlib.Core.Bool.{true, false}
+use mathlib.Core.Logic.{_≢_}
+use mathlib.Core.List.{[], _∷_}
 use lib.ListN.{length}
 use borrow.Author.Tests.{ltb-false}
 use Rattle.words.specs.Answers.{refused, full, by-tests}
 use Rattle.network.specs.declared.Network.{Network}
-use Rattle.network.specs.Rows.{bad-net-count, no-room}
-use Rattle.network.proofs.Rows.{decides-row-5, nets-admitted}
+use Rattle.network.specs.Rows.{network-refusal, no-room}
+use Rattle.network.proofs.Rows.{network-refuses, network-admits, network-admitted, nets-admitted}
 use Rattle.steps.specs.FirstStep.{word-length, first-vectors}
 use Rattle.steps.proofs.StepOneWords.{first-size}
 use Rattle.session.specs.Record.{awaiting-first}
@@ -16,23 +18,28 @@ use Rattle.session.proofs.Stepping.{step-refused, step-full}
 use Rattle.session.proofs.begin_step.Statement.{statement}
 use Rattle.session.proofs.begin_step.Tie as tie
 
-bad-net-count-requires : tie.Need-bad-net-count-requires
-bad-net-count-requires c κs = search needs
+network-refusal-requires : tie.Need-network-refusal-requires
+network-refusal-requires c κs = search needs
 
 -- ---- the answer, row by row
 
 module _ (net : Network) (room : ℕ) where
-  row-5 : bad-net-count net ≡ true → begin-answer net room ≡ refused 5
-  unfolding begin-answer by-tests
-  row-5 e = rw e
+  by-network : network-refusal net ≢ 0 → begin-answer net room ≡ refused (network-refusal net)
+  unfolding begin-answer
+  by-network some = network-refuses net _ (first-vectors net) some
 
-  row-12 : bad-net-count net ≡ false → no-room (word-length net) room ≡ true → begin-answer net room ≡ refused 12
-  unfolding begin-answer by-tests
-  row-12 e f = rw (e, first-size net, f)
+  module _ (good : network-refusal net ≡ 0) where
+    by-room : begin-answer net room ≡ by-tests ((12, no-room (length (first-vectors net)) room) ∷ []) (first-vectors net)
+    unfolding begin-answer
+    by-room = network-admits net _ (first-vectors net) good
 
-  accepted : bad-net-count net ≡ false → no-room (word-length net) room ≡ false → begin-answer net room ≡ full (first-vectors net)
-  unfolding begin-answer by-tests
-  accepted e f = rw (e, first-size net, f)
+    row-12 : no-room (word-length net) room ≡ true → begin-answer net room ≡ refused 12
+    unfolding by-tests
+    row-12 e = rw (by-room, first-size net, e)
+
+    accepted : no-room (word-length net) room ≡ false → begin-answer net room ≡ full (first-vectors net)
+    unfolding by-tests
+    accepted e = rw (by-room, first-size net, e)
 
 refused-requires : tie.Need-refused-requires
 refused-requires c κs = search needs
@@ -41,21 +48,22 @@ returns : tie.Need-returns
 returns c =
     let d = c .before in
     let a = d .before .before .before .args in
-    step-refused (begin-answer (a .net) (length (a .list .now))) (awaiting-first (a .net)) (a .session) 5
+    let e = d .before .network-refusal .ensures in
+    step-refused (begin-answer (a .net) (length (a .list .now))) (awaiting-first (a .net)) (a .session) _
     (c .refused .result) (a .list .now) (c .refused .ensures)
-    (row-5 (a .net) (length (a .list .now)) (sym (d .before .bad-net-count .ensures) ∙ d .if1 .taken))
+    (by-network (a .net) (length (a .list .now)) (λ z. d .if1 .taken (e ∙ z)) ∙ ap refused (sym e))
 
--- ---- row 5 does not hold
+-- ---- no row of the network holds
 
 module _ (c : tie.Else1) where
   abbrev start : tie.Start
   start = c .before .before .before
 
-  nets-good : bad-net-count (start .args .net) ≡ false
-  nets-good = sym (c .before .bad-net-count .ensures) ∙ c .if1 .left
+  good : network-refusal (start .args .net) ≡ 0
+  good = sym (c .before .network-refusal .ensures) ∙ c .if1 .left
 
   nets-bounds : (2 ≤ start .args .net .nets) × (start .args .net .nets ≤ 48)
-  nets-bounds = nets-admitted (start .args .net) (decides-row-5 (start .args .net) .1 nets-good)
+  nets-bounds = nets-admitted (start .args .net) (network-admitted (start .args .net) good .0)
 
 word-length-requires : tie.Need-word-length-requires
 word-length-requires c κs = nets-bounds c
@@ -80,7 +88,7 @@ returns-2 c =
     let a = start e .args in
     step-refused (begin-answer (a .net) (length (a .list .now))) (awaiting-first (a .net)) (a .session) 12
     (c .refused2 .result) (a .list .now) (c .refused2 .ensures)
-    (row-12 (a .net) (length (a .list .now)) (nets-good e) (room-test (d .before) ∙ d .if2 .taken))
+    (row-12 (a .net) (length (a .list .now)) (good e) (room-test (d .before) ∙ d .if2 .taken))
 
 first-vectors-requires : tie.Need-first-vectors-requires
 first-vectors-requires c κs =
@@ -103,14 +111,14 @@ returns-3 c =
     let a = start e .args in
     step-full (begin-answer (a .net) (length (a .list .now))) (awaiting-first (a .net)) (a .session)
     (c .awaiting-first .result) (first-vectors (a .net)) (a .list .now) _
-    (accepted (a .net) (length (a .list .now)) (nets-good e) (room-test (d .before) ∙ d .if2 .left))
+    (accepted (a .net) (length (a .list .now)) (good e) (room-test (d .before) ∙ d .if2 .left))
     (c .awaiting-first .ensures) (f .first-vectors .ensures)
 
 pub begin-step-spec : {M : Type 1} → statement M
 begin-step-spec =
     tie.close
     (tie.spec
-    bad-net-count-requires
+    network-refusal-requires
     refused-requires
     returns
     word-length-requires

@@ -9,7 +9,7 @@ use lib.Seq.{length-take-le}
 use borrow.Author.Tests.{eqb-true, ltb-false, not-true, not-false}
 use Rattle.words.specs.Answers.{refused, full, by-tests, lent-after}
 use Rattle.network.specs.Rows.{bad-response-count, has-high-bit, no-room}
-use Rattle.network.proofs.Rows.{decides-row-5, nets-admitted}
+use Rattle.network.proofs.Rows.{nets-admitted}
 use Rattle.steps.specs.FirstStep.{word-length}
 use Rattle.steps.specs.SecondStep.{unclear, second-vectors}
 use Rattle.steps.proofs.StepOneWords.{length-bounds, first-size}
@@ -79,7 +79,7 @@ module _ (c : tie.Else1) where
   nets-bounds : (2 ≤ start .args .session .network .nets) × (start .args .session .network .nets ≤ 48)
   nets-bounds =
       let net = start .args .session .network in
-      nets-admitted net (decides-row-5 net .1 (awaits-first-is (start .args .session) waits .1))
+      nets-admitted net (awaits-first-is (start .args .session) waits .1 .0)
 
 word-length-requires : tie.Need-word-length-requires
 word-length-requires c κs = nets-bounds (c .before)

@@ -9,7 +9,7 @@ use lib.Seq.{length-take-le}
 use borrow.Author.Tests.{eqb-true, not-true, not-false}
 use Rattle.words.specs.Answers.{refused, full, by-tests, lent-after}
 use Rattle.network.specs.Rows.{HighBit, bad-response-count, has-high-bit}
-use Rattle.network.proofs.Rows.{decides-row-5, decides-high-bit, nets-admitted}
+use Rattle.network.proofs.Rows.{decides-high-bit, nets-admitted}
 use Rattle.diagnosis.specs.ReadBack.{read-back, no-state-fits}
 use Rattle.steps.specs.FirstStep.{first-vectors}
 use Rattle.steps.specs.SecondStep.{second-vectors, session-vectors}
@@ -98,7 +98,7 @@ module _ (c : tie.Else1) where
   told = awaits-second-is (start .args .session) waits
 
   nets-bounds : (2 ≤ start .args .session .network .nets) × (start .args .session .network .nets ≤ 48)
-  nets-bounds = let net = start .args .session .network in nets-admitted net (decides-row-5 net .1 (told .nets-good))
+  nets-bounds = let net = start .args .session .network in nets-admitted net (told .admitted .0)
 
 word-length-requires : tie.Need-word-length-requires
 word-length-requires c κs = nets-bounds (c .before)

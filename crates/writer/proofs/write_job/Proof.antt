@@ -1,10 +1,10 @@
 use borrow.Author.Needs.{needs}
-use Prim.Native.Nat.{ℕ, _≤_, _<_}
+use Prim.Native.Nat.{ℕ, _≤_}
 use native.Mathlib.Omega.{arith}
 use mathlib.Core.Path.{_≡_, sym, ap, ap₂, _∙_}
 use mathlib.Core.Bool.{Bool, true, false, _&&_}
 use mathlib.Core.Logic.{⊎-elim}
-use mathlib.Core.List.{List}
+use mathlib.Core.List.{List, [], _∷_}
 use lib.Dec.{ltb}
 use lib.ListN.{length}
 use borrow.Author.Tests.{ltb-false}
@@ -13,18 +13,21 @@ use Rattle.words.proofs.Answers.{owed-refused, owed-full}
 use Rattle.network.specs.declared.Network.{Network}
 use Rattle.network.specs.Rows.{set-admission, admission, bad-response-count, has-high-bit, no-room}
 use Rattle.network.proofs.Rows.{set-refuses, set-admits, set-admitted, AdmittedSet}
+use Rattle.jobfile.specs.Bytes.{AllBytes}
+use Rattle.jobfile.specs.Layout.{nets-bytes}
+use Rattle.jobfile.proofs.ByteLaws.{bytes-none, bytes-more}
 use Rattle.writer.specs.Writer.{file-of, given, own-tests, write-answer}
 use Rattle.writer.proofs.WriterLaws.{given-is, responses-most}
 use Rattle.writer.proofs.write_job.Statement.{statement}
 use Rattle.writer.proofs.write_job.Tie as tie
 
 module _ (net : Network) (k : ℕ) (vectors responses lent : List ℕ) where
-  -- the answer where rows 5 to 8 refuse
+  -- the answer where the rows of the test set refuse it
   by-set : (number : ℕ) → set-admission net k vectors ≡ refused number → write-answer net k vectors responses (length lent) ≡ refused number
   unfolding write-answer
   by-set number e = set-refuses net k vectors (own-tests net k vectors responses (length lent)) (file-of net k vectors responses) number e
 
-  -- and where they admit the test set: rows 9, 10 and 12, then the file
+  -- and where they admit it: rows 9, 10 and 12, then the file
   by-own : set-admission net k vectors ≡ full tt
       → write-answer net k vectors responses (length lent)
       ≡ by-tests (own-tests net k vectors responses (length lent)) (file-of net k vectors responses)
@@ -57,12 +60,14 @@ module _ (net : Network) (k : ℕ) (vectors responses lent : List ℕ) where
 asked : (responses : List ℕ) (test result : Bool) → result ≡ test → given responses && test ≡ ltb 0 (length responses) && result
 asked responses test result e = ap₂ (λ (a b : Bool). a && b) (sym (given-is responses)) (sym e)
 
--- nets and class fit a byte each
-fit-bytes : (net : Network) (k : ℕ) (vectors : List ℕ) → AdmittedSet net k vectors → (net .nets < 256) × (k < 256)
+-- the nets body is of bytes
+fit-bytes : (net : Network) (k : ℕ) (vectors : List ℕ) → AdmittedSet net k vectors → AllBytes (nets-bytes net k)
 fit-bytes net k vectors s =
     let most = s .most in
+    let level = s .level-byte in
     let class : k ≤ 48 = ⊎-elim (λ l. omega arith) (λ e. omega arith) (s .class) in
-    (omega arith, omega arith)
+    bytes-more (net .nets) (k ∷ net .level ∷ []) (omega arith)
+    (bytes-more k (net .level ∷ []) (omega arith) (bytes-more (net .level) [] (omega arith) bytes-none))
 
 admit-set-requires : tie.Need-admit-set-requires
 admit-set-requires c κs = search needs
@@ -81,7 +86,7 @@ returns c =
 enum-told : tie.Need-enum-told
 enum-told c = search needs
 
--- rows 5 to 8 have admitted the test set
+-- the rows of the test set have admitted it
 admitted : (c : tie.After-enum-told)
     → set-admission (c .before .before .before .before .before .before .args .net)
     (c .before .before .before .before .before .before .args .class)
@@ -180,7 +185,7 @@ put-file-requires c κs =
     let space = ltb-false (length (a .file .now))
     (length (file-of (a .net) (a .class) (a .vectors .now) (a .responses .now)))
     (room r ∙ c .before .if3 .left) in
-    (fits .0, fits .1, s .vectors-most, space)
+    (fits, s .vectors-most, space)
 
 same-length : tie.Need-same-length
 same-length c = search needs

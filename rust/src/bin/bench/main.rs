@@ -6,10 +6,10 @@ mod generator;
 mod plain;
 mod timing;
 
-use fontarelga::{raw, Job, Network, FINDING_WORDS};
+use fontarelga::{raw, Job, Network, FINDING_WORDS, JOB_WORDS, MOST_FIRST_VECTORS, MOST_SECOND_VECTORS, RECORD_WORDS};
 use generator::Generator;
 use plain::checker::{hash, pairs};
-use plain::session::Record;
+use plain::session::{Record, REACHES};
 use std::hint::black_box;
 use timing::{print_head, print_lines};
 
@@ -18,82 +18,94 @@ const FEW: u64 = 4;
 const SESSIONS: usize = 1000;
 const STATES: usize = 1000;
 
-/// Vector 0 and the walking vectors of n nets.
-fn walking(n: u64) -> Vec<u64> {
-    std::iter::once(0).chain((0..n).map(|i| 1 << i)).collect()
+/// The walking vectors, and vector 0 before them where class n wants it.
+fn walking(network: Network) -> Vec<u64> {
+    plain::extra_vector(network).into_iter().chain((0..network.nets()).map(|i| 1 << i)).collect()
 }
 
-/// Measures the check of one set of n nets for one class.
-fn bench_check(n: u64, set: &str, vectors: &[u64], k: u64) {
+/// A job's name, with what is not 48 nets and soft level 1.
+fn named(job: &str, network: Network) -> String {
+    let level = if network.level() == 1 { String::new() } else { format!(", level {}", network.level()) };
+    let nets = if network.nets() == N { String::new() } else { format!(", n = {}", network.nets()) };
+    format!("{job}{level}{nets}")
+}
+
+/// Measures the check of one set for one class.
+fn bench_check(network: Network, set: &str, vectors: &[u64], k: u64) {
     let (mut ours, mut theirs) = ([7; 3], [7; 3]);
-    assert_eq!(raw::check(n, k, vectors, &mut ours), plain::checker::check(pairs, n, k, vectors, &mut theirs));
+    assert_eq!(raw::check(network, k, vectors, &mut ours), 0);
+    assert_eq!(plain::checker::check(pairs, network, k, vectors, &mut theirs), 0);
     assert_eq!(ours, theirs);
-    assert_eq!(plain::checker::check(hash, n, k, vectors, &mut theirs), 0);
+    assert_eq!(plain::checker::check(hash, network, k, vectors, &mut theirs), 0);
     assert_eq!(ours, theirs);
     let verdict = if ours[0] == 0 { "pass" } else { "pair" };
     let mut by_pairs = [0; 3];
     let mut call = || {
-        black_box(raw::check(n, k, black_box(vectors), black_box(&mut ours)));
+        black_box(raw::check(network, k, black_box(vectors), black_box(&mut ours)));
     };
     let mut call_hash = || {
-        black_box(plain::checker::check(hash, n, k, black_box(vectors), black_box(&mut theirs)));
+        black_box(plain::checker::check(hash, network, k, black_box(vectors), black_box(&mut theirs)));
     };
     let mut call_pairs = || {
-        black_box(plain::checker::check(pairs, n, k, black_box(vectors), black_box(&mut by_pairs)));
+        black_box(plain::checker::check(pairs, network, k, black_box(vectors), black_box(&mut by_pairs)));
     };
-    let nets = if n == N { String::new() } else { format!("n = {n}, ") };
-    let job = format!("check, {nets}k = {k}, {set}: {verdict}");
-    if k == n {
+    let job = format!("{}, k = {k}, {set}: {verdict}", named("check", network));
+    if k == network.nets() {
         print_lines(&job, &mut call, &mut [("rule", &mut call_hash)]);
     } else {
         print_lines(&job, &mut call, &mut [("pairs", &mut call_pairs), ("hash", &mut call_hash)]);
     }
 }
 
-fn bench_diagnosis(k: u64, g: &mut Generator) {
-    let vectors = walking(N);
+fn bench_diagnosis(network: Network, k: u64, g: &mut Generator) {
+    let vectors = walking(network);
     let state = g.state(N, k);
-    let responses: Vec<u64> = vectors.iter().map(|vector| plain::read(&state, *vector)).collect();
+    let responses: Vec<u64> = vectors.iter().map(|vector| plain::read(network, &state, *vector)).collect();
     let (mut ours, mut theirs) = ([7; N as usize], [7; N as usize]);
-    assert_eq!(raw::diagnose(N, k, &vectors, &responses, &mut ours), 0);
-    assert_eq!(plain::diagnosis::diagnose(N, k, &vectors, &responses, &mut theirs), 0);
+    assert_eq!(raw::diagnose(network, k, &vectors, &responses, &mut ours), 0);
+    assert_eq!(plain::diagnosis::diagnose(network, k, &vectors, &responses, &mut theirs), 0);
     assert_eq!((&ours[..], ours), (&state[..], theirs));
     let (vectors, responses) = (&vectors[..], &responses[..]);
     let mut call = || {
-        black_box(raw::diagnose(N, k, black_box(vectors), black_box(responses), black_box(&mut ours)));
+        black_box(raw::diagnose(network, k, black_box(vectors), black_box(responses), black_box(&mut ours)));
     };
     let mut call_plain = || {
         let lent = black_box(&mut theirs);
-        black_box(plain::diagnosis::diagnose(N, k, black_box(vectors), black_box(responses), lent));
+        black_box(plain::diagnosis::diagnose(network, k, black_box(vectors), black_box(responses), lent));
     };
+    let job = format!("{}, k = {k}, walking", named("diagnosis", network));
     let name = if k == N { "plain" } else { "hash" };
-    print_lines(&format!("diagnosis, k = {k}, walking"), &mut call, &mut [(name, &mut call_plain)]);
+    print_lines(&job, &mut call, &mut [(name, &mut call_plain)]);
 }
 
-/// The table of one state, ours or the plain one.
-fn table(call: fn(u64, &[u64], &mut [u64]) -> u64, state: &[u64]) -> [u64; FINDING_WORDS * N as usize] {
+/// The call *findings*, ours or the plain one.
+type Findings = fn(Network, &[u64], &mut [u64]) -> u64;
+
+/// The table of one state.
+fn table(call: Findings, network: Network, state: &[u64]) -> [u64; FINDING_WORDS * N as usize] {
     let mut table = [0; FINDING_WORDS * N as usize];
-    assert_eq!(call(N, state, &mut table), 0);
+    assert_eq!(call(network, state, &mut table), 0);
     table
 }
 
-fn bench_findings(g: &mut Generator) {
+fn bench_findings(network: Network, g: &mut Generator) {
     let states: Vec<Vec<u64>> = (0..STATES).map(|_| g.state(N, N)).collect();
     for state in &states {
-        assert_eq!(table(raw::findings, state), table(plain::findings::findings, state));
+        assert_eq!(table(raw::findings, network, state), table(plain::findings::findings, network, state));
     }
-    let run_all = |call: fn(u64, &[u64], &mut [u64]) -> u64| {
+    let run_all = |call: Findings| {
         for state in &states {
-            black_box(table(call, black_box(state)));
+            black_box(table(call, network, black_box(state)));
         }
     };
-    let mut call = || run_all(raw::findings);
-    print_lines("findings of 1,000 states", &mut call, &mut [("plain", &mut || run_all(plain::findings::findings))]);
+    let mut call_plain = || run_all(plain::findings::findings);
+    let job = named("findings of 1,000 states", network);
+    print_lines(&job, &mut || run_all(raw::findings), &mut [("plain", &mut call_plain)]);
 }
 
 /// The three calls of a session, ours or the plain ones.
 struct Calls {
-    begin: fn(&mut Record, u64, &mut [u64]) -> u64,
+    begin: fn(&mut Record, Network, &mut [u64]) -> u64,
     first: fn(&mut Record, &[u64], &mut [u64]) -> u64,
     second: fn(&mut Record, &[u64]) -> u64,
 }
@@ -111,10 +123,15 @@ struct Board {
     second: Vec<u64>,
 }
 
-fn board(state: &[u64]) -> Board {
-    let (mut session, mut first, mut second) = ([0; 59], [0; 8], [0; 49]);
-    let read = |vectors: &[u64]| vectors.iter().map(|vector| plain::read(state, *vector)).collect::<Vec<u64>>();
-    assert_eq!(plain::session::begin(&mut session, N, &mut first), 0);
+/// A clean record, and the lists for the vectors of both steps.
+fn lent() -> (Record, [u64; MOST_FIRST_VECTORS], [u64; MOST_SECOND_VECTORS]) {
+    ([0; RECORD_WORDS], [0; MOST_FIRST_VECTORS], [0; MOST_SECOND_VECTORS])
+}
+
+fn board(network: Network, state: &[u64]) -> Board {
+    let (mut session, mut first, mut second) = lent();
+    let read = |vectors: &[u64]| -> Vec<u64> { vectors.iter().map(|v| plain::read(network, state, *v)).collect() };
+    assert_eq!(plain::session::begin(&mut session, network, &mut first), 0);
     let first = read(&first);
     assert_eq!(plain::session::first_answers(&mut session, &first, &mut second), 0);
     let count = second.iter().rposition(|vector| *vector != 0).map_or(0, |last| last + 1);
@@ -122,9 +139,9 @@ fn board(state: &[u64]) -> Board {
 }
 
 /// A whole session; gives its last record.
-fn run(calls: &Calls, board: &Board) -> Record {
-    let (mut session, mut first, mut second) = ([0; 59], [0; 8], [0; 49]);
-    let mut numbers = (calls.begin)(&mut session, N, &mut first);
+fn run(calls: &Calls, network: Network, board: &Board) -> Record {
+    let (mut session, mut first, mut second) = lent();
+    let mut numbers = (calls.begin)(&mut session, network, &mut first);
     numbers |= (calls.first)(&mut session, &board.first, &mut second);
     if session[0] == 2 {
         numbers |= (calls.second)(&mut session, &board.second);
@@ -133,27 +150,29 @@ fn run(calls: &Calls, board: &Board) -> Record {
     session
 }
 
-fn bench_sessions(g: &mut Generator) {
+fn bench_sessions(network: Network, g: &mut Generator) {
     let states: Vec<Vec<u64>> = (0..SESSIONS).map(|_| g.state(N, N)).collect();
-    let boards: Vec<Board> = states.iter().map(|state| board(state)).collect();
+    let boards: Vec<Board> = states.iter().map(|state| board(network, state)).collect();
     for (board, state) in boards.iter().zip(&states) {
-        let record = run(&OURS, board);
-        assert_eq!(record, run(&PLAIN, board));
-        assert_eq!(record[10..58], state[..]);
+        let record = run(&OURS, network, board);
+        assert_eq!(record, run(&PLAIN, network, board));
+        assert_eq!(record[REACHES..][..state.len()], state[..]);
     }
     let run_all = |calls: &Calls| {
         for board in &boards {
-            black_box(run(calls, black_box(board)));
+            black_box(run(calls, network, black_box(board)));
         }
     };
-    print_lines("1,000 sessions", &mut || run_all(&OURS), &mut [("plain", &mut || run_all(&PLAIN))]);
+    let job = named("1,000 sessions", network);
+    print_lines(&job, &mut || run_all(&OURS), &mut [("plain", &mut || run_all(&PLAIN))]);
 }
 
-fn bench_reader(g: &mut Generator) {
+fn bench_reader(network: Network, g: &mut Generator) {
     let mut words = || (0..64).map(|_| g.sparse(N)).collect::<Vec<u64>>();
-    let job = Job { network: Network::new(N), class: N, vectors: words(), responses: words() };
+    let job = Job { network, class: N, vectors: words(), responses: words() };
     let file = job.write().expect("an admitted job");
-    let (mut ours, mut theirs) = (([7; 64], [7; 64], [7; 4]), ([7; 64], [7; 64], [7; 4]));
+    let lists = ([7; 64], [7; 64], [7; JOB_WORDS]);
+    let (mut ours, mut theirs) = (lists, lists);
     assert_eq!(raw::read_job(&file, &mut ours.0, &mut ours.1, &mut ours.2), 0);
     assert_eq!(plain::job::read_job(&file, &mut theirs.0, &mut theirs.1, &mut theirs.2), 0);
     assert_eq!(ours, theirs);
@@ -165,27 +184,34 @@ fn bench_reader(g: &mut Generator) {
         let lent = black_box(&mut theirs);
         black_box(plain::job::read_job(black_box(&file), &mut lent.0, &mut lent.1, &mut lent.2));
     };
-    let name = format!("job reader, {} bytes", file.len());
+    let name = format!("{}, {} bytes", named("job reader", network), file.len());
     print_lines(&name, &mut call, &mut [("plain", &mut call_plain)]);
 }
 
-fn main() {
-    let g = &mut Generator(2024);
-    let (few, walking) = (walking(FEW), walking(N));
+fn bench_checks(network: Network, g: &mut Generator) {
+    let walking = walking(network);
     let random: Vec<u64> = (0..20).map(|_| g.sparse(N)).collect();
+    for k in [1, 2, 3, N] {
+        bench_check(network, "walking", &walking, k);
+        bench_check(network, "walking without the last", &walking[..walking.len() - 1], k);
+        bench_check(network, "20 random", &random, k);
+    }
+}
+
+/// Every job at one soft level. The same sets and boards are drawn at each.
+fn bench_level(level: u64) {
+    let g = &mut Generator(2024);
+    let [network, few] = [N, FEW].map(|nets| Network::new(nets).with_level(level));
+    bench_checks(network, g);
+    [1, 2, 3].iter().for_each(|k| bench_check(few, "walking", &walking(few), *k));
+    [1, 2, 3, N].iter().for_each(|k| bench_diagnosis(network, *k, g));
+    bench_sessions(network, g);
+    bench_reader(network, g);
+    bench_findings(network, g);
+}
+
+fn main() {
     print_head();
-    for k in [1, 2, 3, N] {
-        bench_check(N, "walking", &walking, k);
-        bench_check(N, "walking without the last", &walking[..N as usize], k);
-        bench_check(N, "20 random", &random, k);
-    }
-    for k in [1, 2, 3] {
-        bench_check(FEW, "walking", &few, k);
-    }
-    for k in [1, 2, 3, N] {
-        bench_diagnosis(k, g);
-    }
-    bench_sessions(g);
-    bench_reader(g);
-    bench_findings(g);
+    bench_level(1);
+    bench_level(0);
 }

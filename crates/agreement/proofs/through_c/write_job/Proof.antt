@@ -5,7 +5,7 @@ use mathlib.Core.List.{List}
 use lib.ListN.{length}
 use Rattle.words.specs.Answers.{Answer}
 use Rattle.writer.specs.Writer.{write-answer}
-use Rattle.packing.specs.Packed.{network-of}
+use Rattle.network.specs.Reading.{network-with}
 use Rattle.exports.specs.Exported.{fixed-after}
 use Rattle.exports.proofs.CallLaws.{code-counted}
 use Rattle.agreement.proofs.InWordsLaws.{wrote-in-words}
@@ -23,7 +23,8 @@ returns c =
     let done = c .before .before in
     let a = done .before .before .before .before .before .before .args in
     let e = done .fontarelga-write-job .ensures in
-    let answer = write-answer (network-of (a .nets)) (a .class) (a .vectors .now) (a .responses .now) (length (a .file .now)) in
+    let net = network-with (a .nets) (a .level) in
+    let answer = write-answer net (a .class) (a .vectors .now) (a .responses .now) (length (a .file .now)) in
     let size = ap (λ (b : Answer (List ℕ)). fixed-after b (a .size .now)) (wrote-in-words answer) in
     (e .0 ∙ sym (code-counted answer _ refl), (e .1 .0, e .1 .1 ∙ size))
 

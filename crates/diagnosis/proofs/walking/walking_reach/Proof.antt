@@ -1,4 +1,5 @@
 use borrow.Author.Needs.{needs}
+use borrow.Author.Tests.{eqb-true, eq-eqb}
 use Prim.Native.Nat.{ℕ, _-_}
 use native.Mathlib.Omega.{arith}
 use mathlib.Core.Path.{_≡_, refl, sym, ap, _∙_, subst}
@@ -8,29 +9,27 @@ use lib.Bits.{bitOr}
 use lib.Count.{trailingZeros}
 use lib.Pow.{pow-pos}
 use Rattle.words.specs.Bits.{has}
-use Rattle.words.proofs.Tests.{or-right}
+use Rattle.words.proofs.Tests.{contrary, and-left, and-right, and-both, or-right}
 use Rattle.words.proofs.Bits.{has-at-least}
 use Rattle.words.proofs.Classes.{has-where-zeros-end, none-below-lowest}
+use Rattle.network.specs.Reading.{needs-extra}
 use Rattle.diagnosis.proofs.Gathering.{Gathering, gathering-first, gathering-next, gathering-last}
 use Rattle.diagnosis.proofs.walking.walking_reach.Statement.{statement}
 use Rattle.diagnosis.proofs.walking.walking_reach.Tie as tie
 
 -- t is the first answer of 1 that is still to be looked at
 abbrev Inv-loop : tie.InvT-loop
-Inv-loop net vectors extra count reach₀ rest₀ t₀ reach rest t = (t ≡ trailingZeros 64 rest) × Gathering net vectors rest₀ rest reach
+Inv-loop net vectors count reach₀ rest₀ t₀ reach rest t = (t ≡ trailingZeros 64 rest) × Gathering net vectors rest₀ rest reach
 
 abbrev μ-loop : tie.MeasureT-loop
-μ-loop net vectors extra count reach₀ rest₀ t₀ reach rest t = rest
-
-extra-vector-requires : tie.Need-extra-vector-requires Inv-loop μ-loop
-extra-vector-requires c κs = search needs
+μ-loop net vectors count reach₀ rest₀ t₀ reach rest t = rest
 
 lowest-net-requires : tie.Need-lowest-net-requires Inv-loop μ-loop
 lowest-net-requires c κs = search needs
 
 loop-holds : tie.Need-loop-holds Inv-loop μ-loop
 loop-holds c =
-    let a = c .before .before .before .args in
+    let a = c .before .before .args in
     (c .lowest-net .ensures, gathering-first (a .net) (a .vectors .now) (a .answered .0))
 
 -- in the loop, the answer to vector t is 1
@@ -45,15 +44,22 @@ mul-vector c = search needs
 shared-slice-read-vector : tie.Need-shared-slice-read-vector Inv-loop μ-loop
 shared-slice-read-vector c = search needs
 
+is-extra-requires : tie.Need-is-extra-requires Inv-loop μ-loop
+is-extra-requires c κs = search needs
+
 returns : tie.Need-returns Inv-loop μ-loop
 returns c =
     let i = c .before .before .before in
     let g = i .before in
     let l = g .loop in
+    let a = g .before .before .before .args in
+    let needed = needs-extra (a .net) in
+    let x = sym (c .before .is-extra .ensures) ∙ c .if1 .taken in
     inl (
       l .t,
       i .loop-test .taken,
-      c .if1 .taken ∙ g .before .before .extra-vector .ensures,
+      and-left needed _ x,
+      eqb-true _ _ (and-right needed _ x),
       l .inv .1 .parts (l .t) ∙ or-right (has (l .inv .1 .seen) (l .t)) _ (on i),
       refl,
     )
@@ -82,21 +88,22 @@ loop-again : tie.Need-loop-again Inv-loop μ-loop
 loop-again c =
     let i = c .before .before .before .before .before .before in
     let g = i .before in
-    let a = g .before .before .before .before .args in
+    let a = g .before .before .before .args in
     let l = g .loop in
     let w = c .before .before in (
       c .lowest-net2 .ensures,
       subst (λ (x : ℕ). Gathering (a .net) (a .vectors .now) (a .answered .0) (l .rest - x) (bitOr (l .reach) (w .walked-driver .result)))
           (sym (c .before .bit-word .ensures))
           (gathering-next (a .net) (a .vectors .now) (a .answered .0) (l .t) (l .rest) (l .reach) (w .walked-driver .result) (l .inv .1)
-          (i .loop-test .taken) (on i) (λ q. w .before .if1 .left (q ∙ sym (g .before .before .extra-vector .ensures)))
+          (i .loop-test .taken) (on i)
+          (λ s q. contrary (and-both s (eq-eqb _ _ q)) (sym (w .before .before .is-extra .ensures) ∙ w .before .if1 .left))
           (w .walked-driver .ensures)),
     )
 
 returns-2 : tie.Need-returns-2 Inv-loop μ-loop
 returns-2 c =
     let g = c .before in
-    let a = g .before .before .before .before .args in
+    let a = g .before .before .before .args in
     let l = g .loop in
     inr (gathering-last (a .net) (a .vectors .now) (a .answered .0) (l .rest) (l .reach) (l .inv .1)
     (λ u m. none-below-lowest 64 (l .rest) u (omega (arith, l .inv .0))))
@@ -107,11 +114,11 @@ walking-reach-spec =
     (tie.spec
     Inv-loop
     μ-loop
-    extra-vector-requires
     lowest-net-requires
     loop-holds
     mul-vector
     shared-slice-read-vector
+    is-extra-requires
     returns
     walked-driver-requires
     bit-word-requires

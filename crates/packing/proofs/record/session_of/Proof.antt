@@ -5,7 +5,8 @@ use mathlib.Core.List.{List}
 use lib.ListN.{take, drop}
 use Rattle.words.specs.Bits.{at}
 use Rattle.session.specs.declared.Session.{Session}
-use Rattle.packing.specs.Packed.{network-of, session-of}
+use Rattle.network.specs.Reading.{network-with}
+use Rattle.packing.specs.Packed.{first-place, reaches-place, spent-place, session-of}
 use Rattle.packing.proofs.Words.{all-written}
 use Rattle.packing.proofs.record.session_of.Statement.{statement}
 use Rattle.packing.proofs.record.session_of.Tie as tie
@@ -40,29 +41,32 @@ slice-aggregate-copy-words-2 c = search needs
 copy-words-requires-2 : tie.Need-copy-words-requires-2
 copy-words-requires-2 c κs = search needs
 
-element-copy-out-t20 : tie.Need-element-copy-out-t20
-element-copy-out-t20 c = search needs
+element-copy-out-step : tie.Need-element-copy-out-step
+element-copy-out-step c = search needs
 
-element-copy-out-t23 : tie.Need-element-copy-out-t23
-element-copy-out-t23 c = search needs
+element-copy-out-nets : tie.Need-element-copy-out-nets
+element-copy-out-nets c = search needs
 
-element-copy-out-t29 : tie.Need-element-copy-out-t29
-element-copy-out-t29 c = search needs
+element-copy-out-level : tie.Need-element-copy-out-level
+element-copy-out-level c = search needs
+
+element-copy-out-spent : tie.Need-element-copy-out-spent
+element-copy-out-spent c = search needs
 
 returns : tie.Need-returns
 unfolding session-of
 returns c =
-    let a = c .before .before .before .before .before .before .before .before .before .before .before .before .args in
-    let first : _ ≡ take 8 (drop 2 (a .words .now)) =
-    c .before .before .before .before .before .before .before .before .copy-words .ensures ∙ all-written _ _ (search needs) in
-    let reaches : _ ≡ take 48 (drop 10 (a .words .now)) =
-    c .before .before .before .before .copy-words2 .ensures ∙ all-written _ _ (search needs) in
+    let a = c .before .before .before .before .before .before .before .before .before .before .before .before .before .args in
+    let first : _ ≡ take 8 (drop first-place (a .words .now)) =
+    c .before .before .before .before .before .before .before .before .before .copy-words .ensures ∙ all-written _ _ (search needs) in
+    let reaches : _ ≡ take 48 (drop reaches-place (a .words .now)) =
+    c .before .before .before .before .before .copy-words2 .ensures ∙ all-written _ _ (search needs) in
     let of : List ℕ → List ℕ → Session = λ first reaches. record {
       step = at (a .words .now) 0;
-      network = network-of (at (a .words .now) 1);
+      network = network-with (at (a .words .now) 1) (at (a .words .now) 2);
       first = first;
       reaches = reaches;
-      spent = at (a .words .now) 58;
+      spent = at (a .words .now) spent-place;
     } in
     (ap₂ of first reaches, search needs)
 
@@ -80,7 +84,8 @@ session-of-spec =
     part-copy-words-end-2
     slice-aggregate-copy-words-2
     copy-words-requires-2
-    element-copy-out-t20
-    element-copy-out-t23
-    element-copy-out-t29
+    element-copy-out-step
+    element-copy-out-nets
+    element-copy-out-level
+    element-copy-out-spent
     returns)

@@ -53,7 +53,7 @@ returns c =
 enum-told : tie.Need-enum-told
 enum-told c = search needs
 
--- rows 5 to 8 have admitted the test set
+-- the rows of the test set have admitted it
 admitted : (c : tie.After-enum-told) → let a = c .before .before .before .before .before .args in
     set-admission (a .network) (a .class) (a .vectors .now) ≡ full tt
 admitted c = sym (c .before .before .admit-set .ensures) ∙ ap admission (c .enum-told .given .1)

@@ -9,7 +9,7 @@ use mathlib.Core.List.{List}
 use lib.Dec.{eqb, ltb}
 use Rattle.words.proofs.Tests.{and-both, and-false}
 use Rattle.words.proofs.Searching.{any-at, any-none}
-use Rattle.jobfile.specs.Layout.{entry-count, body-length, bad-bodies}
+use Rattle.jobfile.specs.Layout.{entry-count, body-length, nets-size, bad-bodies}
 use Rattle.jobfile.proofs.FileRows.{two-entries, table-there}
 use Rattle.reader.proofs.reading.bad_bodies.Statement.{statement}
 use Rattle.reader.proofs.reading.bad_bodies.Tie as tie
@@ -33,7 +33,7 @@ returns : tie.Need-returns Inv-loop μ-loop
 unfolding bad-bodies
 returns c =
     let file = c .before .before .before .args .file .now in
-    rw (ne-eqb (body-length file 0) 2 (λ e. c .if1 .taken (c .before .body-length .ensures .0 ∙ e)))
+    rw (ne-eqb (body-length file 0) nets-size (λ e. c .if1 .taken (c .before .body-length .ensures .0 ∙ e)))
 
 entry-count-requires : tie.Need-entry-count-requires Inv-loop μ-loop
 entry-count-requires c κs = search needs
@@ -47,9 +47,10 @@ loop-holds c =
       λ z l. rw (le-ltb 0 z (omega arith)),
     )
 
--- the nets body has 2 bytes
-nets-body : (c : tie.After-entry-count Inv-loop μ-loop) → eqb (body-length (c .before .before .before .before .args .file .now) 0) 2 ≡ true
-nets-body c = eq-eqb (body-length (c .before .before .before .before .args .file .now) 0) 2
+-- the nets body is of its size
+nets-body : (c : tie.After-entry-count Inv-loop μ-loop)
+    → eqb (body-length (c .before .before .before .before .args .file .now) 0) nets-size ≡ true
+nets-body c = eq-eqb (body-length (c .before .before .before .before .args .file .now) 0) nets-size
     (sym (c .before .before .body-length .ensures .0) ∙ c .before .if1 .left)
 
 body-length-requires-2 : tie.Need-body-length-requires-2 Inv-loop μ-loop

@@ -3,12 +3,12 @@ use mathlib.Core.Path.{_≡_, sym, ap, _∙_}
 use mathlib.Core.Bool.{true, false}
 use Prim.Native.Nat.{ℕ}
 use lib.ListN.{length}
-use Rattle.network.proofs.Rows.{decides-row-5, nets-admitted}
+use Rattle.network.proofs.Rows.{nets-admitted}
 use Rattle.steps.specs.FirstStep.{first-vectors}
 use Rattle.steps.proofs.StepOneWords.{first-size}
 use Rattle.session.specs.Record.{awaits-first, awaits-second}
 use Rattle.session.specs.Drive.{front, to-drive}
-use Rattle.session.proofs.Records.{awaits-first-is, awaits-second-nets}
+use Rattle.session.proofs.Records.{awaits-first-is, awaits-second-network}
 use Rattle.session.proofs.drive.to_drive.Statement.{statement}
 use Rattle.session.proofs.drive.to_drive.Tie as tie
 
@@ -28,7 +28,7 @@ awaits-first-requires c κs = search needs
 word-length-requires : tie.Need-word-length-requires
 word-length-requires c κs =
     let s = c .before .before .before .before .before .args .t1 in
-    nets-admitted (s .network) (decides-row-5 (s .network) .1 (awaits-first-is s (waits-first (c .before)) .1))
+    nets-admitted (s .network) (awaits-first-is s (waits-first (c .before)) .1 .0)
 
 front-requires : tie.Need-front-requires
 front-requires c κs = search needs
@@ -49,7 +49,7 @@ second-count-requires : tie.Need-second-count-requires
 second-count-requires c κs =
     let b = c .before .before .before .before in
     let s = b .before .before .before .before .before .before .args .t1 in
-    let nets = nets-admitted (s .network) (decides-row-5 (s .network) .1 (awaits-second-nets s (waits-second b))) in
+    let nets = nets-admitted (s .network) (awaits-second-network s (waits-second b) .0) in
     (nets .0, nets .1, search needs)
 
 front-requires-2 : tie.Need-front-requires-2

@@ -10,21 +10,19 @@ use Rattle.steps.proofs.second.vectors_for_unclear.Statement.{statement
 use Rattle.steps.proofs.second.vectors_for_unclear.Tie as tie
 
 abbrev Inv-loop : tie.InvT-loop
-Inv-loop net words returned vectors₀ count₀ i₀ vectors count i = (i ≤ length words) × Listed net words returned vectors count i
+Inv-loop net words returned start vectors₀ count₀ i₀ vectors count i = (i ≤ length words) × Listed net words returned vectors count i
 
 abbrev μ-loop : tie.MeasureT-loop
-μ-loop net words returned vectors₀ count₀ i₀ vectors count i = length words - i
+μ-loop net words returned start vectors₀ count₀ i₀ vectors count i = length words - i
 
-extra-vector-requires : tie.Need-extra-vector-requires Inv-loop μ-loop
-extra-vector-requires c κs = search needs
-
-array-write-vectors : tie.Need-array-write-vectors Inv-loop μ-loop
-array-write-vectors c = search needs
+extra-alone-requires : tie.Need-extra-alone-requires Inv-loop μ-loop
+extra-alone-requires c κs = search needs
 
 loop-holds : tie.Need-loop-holds Inv-loop μ-loop
 loop-holds c =
-    let a = c .before .before .before .args in
-    (search needs, listed-start (a .net) (a .words .now) (a .returned .now) (c .extra-vector .result .0) (c .extra-vector .ensures))
+    let a = c .before .before .before .before .args in
+    let x = c .before .extra-alone .ensures in
+    (search needs, listed-start (a .net) (a .words .now) (a .returned .now) _ _ (x .0) (x .1) (x .2))
 
 mul-only-at : tie.Need-mul-only-at Inv-loop μ-loop
 mul-only-at c = search needs
@@ -41,14 +39,14 @@ walking-vector-requires c κs = search needs
 count-below : (c : tie.After-walking-vector Inv-loop μ-loop) → c .before .before .before .before .before .loop .count < 49
 count-below c =
     let g = c .before .before .before .before .before in
-    let p = g .before .before .before .before .pre in
+    let p = g .before .before .before .before .before .pre in
     omega (arith, g .loop .inv .1 .few, p .0, p .2, c .before .before .before .before .loop-test .taken)
 
 mul-vectors : tie.Need-mul-vectors Inv-loop μ-loop
 mul-vectors c = let l = count-below c in search needs
 
-array-write-vectors-2 : tie.Need-array-write-vectors-2 Inv-loop μ-loop
-array-write-vectors-2 c = count-below c
+array-write-vectors : tie.Need-array-write-vectors Inv-loop μ-loop
+array-write-vectors c = count-below c
 
 add-count : tie.Need-add-count Inv-loop μ-loop
 add-count c = let l = count-below c in search needs
@@ -63,8 +61,8 @@ loop-again : tie.Need-loop-again Inv-loop μ-loop
 loop-again c =
     let q = c .before .only-at in
     let g = c .before .before .before .before in
-    let p = g .before .before .before .before .pre in
-    let a = g .before .before .before .before .args in
+    let p = g .before .before .before .before .before .pre in
+    let a = g .before .before .before .before .before .args in
     let l = g .loop in
     let inside : l .i < 48 = omega (arith, p .0, p .2, c .before .before .before .loop-test .taken) in (
       search needs,
@@ -81,27 +79,28 @@ loop-again c =
 returns : tie.Need-returns Inv-loop μ-loop
 returns c =
     let g = c .before .before in
-    let p = g .before .before .before .before .pre in
-    let a = g .before .before .before .before .args in
+    let p = g .before .before .before .before .before .pre in
+    let a = g .before .before .before .before .before .args in
     λ answers e. (
       g .loop .inv .1 .size,
       search needs,
       listed-none (a .net) (a .words .now) (a .returned .now) (g .loop .vectors) (g .loop .count) (g .loop .i)
           (g .loop .inv .1) answers (p .1) e
-          (omega (arith, g .loop .inv .0, p .2, c .before .loop-test .left)) (c .if2 .taken),
+          (omega (arith, g .loop .inv .0, p .2, c .before .loop-test .left)) (c .if2 .taken ∙ g .before .before .extra-alone .ensures .1),
     )
 
 returns-2 : tie.Need-returns-2 Inv-loop μ-loop
 returns-2 c =
     let g = c .before .before in
-    let p = g .before .before .before .before .pre in
-    let a = g .before .before .before .before .args in
+    let p = g .before .before .before .before .before .pre in
+    let a = g .before .before .before .before .before .args in
     λ answers e. (
       g .loop .inv .1 .size,
       omega (arith, g .loop .inv .0, g .loop .inv .1 .few, p .0, p .2),
       listed-some (a .net) (a .words .now) (a .returned .now) (g .loop .vectors) (g .loop .count) (g .loop .i)
           (g .loop .inv .1) answers (p .1) e
-          (omega (arith, g .loop .inv .0, p .2, c .before .loop-test .left)) (c .if2 .left),
+          (omega (arith, g .loop .inv .0, p .2, c .before .loop-test .left))
+          (λ q. c .if2 .left (q ∙ sym (g .before .before .extra-alone .ensures .1))),
     )
 
 pub vectors-for-unclear-spec : {M : Type 1} → statement M
@@ -110,15 +109,14 @@ vectors-for-unclear-spec =
     (tie.spec
     Inv-loop
     μ-loop
-    extra-vector-requires
-    array-write-vectors
+    extra-alone-requires
     loop-holds
     mul-only-at
     shared-slice-read-only-at
     only-at-requires
     walking-vector-requires
     mul-vectors
-    array-write-vectors-2
+    array-write-vectors
     add-count
     add-i
     loop-less

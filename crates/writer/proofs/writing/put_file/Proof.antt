@@ -1,15 +1,14 @@
 use borrow.Author.Needs.{needs}
 use native.Mathlib.Omega.{arith}
 use Prim.Native.Nat.{ℕ}
-use mathlib.Core.Path.{_≡_, sym, ap, _∙_}
-use mathlib.Core.List.{List, _∷_, _++_, append-assoc}
+use mathlib.Core.Path.{_≡_, sym, _∙_}
+use mathlib.Core.List.{List}
 use lib.ListN.{length}
 use Rattle.words.specs.Answers.{lent-after, full}
 use Rattle.words.specs.Writing.{written}
 use Rattle.words.proofs.Writing.{written-next, written-front}
 use Rattle.network.specs.declared.Network.{Network}
-use Rattle.jobfile.specs.Bytes.{word-bytes}
-use Rattle.writer.specs.Writer.{head-of, file-of}
+use Rattle.writer.specs.Writer.{head-of, bodies-of, file-of}
 use Rattle.writer.proofs.WriterLaws.{head-size, file-size}
 use Rattle.writer.proofs.writing.put_file.Statement.{statement}
 use Rattle.writer.proofs.writing.put_file.Tie as tie
@@ -17,13 +16,11 @@ use Rattle.writer.proofs.writing.put_file.Tie as tie
 -- the head, then the bodies, are the file
 file-written : (net : Network) (k : ℕ) (vectors responses lent headed all : List ℕ) (start : ℕ) → start ≡ length (head-of vectors responses)
     → headed ≡ written lent 0 (head-of vectors responses)
-    → all ≡ written headed start (net .nets ∷ k ∷ word-bytes vectors ++ word-bytes responses)
+    → all ≡ written headed start (bodies-of net k vectors responses)
     → all ≡ lent-after (full (file-of net k vectors responses)) lent
 unfolding file-of
 file-written net k vectors responses lent headed all start s e f =
-    let bodies = net .nets ∷ k ∷ word-bytes vectors in
-    written-next lent headed all 0 start (head-of vectors responses) (bodies ++ word-bytes responses) e f (omega arith) (omega arith)
-    ∙ ap (λ (l : List ℕ). written lent 0 l) (sym (append-assoc (head-of vectors responses) bodies (word-bytes responses)))
+    written-next lent headed all 0 start (head-of vectors responses) (bodies-of net k vectors responses) e f (omega arith) (omega arith)
     ∙ written-front lent (file-of net k vectors responses)
 
 bodies-at-requires : tie.Need-bodies-at-requires
@@ -41,7 +38,7 @@ put-bodies-requires c κs =
     let a = b .before .before .before .before .args in
     let size = file-size (a .vectors .now) (a .responses .now) (a .net) (a .class) in
     let is = b .bodies-at .ensures in
-    (search needs, search needs, omega arith)
+    (search needs, omega arith)
 
 same-length : tie.Need-same-length
 same-length c = search needs

@@ -6,7 +6,7 @@ use mathlib.Core.List.{List, [], _∷_, _++_}
 use lib.ListN.{length, length-append}
 use Rattle.words.specs.Writing.{written}
 use Rattle.words.proofs.Writing.{written-next}
-use Rattle.jobfile.specs.Layout.{mark, bodies-at}
+use Rattle.jobfile.specs.Layout.{mark, entry-at, bodies-at, nets-size}
 use Rattle.writer.specs.Writer.{entry-bytes, response-entry, entries-for, head-of}
 use Rattle.writer.proofs.WriterLaws.{entries-range, entry-size, response-entry-size}
 use Rattle.writer.proofs.writing.put_head.Statement.{statement}
@@ -15,28 +15,29 @@ use Rattle.writer.proofs.writing.put_head.Tie as tie
 -- the parts one after the other are the head
 head-written : (vectors responses lent marked counted first second third : List ℕ) (entries start : ℕ)
     → entries ≡ entries-for responses → start ≡ bodies-at (entries-for responses)
-    → marked ≡ written lent 0 mark → counted ≡ written marked 4 (entries ∷ []) → first ≡ written counted 5 (entry-bytes 1 start 2)
-    → second ≡ written first 14 (entry-bytes 2 (start + 2) (8 * length vectors))
-    → third ≡ written second 23 (response-entry (start + 2 + 8 * length vectors) responses)
+    → marked ≡ written lent 0 mark → counted ≡ written marked 4 (entries ∷ [])
+    → first ≡ written counted (entry-at 0) (entry-bytes 1 start nets-size)
+    → second ≡ written first (entry-at 1) (entry-bytes 2 (start + nets-size) (8 * length vectors))
+    → third ≡ written second (entry-at 2) (response-entry (start + nets-size + 8 * length vectors) responses)
     → third ≡ written lent 0 (head-of vectors responses)
 head-written vectors responses lent marked counted first second third entries start n s e f g h i =
-    let one = entry-bytes 1 start 2 in
-    let two = entry-bytes 2 (start + 2) (8 * length vectors) in
-    let three = response-entry (start + 2 + 8 * length vectors) responses in
-    let p = entry-size 1 start 2 in
-    let q = entry-size 2 (start + 2) (8 * length vectors) in
+    let one = entry-bytes 1 start nets-size in
+    let two = entry-bytes 2 (start + nets-size) (8 * length vectors) in
+    let three = response-entry (start + nets-size + 8 * length vectors) responses in
+    let p = entry-size 1 start nets-size in
+    let q = entry-size 2 (start + nets-size) (8 * length vectors) in
     let r = length-append (mark ++ entries ∷ one) two in
     let c : counted ≡ written lent 0 (mark ++ entries ∷ []) =
     written-next lent marked counted 0 4 mark (entries ∷ []) e f refl (omega arith) in
     let d : first ≡ written lent 0 (mark ++ entries ∷ one) =
-    written-next lent counted first 0 5 (mark ++ entries ∷ []) one c g refl (omega arith) in
+    written-next lent counted first 0 (entry-at 0) (mark ++ entries ∷ []) one c g refl (omega arith) in
     let t : second ≡ written lent 0 (mark ++ entries ∷ one ++ two) =
-    written-next lent first second 0 14 (mark ++ entries ∷ one) two d h (omega arith) (omega arith) in
+    written-next lent first second 0 (entry-at 1) (mark ++ entries ∷ one) two d h (omega arith) (omega arith) in
     let u : third ≡ written lent 0 (mark ++ entries ∷ one ++ two ++ three) =
-    written-next lent second third 0 23 (mark ++ entries ∷ one ++ two) three t i (omega arith) (omega arith) in
+    written-next lent second third 0 (entry-at 2) (mark ++ entries ∷ one ++ two) three t i (omega arith) (omega arith) in
     u ∙ ap₂ (λ (k m : ℕ). written lent 0
-    (mark ++ k ∷ entry-bytes 1 m 2 ++ entry-bytes 2 (m + 2) (8 * length vectors)
-    ++ response-entry (m + 2 + 8 * length vectors) responses)) n s
+    (mark ++ k ∷ entry-bytes 1 m nets-size ++ entry-bytes 2 (m + nets-size) (8 * length vectors)
+    ++ response-entry (m + nets-size + 8 * length vectors) responses)) n s
 
 entries-for-requires : tie.Need-entries-for-requires
 entries-for-requires c κs = search needs
@@ -88,7 +89,7 @@ put-response-entry-requires c κs =
     let p3 = c .before .before .before .before .before .before .before in
     let b = p3 .before .before .before .before .before .before .before .before .before .before in
     let a = b .before .before .before .before .before .args in
-    let size = response-entry-size (b .bodies-at .result + 2 + 8 * length (a .vectors .now)) (a .responses .now) in
+    let size = response-entry-size (b .bodies-at .result + nets-size + 8 * length (a .vectors .now)) (a .responses .now) in
     omega arith
 
 same-length : tie.Need-same-length

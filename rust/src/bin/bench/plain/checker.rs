@@ -1,6 +1,7 @@
 //! The checker, with two ways to look for sets that read alike.
 
-use super::{admit_set, code, turned};
+use super::{admit_set, code, extra_vector, turned};
+use fontarelga::Network;
 use std::collections::HashMap;
 
 /// The sets of at most k of n drivers, ascending.
@@ -16,10 +17,18 @@ pub fn sets_of_class(n: u64, k: u64) -> Vec<u64> {
     at_most.pop().expect("k + 1 lists")
 }
 
+/// What a receiver that floats reads along all vectors.
+pub fn floating(network: Network, vectors: usize) -> u64 {
+    match network.level() {
+        0 => 0,
+        _ => u64::MAX >> (64 - vectors),
+    }
+}
+
 /// What a set reads along all vectors, from what each driver drives along them.
-pub fn reading(set: u64, driven: &[u64], vectors: usize) -> u64 {
+pub fn reading(set: u64, driven: &[u64], floating: u64) -> u64 {
     if set == 0 {
-        return u64::MAX >> (64 - vectors);
+        return floating;
     }
     let mut left = set;
     let mut word = 0;
@@ -31,18 +40,18 @@ pub fn reading(set: u64, driven: &[u64], vectors: usize) -> u64 {
 }
 
 /// The readings of all sets of the class, worked out once.
-fn readings(n: u64, k: u64, vectors: &[u64]) -> (Vec<u64>, Vec<u64>) {
-    let sets = sets_of_class(n, k);
-    let driven = turned(n, vectors);
-    let readings = sets.iter().map(|set| reading(*set, &driven, vectors.len())).collect();
+fn readings(network: Network, k: u64, vectors: &[u64]) -> (Vec<u64>, Vec<u64>) {
+    let sets = sets_of_class(network.nets(), k);
+    let (driven, floating) = (turned(network.nets(), vectors), floating(network, vectors.len()));
+    let readings = sets.iter().map(|set| reading(*set, &driven, floating)).collect();
     (sets, readings)
 }
 
 type Pair = Option<(u64, u64)>;
 
 /// All pairs of stored readings compared.
-pub fn pairs(n: u64, k: u64, vectors: &[u64]) -> Pair {
-    let (sets, readings) = readings(n, k, vectors);
+pub fn pairs(network: Network, k: u64, vectors: &[u64]) -> Pair {
+    let (sets, readings) = readings(network, k, vectors);
     for (b, word) in readings.iter().enumerate() {
         if let Some(a) = readings[..b].iter().position(|other| other == word) {
             return Some((sets[a], sets[b]));
@@ -52,8 +61,8 @@ pub fn pairs(n: u64, k: u64, vectors: &[u64]) -> Pair {
 }
 
 /// A hash map of readings.
-pub fn hash(n: u64, k: u64, vectors: &[u64]) -> Pair {
-    let (sets, readings) = readings(n, k, vectors);
+pub fn hash(network: Network, k: u64, vectors: &[u64]) -> Pair {
+    let (sets, readings) = readings(network, k, vectors);
     let mut seen = HashMap::with_capacity(sets.len());
     for (set, word) in sets.iter().zip(readings) {
         if let Some(smaller) = seen.insert(word, *set) {
@@ -64,9 +73,9 @@ pub fn hash(n: u64, k: u64, vectors: &[u64]) -> Pair {
 }
 
 /// The rule for k = n.
-pub fn walking(n: u64, vectors: &[u64]) -> Pair {
-    let all = u64::MAX >> (64 - n);
-    if !vectors.contains(&0) {
+pub fn walking(network: Network, vectors: &[u64]) -> Pair {
+    let all = u64::MAX >> (64 - network.nets());
+    if extra_vector(network).is_some_and(|extra| !vectors.contains(&extra)) {
         return Some((0, all));
     }
     let walked = vectors.iter().filter(|vector| vector.is_power_of_two()).fold(0, |walked, vector| walked | vector);
@@ -77,10 +86,13 @@ pub fn walking(n: u64, vectors: &[u64]) -> Pair {
     }
 }
 
-/// The call, with one of the two searches for k below n.
-pub fn check(search: fn(u64, u64, &[u64]) -> Pair, n: u64, k: u64, vectors: &[u64], verdict: &mut [u64]) -> u64 {
-    let answer = admit_set(n, k, vectors).map(|()| {
-        let pair = if k == n { walking(n, vectors) } else { search(n, k, vectors) };
+/// One of the two searches for k below n.
+type Search = fn(Network, u64, &[u64]) -> Pair;
+
+/// The call, with one of the searches.
+pub fn check(search: Search, network: Network, k: u64, vectors: &[u64], verdict: &mut [u64]) -> u64 {
+    let answer = admit_set(network, k, vectors).map(|()| {
+        let pair = if k == network.nets() { walking(network, vectors) } else { search(network, k, vectors) };
         verdict.copy_from_slice(&pair.map_or([0; 3], |(a, b)| [1, a, b]));
     });
     code(answer)

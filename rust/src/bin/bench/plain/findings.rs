@@ -1,13 +1,12 @@
 //! The findings: a pass over the receivers for each net.
 
-use super::{code, has_high_bit, reaches_agree};
-use fontarelga::FINDING_WORDS;
+use super::{admit_network, code, has_high_bit, reaches_agree};
+use fontarelga::{Network, FINDING_WORDS};
 
-/// Rows 5, 11 for class n, and 12.
-fn admit(n: u64, state: &[u64], room: usize) -> Result<(), u64> {
-    if !(2..=48).contains(&n) {
-        return Err(5);
-    }
+/// Rows 5, 17, 11 for class n, and 12.
+fn admit(network: Network, state: &[u64], room: usize) -> Result<(), u64> {
+    let n = network.nets();
+    admit_network(network)?;
     if state.len() as u64 != n || has_high_bit(n, state) || !reaches_agree(state) {
         return Err(11);
     }
@@ -35,8 +34,8 @@ fn partners(state: &[u64], i: usize) -> u64 {
 }
 
 /// The call.
-pub fn findings(n: u64, state: &[u64], table: &mut [u64]) -> u64 {
-    code(admit(n, state, table.len() / FINDING_WORDS).map(|()| {
+pub fn findings(network: Network, state: &[u64], table: &mut [u64]) -> u64 {
+    code(admit(network, state, table.len() / FINDING_WORDS).map(|()| {
         for (i, record) in table.chunks_exact_mut(FINDING_WORDS).take(state.len()).enumerate() {
             let (reach, partners) = (state[i], partners(state, i));
             let (open, short) = (reach >> i & 1 == 0, partners != 0);

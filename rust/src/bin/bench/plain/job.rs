@@ -1,6 +1,7 @@
 //! The reader of job files.
 
 use super::{admit_responses, admit_set, code};
+use fontarelga::Network;
 
 /// An entry's body, if the entry has its place's kind and the body begins at `place`.
 fn body(file: &[u8], entry: usize, place: usize) -> Option<&[u8]> {
@@ -36,15 +37,15 @@ fn words(body: &[u8]) -> Result<Vec<u64>, u64> {
 }
 
 fn read(file: &[u8], vectors: &mut [u64], responses: &mut [u64], job: &mut [u64]) -> Result<(), u64> {
-    if !file.starts_with(b"BSJ1") {
+    if !file.starts_with(b"BSJ2") {
         return Err(1);
     }
     let bodies = bodies(file).ok_or(2u64)?;
-    let [n, k] = *bodies[0] else { return Err(3) };
-    let (n, k) = (u64::from(n), u64::from(k));
+    let [n, k, level] = *bodies[0] else { return Err(3) };
+    let [n, k, level] = [n, k, level].map(u64::from);
     let driven = words(bodies[1])?;
     let answered = bodies.get(2).map_or(Ok(vec![]), |body| words(body))?;
-    admit_set(n, k, &driven)?;
+    admit_set(Network::new(n).with_level(level), k, &driven)?;
     if bodies.len() == 3 {
         admit_responses(n, driven.len(), &answered)?;
     }
@@ -53,7 +54,7 @@ fn read(file: &[u8], vectors: &mut [u64], responses: &mut [u64], job: &mut [u64]
     }
     vectors[..driven.len()].copy_from_slice(&driven);
     responses[..answered.len()].copy_from_slice(&answered);
-    job.copy_from_slice(&[n, k, driven.len() as u64, answered.len() as u64]);
+    job.copy_from_slice(&[n, level, k, driven.len() as u64, answered.len() as u64]);
     Ok(())
 }
 

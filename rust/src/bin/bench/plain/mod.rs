@@ -7,19 +7,45 @@ pub mod findings;
 pub mod job;
 pub mod session;
 
+use fontarelga::Network;
+
 /// A bit at or above n in some word.
 pub fn has_high_bit(n: u64, words: &[u64]) -> bool {
     words.iter().any(|word| word >> n != 0)
 }
 
-/// Rows 5 to 8.
-pub fn admit_set(n: u64, k: u64, vectors: &[u64]) -> Result<(), u64> {
-    if !(2..=48).contains(&n) {
-        return Err(5);
+/// Row 5.
+fn admit_nets(network: Network) -> Result<(), u64> {
+    if (2..=48).contains(&network.nets()) {
+        Ok(())
+    } else {
+        Err(5)
     }
+}
+
+/// Row 17.
+fn admit_level(network: Network) -> Result<(), u64> {
+    if network.level() <= 1 {
+        Ok(())
+    } else {
+        Err(17)
+    }
+}
+
+/// Rows 5 and 17.
+pub fn admit_network(network: Network) -> Result<(), u64> {
+    admit_nets(network)?;
+    admit_level(network)
+}
+
+/// Rows 5, 6, 17, 7 and 8.
+pub fn admit_set(network: Network, k: u64, vectors: &[u64]) -> Result<(), u64> {
+    let n = network.nets();
+    admit_nets(network)?;
     if !(1..=3).contains(&k) && k != n || k > n {
         return Err(6);
     }
+    admit_level(network)?;
     if !(1..=64).contains(&vectors.len()) {
         return Err(7);
     }
@@ -51,9 +77,16 @@ pub fn turned(n: u64, words: &[u64]) -> Vec<u64> {
     (0..n).map(along).collect()
 }
 
+/// The vector that class n and step two want beside the walking ones: vector 0 at soft level 1.
+pub fn extra_vector(network: Network) -> Option<u64> {
+    (network.level() == 1).then_some(0)
+}
+
 /// What the receivers of a state read on one vector.
-pub fn read(state: &[u64], vector: u64) -> u64 {
-    state.iter().enumerate().map(|(i, reach)| u64::from(*reach == 0 || reach & vector != 0) << i).sum()
+pub fn read(network: Network, state: &[u64], vector: u64) -> u64 {
+    let floating = network.level() == 1;
+    let reads = |reach: u64| reach & vector != 0 || reach == 0 && floating;
+    state.iter().enumerate().map(|(i, reach)| u64::from(reads(*reach)) << i).sum()
 }
 
 /// No two reaches that are not empty meet and differ.

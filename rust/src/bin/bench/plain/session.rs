@@ -1,15 +1,21 @@
-//! The session, on a record of 59 words.
+//! The session, on the words of its record.
 
-use super::{admit_responses, code, reaches_agree, read, turned};
+use super::{admit_network, admit_responses, code, extra_vector, reaches_agree, read, turned};
+use fontarelga::{Network, RECORD_WORDS};
 
-/// Step, nets, 8 first answers, 48 reaches, vectors spent.
-pub type Record = [u64; 59];
+/// Step, nets, level, 8 first answers, 48 reaches, vectors spent.
+pub type Record = [u64; RECORD_WORDS];
 
 const STEP: usize = 0;
 const NETS: usize = 1;
-const ANSWERS: usize = 2;
-const REACHES: usize = 10;
-const SPENT: usize = 58;
+const LEVEL: usize = 2;
+const ANSWERS: usize = 3;
+pub const REACHES: usize = 11;
+const SPENT: usize = 59;
+
+fn network_of(session: &[u64]) -> Network {
+    Network::new(session[NETS]).with_level(session[LEVEL])
+}
 
 /// C(p, p/2 rounded down).
 fn words_of_half_weight(p: u64) -> u64 {
@@ -34,36 +40,44 @@ fn unclear(n: u64, answers: &[u64]) -> u64 {
     (0..n as usize).filter(|i| !clear(*i)).map(|i| 1 << i).sum()
 }
 
-/// Vector 0 and the walking vector of each net of the word, ascending.
-fn second_vectors(unclear: u64) -> impl Iterator<Item = u64> {
-    std::iter::once(0).chain((0..48).map(|i| 1 << i).filter(move |vector| unclear & vector != 0))
+/// The extra vector, if there is one, and the walking vector of each net of the word, ascending.
+fn second_vectors(network: Network, unclear: u64) -> impl Iterator<Item = u64> {
+    extra_vector(network).into_iter().chain((0..48).map(|i| 1 << i).filter(move |vector| unclear & vector != 0))
 }
 
-pub fn begin(session: &mut Record, n: u64, first: &mut [u64]) -> u64 {
-    if !(2..=48).contains(&n) {
-        return 5;
-    }
+fn second_length(network: Network, unclear: u64) -> usize {
+    extra_vector(network).iter().count() + unclear.count_ones() as usize
+}
+
+fn start(session: &mut Record, network: Network, first: &mut [u64]) -> Result<(), u64> {
+    admit_network(network)?;
+    let n = network.nets();
     let p = first_length(n);
     if first.len() < p as usize {
-        return 12;
+        return Err(12);
     }
     let words = step_one_words(n);
     first[..p as usize].copy_from_slice(&turned(p, &words));
     session.fill(0);
-    (session[STEP], session[NETS]) = (1, n);
-    0
+    (session[STEP], session[NETS], session[LEVEL]) = (1, n, network.level());
+    Ok(())
+}
+
+pub fn begin(session: &mut Record, network: Network, first: &mut [u64]) -> u64 {
+    code(start(session, network, first))
 }
 
 /// Does the record wait for first answers?
 fn awaits_first(session: &[u64]) -> bool {
-    session[STEP] == 1 && (2..=48).contains(&session[NETS]) && session[ANSWERS..].iter().all(|word| *word == 0)
+    let begun = session[STEP] == 1 && admit_network(network_of(session)).is_ok();
+    begun && session[ANSWERS..].iter().all(|word| *word == 0)
 }
 
 fn take_first(session: &mut [u64], answers: &[u64], second: &mut [u64]) -> Result<(), u64> {
     if !awaits_first(session) {
         return Err(4);
     }
-    let n = session[NETS];
+    let (network, n) = (network_of(session), session[NETS]);
     admit_responses(n, first_length(n) as usize, answers)?;
     let unclear = unclear(n, answers);
     if unclear == 0 {
@@ -72,10 +86,10 @@ fn take_first(session: &mut [u64], answers: &[u64], second: &mut [u64]) -> Resul
         (0..n as usize).for_each(|i| session[REACHES + i] = 1 << i);
         return Ok(());
     }
-    if second.len() < unclear.count_ones() as usize + 1 {
+    if second.len() < second_length(network, unclear) {
         return Err(12);
     }
-    second.iter_mut().zip(second_vectors(unclear)).for_each(|(word, vector)| *word = vector);
+    second.iter_mut().zip(second_vectors(network, unclear)).for_each(|(word, vector)| *word = vector);
     session[STEP] = 2;
     session[ANSWERS..ANSWERS + answers.len()].copy_from_slice(answers);
     Ok(())
@@ -88,7 +102,7 @@ pub fn first_answers(session: &mut Record, answers: &[u64], second: &mut [u64]) 
 /// Does the record wait for second answers? Then also the nets that are unclear.
 fn awaits_second(session: &[u64]) -> Option<u64> {
     let n = session[NETS];
-    if session[STEP] != 2 || !(2..=48).contains(&n) {
+    if session[STEP] != 2 || admit_network(network_of(session)).is_err() {
         return None;
     }
     let (answers, unused) = session[ANSWERS..].split_at(first_length(n) as usize);
@@ -97,35 +111,36 @@ fn awaits_second(session: &[u64]) -> Option<u64> {
 }
 
 /// The state that the second answers spell out.
-fn spelled(n: u64, unclear: u64, answers: &[u64]) -> Vec<u64> {
-    let mut state: Vec<u64> = (0..n).map(|i| (1 << i) & !unclear).collect();
-    for (vector, answer) in second_vectors(unclear).zip(answers) {
+fn spelled(network: Network, unclear: u64, answers: &[u64]) -> Vec<u64> {
+    let mut state: Vec<u64> = (0..network.nets()).map(|i| (1 << i) & !unclear).collect();
+    for (vector, answer) in second_vectors(network, unclear).zip(answers) {
         let read = answer & unclear;
         state.iter_mut().enumerate().filter(|(i, _)| read >> i & 1 == 1).for_each(|(_, reach)| *reach |= vector);
     }
-    let floating = answers[0] & unclear;
+    let floating = extra_vector(network).map_or(0, |_| answers[0] & unclear);
     state.iter_mut().enumerate().filter(|(i, _)| floating >> i & 1 == 1).for_each(|(_, reach)| *reach = 0);
     state
 }
 
 /// Does the state give these answers to these vectors?
-fn gives(state: &[u64], mut vectors: impl Iterator<Item = u64>, answers: &[u64]) -> bool {
-    answers.iter().all(|answer| vectors.next().map(|vector| read(state, vector)) == Some(*answer))
+fn gives(network: Network, state: &[u64], mut vectors: impl Iterator<Item = u64>, answers: &[u64]) -> bool {
+    answers.iter().all(|answer| vectors.next().map(|vector| read(network, state, vector)) == Some(*answer))
 }
 
 fn take_second(session: &mut [u64], answers: &[u64]) -> Result<(), u64> {
     let unclear = awaits_second(session).ok_or(4u64)?;
-    let (n, count) = (session[NETS], unclear.count_ones() as usize + 1);
+    let (network, n) = (network_of(session), session[NETS]);
+    let count = second_length(network, unclear);
     admit_responses(n, count, answers)?;
     let p = first_length(n);
-    let state = spelled(n, unclear, answers);
-    let first = turned(p, &step_one_words(n));
-    let first_given = gives(&state, first.into_iter(), &session[ANSWERS..ANSWERS + p as usize]);
-    if !first_given || !gives(&state, second_vectors(unclear), answers) || !reaches_agree(&state) {
+    let state = spelled(network, unclear, answers);
+    let first = turned(p, &step_one_words(n)).into_iter();
+    let first_given = gives(network, &state, first, &session[ANSWERS..ANSWERS + p as usize]);
+    if !first_given || !gives(network, &state, second_vectors(network, unclear), answers) || !reaches_agree(&state) {
         return Err(14);
     }
-    session.fill(0);
-    (session[STEP], session[NETS], session[SPENT]) = (3, n, p + count as u64);
+    session[ANSWERS..].fill(0);
+    (session[STEP], session[SPENT]) = (3, p + count as u64);
     session[REACHES..REACHES + n as usize].copy_from_slice(&state);
     Ok(())
 }

@@ -1,0 +1,54 @@
+-- The cases of the soft level, by computation.
+use mathlib.Core.Path.{refl, sym, _∙_}
+use Rattle.network.specs.Reading.{network-with}
+use Rattle.network.proofs.Reading.{one-drives}
+use Rattle.findings.specs.Open.{open-findings}
+use Rattle.session.specs.Open.{open-session}
+use Rattle.demands.specs.LevelCases.{LevelCases}
+
+pub level-cases : LevelCases
+unfolding open-session open-findings
+level-cases = record {
+  floats-to-0 = λ n vector. refl;
+  floats-to-1 = λ n vector. refl;
+  driven-alike = λ n level other reach vector some.
+      one-drives (network-with n level) reach vector some ∙ sym (one-drives (network-with n other) reach vector some);
+  extra-at-1 = λ n. refl;
+  extra-at-0 = λ n. refl;
+  walking-alone = refl;
+  walking-with-0 = refl;
+  no-vector-of-net-3 = refl;
+  complement-at-0 = refl;
+  complement-at-1 = refl;
+  response = refl;
+  and-back = refl;
+  back-without-0 = refl;
+  no-state = refl;
+  session-answers = refl;
+  session-record = refl;
+  sound-pair = refl;
+  floating-pair = refl;
+  driven-at-0 = refl;
+  driven-at-1 = refl;
+  check-2 = refl;
+  check-greatest = refl;
+  respond-2 = refl;
+  diagnose-2 = refl;
+  find-0 = refl;
+  find-1 = refl;
+  find-2 = refl;
+  begin-0 = refl;
+  begin-2 = refl;
+  five-first = refl;
+  six-first = refl;
+  before-7 = refl;
+  find-five-first = refl;
+  find-before-11 = refl;
+  begin-five-first = refl;
+  begin-before-12 = refl;
+  record-first-0 = refl;
+  record-first-2 = refl;
+  record-second-0 = refl;
+  record-second-2 = refl;
+  record-drive-2 = refl;
+}
