@@ -1,10 +1,10 @@
 // The call *check*.
-use crate::networks;
 use checker::Checked;
 use network::Network;
 use trials::read;
 use trials::read::END;
 use trials::read::MOST;
+use trials::setting;
 use trials::setting::Setting;
 use trials::show;
 
@@ -39,7 +39,7 @@ pub fn try_line(setting: Setting, line: &[u8]) {
     }
     let count = vectors.count;
     try_check(
-        networks::network_in(setting, head[0]),
+        setting::network_in(setting, head[0]),
         head[1],
         &words[0..count],
     );

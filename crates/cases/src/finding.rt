@@ -1,13 +1,13 @@
 // The call *findings* with a blank table of 48 records lent. A line gives n, then the reaches; with a net after n it
 // asks for that net's record alone.
 ghost use Prim.Native.Nat.{_≤_};
-use crate::networks;
 use findings::Finding;
 use network::Network;
 use trials::lent;
 use trials::read;
 use trials::read::END;
 use trials::read::MOST;
+use trials::setting;
 use trials::setting::Setting;
 use trials::show;
 
@@ -112,7 +112,7 @@ pub fn try_line(setting: Setting, line: &[u8]) {
     let mut words = [0u64; MOST];
     let start = read::list_at(line, 0, &mut head);
     let reaches = read::list_at(line, start.end, &mut words);
-    let net = networks::network_in(setting, head[0]);
+    let net = setting::network_in(setting, head[0]);
     let count = reaches.count;
     let marked = (start.mark == b':') & (reaches.mark == END);
     if marked & (start.count == 1) {

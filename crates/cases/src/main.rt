@@ -6,7 +6,6 @@
 mod calls;
 mod checking;
 mod finding;
-mod networks;
 mod responding;
 
 fn main() {

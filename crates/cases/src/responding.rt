@@ -1,6 +1,5 @@
 // The calls that fill a lent list: *response from a state* and *diagnosis*.
 ghost use Prim.Native.Nat.{_≤_};
-use crate::networks;
 use diagnosis::Diagnosed;
 use network::Network;
 use network::Responded;
@@ -9,6 +8,7 @@ use trials::lent::MARKER;
 use trials::read;
 use trials::read::END;
 use trials::read::MOST;
+use trials::setting;
 use trials::setting::Setting;
 use trials::show;
 
@@ -76,7 +76,7 @@ pub fn try_line(back: bool, setting: Setting, line: &[u8]) {
     let o = last.count;
     try_call(
         back,
-        networks::network_in(setting, head[0]),
+        setting::network_in(setting, head[0]),
         head[1],
         &words[0..v],
         &others[0..o],

@@ -1,13 +1,16 @@
 -- The cases of the soft level, by computation.
 use mathlib.Core.Path.{refl, sym, _∙_}
+use mathlib.Core.Logic.{inl, inr, ⊎-elim}
+use native.Mathlib.Omega.{arith}
 use Rattle.network.specs.Reading.{network-with}
 use Rattle.network.proofs.Reading.{one-drives}
 use Rattle.findings.specs.Open.{open-findings}
 use Rattle.session.specs.Open.{open-session}
+use Rattle.packing.specs.Packed.{session-words, job-words}
 use Rattle.demands.specs.LevelCases.{LevelCases}
 
 pub level-cases : LevelCases
-unfolding open-session open-findings
+unfolding open-session open-findings session-words job-words
 level-cases = record {
   floats-to-0 = λ n vector. refl;
   floats-to-1 = λ n vector. refl;
@@ -24,12 +27,17 @@ level-cases = record {
   and-back = refl;
   back-without-0 = refl;
   no-state = refl;
+  first-answers = refl;
+  second-answers = refl;
   session-answers = refl;
   session-record = refl;
   sound-pair = refl;
   floating-pair = refl;
   driven-at-0 = refl;
   driven-at-1 = refl;
+  level-0 = λ n other. other (inl refl);
+  level-1 = λ n other. other (inr refl);
+  no-other-level = λ n level high. ⊎-elim (λ e. omega (arith, e, high)) (λ e. omega (arith, e, high));
   check-2 = refl;
   check-greatest = refl;
   respond-2 = refl;
@@ -51,4 +59,8 @@ level-cases = record {
   record-second-0 = refl;
   record-second-2 = refl;
   record-drive-2 = refl;
+  begun-words = refl;
+  waiting-words = refl;
+  finished-words = refl;
+  words-of-a-job = refl;
 }

@@ -3,7 +3,6 @@ use borrow.Author.Tests.{eqb-true, leb-true, not-false}
 use native.Mathlib.Omega.{arith}
 use Prim.Native.Nat.{ℕ, _^_, _≤_}
 use mathlib.Core.Path.{_≡_, refl, sym, ap, _∙_, subst}
-use mathlib.Core.Logic.{_≢_}
 use mathlib.Core.Bool.{Bool, true, false, cond}
 use mathlib.Core.List.{List, [], _∷_}
 use lib.Dec.{eqb, leb}
@@ -11,7 +10,7 @@ use lib.ListN.{length, take}
 use lib.Seq.{length-take-le}
 use Rattle.words.specs.Bits.{at}
 use Rattle.words.specs.Answers.{Answer, refused, full, by-tests, lent-after}
-use Rattle.words.proofs.Answers.{none-passed}
+use Rattle.words.proofs.Answers.{none-passed, Numbered}
 use Rattle.words.proofs.Columns.{length-tabulate}
 use Rattle.network.specs.declared.Network.{Network}
 use Rattle.network.proofs.Rows.{nets-admitted}
@@ -103,10 +102,6 @@ module _ (words : List ℕ) (size : length words ≡ session-size) where
     session-kept = ap session-of words-are ∙ session-back after kept
 
 -- ---- a call that returns 0
-
-abbrev Numbered : List (ℕ × Bool) → Type 0
-Numbered [] = Unit {0}
-Numbered ((number, test) ∷ tests) = (number ≢ 0) × Numbered tests
 
 zero-full : {A : Type 0} (tests : List (ℕ × Bool)) (x : A) → Numbered tests → code (by-tests tests x) ≡ 0 → by-tests tests x ≡ full x
 unfolding by-tests code

@@ -1,14 +1,16 @@
 -- Document 02's soft level: cases of level 0 worked out from the paper, what the level changes and what it does not,
 -- and both sides of each bound of row 17 in the calls that take a network. The reader's and the writer's are in
 -- FileBounds.antt.
-use Prim.Native.Nat.{ℕ, _-_, _^_}
+use Prim.Native.Nat.{ℕ, _-_, _^_, _≤_}
 use mathlib.Core.Path.{_≡_}
 use mathlib.Core.Logic.{_≢_}
 use mathlib.Core.Bool.{true, false}
-use mathlib.Core.List.{List, [], _∷_}
+use mathlib.Core.List.{List, [], _∷_, _++_}
+use lib.ListN.{replicate}
 use Rattle.words.specs.Answers.{refused, full}
 use Rattle.network.specs.declared.Network.{Network}
 use Rattle.network.specs.Reading.{network-with, network-of, extra-vectors, reads}
+use Rattle.network.specs.Rows.{Row17}
 use Rattle.network.specs.Respond.{response-answer}
 use Rattle.checker.specs.declared.Verdict.the-variants.{Pass, Pair}
 use Rattle.checker.specs.Check.{check-answer}
@@ -17,6 +19,7 @@ use Rattle.findings.specs.FindingsTable.{findings-answer}
 use Rattle.session.specs.Record.{awaiting-first, awaiting-second, finished}
 use Rattle.session.specs.Calls.{begin-answer, first-answer, second-answer}
 use Rattle.session.specs.Drive.{to-drive}
+use Rattle.packing.specs.Packed.{session-words, job-words}
 use Rattle.demands.specs.SessionCalls.{Call, begin, first, second, record-after}
 use Rattle.demands.specs.Programs.{our-sessions}
 use Rattle.demands.specs.Starred.{junk, answers-to}
@@ -72,6 +75,9 @@ pub record LevelCases : Type 0 where
   pub back-without-0 : diagnosis-answer four-at-0 4 (1 ∷ 2 ∷ 4 ∷ 8 ∷ []) (3 ∷ 3 ∷ 0 ∷ 8 ∷ []) 4 ≡ full broken
   -- nothing reads 1 on vector 0
   pub no-state : diagnosis-answer four-at-0 4 walking (4 ∷ 3 ∷ 3 ∷ 0 ∷ 8 ∷ []) 4 ≡ refused 14
+  -- its answers to a session's two steps
+  pub first-answers : response-answer four-at-0 4 (11 ∷ 5 ∷ 6 ∷ 8 ∷ []) broken 4 ≡ full (11 ∷ 3 ∷ 3 ∷ 8 ∷ [])
+  pub second-answers : response-answer four-at-0 4 (1 ∷ 2 ∷ 4 ∷ []) broken 3 ≡ full (3 ∷ 3 ∷ 0 ∷ [])
   -- the session: p = 4 and F = 3, so 7 are spent
   pub session-answers : answers-to junk calls-at-0
       ≡ refused 5
@@ -93,7 +99,11 @@ pub record LevelCases : Type 0 where
   -- the part to drive in step two
   pub driven-at-0 : to-drive (awaiting-second two-at-0 (0 ∷ 0 ∷ [])) (7 ∷ []) (1 ∷ 2 ∷ 9 ∷ []) ≡ 1 ∷ 2 ∷ []
   pub driven-at-1 : to-drive (awaiting-second (network-of 2) (3 ∷ 3 ∷ [])) (7 ∷ []) (0 ∷ 1 ∷ 2 ∷ 9 ∷ []) ≡ 0 ∷ 1 ∷ 2 ∷ []
-  -- row 17: level 2, and the greatest number
+  -- row 17: 0 and 1 alone are levels
+  pub level-0 : (n : ℕ) → ¬ (Row17 (network-with n 0))
+  pub level-1 : (n : ℕ) → ¬ (Row17 (network-with n 1))
+  pub no-other-level : (n level : ℕ) → 2 ≤ level → Row17 (network-with n level)
+  -- in the calls: level 2, and the greatest number
   pub check-2 : check-answer (network-with 4 2) 4 walking ≡ refused 17
   pub check-greatest : check-answer (network-with 4 (2 ^ 64 - 1)) 4 walking ≡ refused 17
   pub respond-2 : response-answer (network-with 4 2) 4 walking broken 5 ≡ refused 17
@@ -118,3 +128,9 @@ pub record LevelCases : Type 0 where
   pub record-second-0 : second-answer (awaiting-second two-at-0 (0 ∷ 0 ∷ [])) (0 ∷ 0 ∷ []) ≡ full []
   pub record-second-2 : second-answer (awaiting-second (network-with 2 2) (0 ∷ 0 ∷ [])) (0 ∷ 0 ∷ []) ≡ refused 4
   pub record-drive-2 : to-drive (awaiting-second (network-with 2 2) (0 ∷ 0 ∷ [])) (7 ∷ []) (1 ∷ 2 ∷ 9 ∷ []) ≡ []
+  -- through C: a session's words begin with step, nets and level, and a job's with nets, level and class
+  pub begun-words : session-words (awaiting-first (network-with 48 0)) ≡ 1 ∷ 48 ∷ 0 ∷ replicate 57 0
+  pub waiting-words : session-words (awaiting-second two-at-0 (3 ∷ 2 ∷ [])) ≡ 2 ∷ 2 ∷ 0 ∷ 3 ∷ 2 ∷ replicate 55 0
+  pub finished-words : session-words (finished four-at-0 broken 7) ≡ 3 ∷ 4 ∷ 0 ∷ replicate 8 0 ++ broken ++ replicate 44 0 ++ 7 ∷ []
+  pub words-of-a-job : job-words (record { network = four-at-0; class = 2; vectors = walking; responses = 0 ∷ 3 ∷ 3 ∷ [] })
+      ≡ 4 ∷ 0 ∷ 2 ∷ 5 ∷ 3 ∷ []

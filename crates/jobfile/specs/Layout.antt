@@ -70,7 +70,7 @@ pub record Layout (file : List ℕ) : Type 0 where
 abbrev pub Row2 : List ℕ → Type 0
 Row2 file = ¬ (Layout file)
 
--- file bodies: nets body not of its size, or another not a multiple of 8
+-- file bodies: nets body not 3 bytes, or another not a multiple of 8
 abbrev pub Row3 : List ℕ → Type 0
 Row3 file = (body-length file 0 ≢ nets-size) ⊎ ((i : ℕ) × (0 < i) × (i < entry-count file) × (body-length file i % 8 ≢ 0))
 

@@ -1,18 +1,18 @@
 -- Each row's test decides the row, and what rows that do not hold tell.
 use mathlib.Core.Path.{_≡_, refl}
-use mathlib.Core.Bool.{Bool, true, false, _||_}
+use mathlib.Core.Bool.{Bool, _||_}
 use mathlib.Core.Logic.{_⊎_, inl, inr, ⊎-elim, _≢_}
-use mathlib.Core.List.{List, [], _∷_, _++_}
+use mathlib.Core.List.{List, [], _++_}
 use Prim.Native.Nat.{ℕ, _^_, _≤_, _<_}
 use native.Mathlib.Nat.{lt-of-not-le}
 use native.Mathlib.Omega.{arith}
 use lib.Dec.{leb, eqb}
 use lib.ListN.{length}
 use Rattle.words.specs.Bits.{at}
-use Rattle.words.specs.Answers.{Decides, Decided, NoneHolds, refused, full, by-tests, first-number}
+use Rattle.words.specs.Answers.{Decides, Decided, NoneHolds, refused, full, by-tests}
 use Rattle.words.proofs.Tests.{cases, decides-less, decides-at-most, decides-equal, decides-or, decides-not, test-fails}
 use Rattle.words.proofs.Searching.{decides-any}
-use Rattle.words.proofs.Answers.{let-through, shared-refuse, shared-pass}
+use Rattle.words.proofs.Answers.{let-through, first-refuses, first-passes, shared-refuse, shared-pass}
 use Rattle.network.specs.declared.Network.{Network}
 use Rattle.network.specs.Rows.{Row5, Row6, Row17, Row7, HighBit, Row9, Row12, bad-net-count, bad-class, bad-level, bad-vector-count}
 use Rattle.network.specs.Rows.{has-high-bit, bad-response-count, no-room, NetworkRows, network-tests, network-refusal}
@@ -70,24 +70,10 @@ decides-network net = (refl, decides-row-5 net, λ _. (refl, decides-row-17 net,
 -- a call that begins with them, where one holds and where none does
 module _ (net : Network) {A : Type 0} (more : List (ℕ × Bool)) (x : A) where
   pub network-refuses : network-refusal net ≢ 0 → by-tests (network-tests net ++ more) x ≡ refused (network-refusal net)
-  unfolding by-tests
-  network-refuses = go (bad-net-count net) (bad-level net)
-    where
-      go : (five level : Bool) → first-number ((5, five) ∷ (17, level) ∷ []) ≢ 0
-          → by-tests ((5, five) ∷ (17, level) ∷ more) x ≡ refused (first-number ((5, five) ∷ (17, level) ∷ []))
-      go true level some = refl
-      go false true some = refl
-      go false false some = absurd (some refl)
+  network-refuses some = first-refuses more x (network-tests net) some
 
   pub network-admits : network-refusal net ≡ 0 → by-tests (network-tests net ++ more) x ≡ by-tests more x
-  unfolding by-tests
-  network-admits = go (bad-net-count net) (bad-level net)
-    where
-      go : (five level : Bool) → first-number ((5, five) ∷ (17, level) ∷ []) ≡ 0
-          → by-tests ((5, five) ∷ (17, level) ∷ more) x ≡ by-tests more x
-      go true level none = absurd (let q : _≡_ {A = ℕ} 5 0 = none in omega arith)
-      go false true none = absurd (let q : _≡_ {A = ℕ} 17 0 = none in omega arith)
-      go false false none = refl
+  network-admits none = first-passes more x (network-tests net) (λ q. omega (arith, q), (λ q. omega (arith, q), tt)) none
 
 module _ (net : Network) where
   pub network-admitted : network-refusal net ≡ 0 → AdmittedNetwork net

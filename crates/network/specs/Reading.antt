@@ -41,7 +41,7 @@ walking-vector net i = 2 ^ i
 unfoldable pub extra-vector : Network → ℕ
 extra-vector net = 0
 
--- whether there is a use for it: a floating receiver reads what a driver that drives 1 makes any other read
+-- whether there is one: only where a floating receiver reads 1, as one does that a driver at 1 reaches
 unfoldable pub needs-extra : Network → Bool
 needs-extra net = soft-level net
 

@@ -40,14 +40,14 @@ pub fn extra_vector(net: Network) -> Ptv
     Ptv(0)
 }
 
-// Whether there is a use for it.
+// Whether there is one.
 pub fn needs_extra(net: Network) -> bool
     ensures { λ r. ⌜ r ≡ needs-extra net ⌝ }
 {
     net.level == 1
 }
 
-// Whether a vector is the extra vector, and there is a use for it.
+// Whether a vector is the extra vector, and there is one.
 pub fn is_extra(net: Network, vector: u64) -> bool
     ensures { λ r. ⌜ r ≡ needs-extra net && eqb vector (extra-vector net) ⌝ }
 {

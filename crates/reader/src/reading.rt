@@ -100,7 +100,7 @@ pub fn bad_layout(file: &[u8]) -> bool
     false
 }
 
-// Row 3: nets body not of its size, or another not a multiple of 8.
+// Row 3: nets body not 3 bytes, or another not a multiple of 8.
 pub fn bad_bodies(file: &[u8]) -> bool
     requires { ⌜ bad-layout (now file) ≡ false ⌝ }
     ensures { λ r. ⌜ r ≡ bad-bodies (now (file .entry)) ⌝ }

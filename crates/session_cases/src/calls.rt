@@ -14,16 +14,9 @@ use trials::lent::MARKER;
 use trials::read;
 use trials::read::END;
 use trials::read::MOST;
+use trials::setting;
 use trials::setting::Setting;
 use trials::show;
-
-// The network of n nets in a setting.
-fn network_in(setting: Setting, nets: u64) -> Network {
-    Network {
-        nets: nets,
-        level: setting.level,
-    }
-}
 
 // A record with these numbers, in every entry of its lists too.
 fn filled(step: u64, net: Network, first: u64, reach: u64, spent: u64) -> Session {
@@ -188,12 +181,12 @@ fn try_numbers(before: Session, setting: Setting, head: &[u64; MOST], count: usi
 {
     let room = head[2];
     if (count == 3) & (head[0] == 1) && room <= 64 {
-        return try_begin(before, network_in(setting, head[1]), room as usize);
+        return try_begin(before, setting::network_in(setting, head[1]), room as usize);
     }
     if (count == 6) & (head[0] == 5) {
         return try_record(
             head[1],
-            network_in(setting, head[2]),
+            setting::network_in(setting, head[2]),
             head[3],
             head[4],
             head[5],

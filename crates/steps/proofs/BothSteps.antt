@@ -207,7 +207,7 @@ module _ (net : Network) (answers : List ℕ) where
 -- ---- the vectors of step two
 
 module _ (net : Network) where
-  settling-is : (nets : List ℕ) → length nets ≢ 0 → settling-vectors net nets ≡ extra-vectors net ++ map (walking-vector net) nets
+  pub settling-is : (nets : List ℕ) → length nets ≢ 0 → settling-vectors net nets ≡ extra-vectors net ++ map (walking-vector net) nets
   settling-is [] some = absurd (some refl)
   settling-is (i ∷ nets) some = refl
 

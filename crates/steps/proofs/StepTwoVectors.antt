@@ -21,14 +21,9 @@ use Rattle.network.specs.Reading.{walking-vector, extra-vectors}
 use Rattle.network.proofs.Reading.{extra-most}
 use Rattle.steps.specs.FirstStep.{sequential-words}
 use Rattle.steps.specs.SecondStep.{only-at, is-clear, unclear, settling-vectors, second-vectors}
-use Rattle.steps.proofs.BothSteps.{second-none}
+use Rattle.steps.proofs.BothSteps.{settling-is, second-none}
 
 -- ---- no vectors where no net is given, and else the extra vector first, if there is one
-
-settling-some : (net : Network) (nets : List ℕ) → length nets ≢ 0
-    → extra-vectors net ++ map (walking-vector net) nets ≡ settling-vectors net nets
-settling-some net [] n = absurd (n refl)
-settling-some net (i ∷ nets) n = refl
 
 settling-empty : (net : Network) (nets : List ℕ) → eqb (length (settling-vectors net nets)) 0 ≡ eqb (length nets) 0
 settling-empty net [] = refl
@@ -118,4 +113,4 @@ module _ (net : Network) (words returned : List ℕ) where
       pub listed-some : count ≢ length (extra-vectors net) → take count vectors ≡ second-vectors net answers
       unfolding second-vectors
       listed-some h = s .front
-          ∙ rw (← all-nets) (settling-some net (unclear-below words returned i) (λ z. h (s .number ∙ omega (arith, z))))
+          ∙ rw (← all-nets) (sym (settling-is net (unclear-below words returned i) (λ z. h (s .number ∙ omega (arith, z)))))

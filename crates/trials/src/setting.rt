@@ -6,6 +6,7 @@ use crate::read;
 use crate::read::END;
 use crate::read::MOST;
 use crate::show;
+use network::Network;
 
 // All of a network but the number of its nets: the soft level.
 pub struct Setting {
@@ -15,6 +16,14 @@ pub struct Setting {
 // The setting where no line says another.
 pub fn usual() -> Setting {
     Setting { level: 1 }
+}
+
+// The network of n nets in a setting.
+pub fn network_in(setting: Setting, nets: u64) -> Network {
+    Network {
+        nets: nets,
+        level: setting.level,
+    }
 }
 
 // The index past a name that a line begins with; 0 if it begins with another.

@@ -1,13 +1,13 @@
 -- The table computed is the table said, and it leaves nothing open.
 use mathlib.Core.Path.{_≡_, refl, sym, ap, ap₂, _∙_, subst}
 use mathlib.Core.Bool.{Bool, true, false, cond}
-use mathlib.Core.Logic.{_⊎_, inl, inr}
+use mathlib.Core.Logic.{_⊎_, inl, inr, _≢_}
 use mathlib.Core.List.{List, [], _∷_, _++_}
 use Prim.Native.Nat.{ℕ, _≤_}
 use native.Mathlib.Omega.{arith}
 use lib.ListN.{length, take, drop, length-append}
 use lib.Seq.{drop-append-seam, take-append-seam}
-use Rattle.words.specs.Answers.{Answer, refused, full, ByTable, NoneHolds, by-tests, Decided, lent-after}
+use Rattle.words.specs.Answers.{Answer, refused, full, ByTable, NoneHolds, by-tests, first-number, Decided, lent-after}
 use Rattle.words.specs.Answers.{count-of, Filled, FillsByTable}
 
 -- no answer is both a refusal and a full result
@@ -133,6 +133,36 @@ pub full-answer : {A : Type 0} (tests : List (ℕ × Bool)) (x : A) → AllFail 
 unfolding by-tests
 full-answer [] x h = refl
 full-answer ((number, test) ∷ tests) x (e, h) = rw e (full-answer tests x h)
+
+-- none of the numbers is 0
+abbrev pub Numbered : List (ℕ × Bool) → Type 0
+Numbered [] = Unit {0}
+Numbered ((number, test) ∷ tests) = (number ≢ 0) × Numbered tests
+
+-- tests before others, by the number of the first that passes
+module _ {A : Type 0} (more : List (ℕ × Bool)) (x : A) where
+  pub first-refuses : (tests : List (ℕ × Bool)) → first-number tests ≢ 0 → by-tests (tests ++ more) x ≡ refused (first-number tests)
+  unfolding by-tests
+  first-refuses [] some = absurd (some refl)
+  first-refuses ((number, test) ∷ tests) some = go test (first-refuses tests) some
+    where
+      go : (t : Bool) → (first-number tests ≢ 0 → by-tests (tests ++ more) x ≡ refused (first-number tests))
+          → cond t number (first-number tests) ≢ 0
+          → cond t (refused number) (by-tests (tests ++ more) x) ≡ refused (cond t number (first-number tests))
+      go true later some = refl
+      go false later some = later some
+
+  pub first-passes : (tests : List (ℕ × Bool)) → Numbered tests → first-number tests ≡ 0
+      → by-tests (tests ++ more) x ≡ by-tests more x
+  unfolding by-tests
+  first-passes [] n none = refl
+  first-passes ((number, test) ∷ tests) (n, ns) none = go test (first-passes tests ns) none
+    where
+      go : (t : Bool) → (first-number tests ≡ 0 → by-tests (tests ++ more) x ≡ by-tests more x)
+          → cond t number (first-number tests) ≡ 0
+          → cond t (refused number) (by-tests (tests ++ more) x) ≡ by-tests more x
+      go true later none = absurd (n none)
+      go false later none = later none
 
 -- first tests that several calls share, then a call's own
 module _ {A B : Type 0} (x : A) (y : B) where
