@@ -1,4 +1,4 @@
-/* Checks a test set for four nets, soft level 1 and class 4, and prints the verdict.
+/* Checks a test set for four nets, soft level 1, gate OR and class 4, and prints the verdict.
  *
  * At the repository's root, after `rt staticlib exports`:
  *
@@ -12,12 +12,12 @@
 
 int main(void)
 {
-    const uint64_t nets = 4, level = 1, class_ = 4;
+    const uint64_t nets = 4, level = 1, gate = FONTARELGA_GATE_OR, class_ = 4;
     const uint64_t vectors[] = {0, 1, 2, 4, 8};
     const size_t count = sizeof vectors / sizeof vectors[0];
     uint64_t verdict[FONTARELGA_VERDICT_WORDS];
 
-    uint64_t refusal = fontarelga_check(nets, level, class_, vectors, count, verdict);
+    uint64_t refusal = fontarelga_check(nets, level, gate, class_, vectors, count, verdict);
     if (refusal != 0) {
         printf("refused %" PRIu64 "\n", refusal);
         return 1;

@@ -1,5 +1,5 @@
-/* Diagnoses a board of four nets, soft level 1, for class 4, and prints what is found, a line a net: net, kind, reach,
- * partners.
+/* Diagnoses a board of four nets, soft level 1 and gate OR, for class 4, and prints what is found, a line a net: net,
+ * kind, reach, partners.
  *
  * At the repository's root, after `rt staticlib exports`:
  *
@@ -11,7 +11,8 @@
 #include <inttypes.h>
 #include <stdio.h>
 
-enum { NETS = 4, LEVEL = 1, CLASS = 4, VECTORS = 5, TABLE_WORDS = NETS * FONTARELGA_FINDING_WORDS };
+enum { NETS = 4, LEVEL = 1, GATE = FONTARELGA_GATE_OR, CLASS = 4, VECTORS = 5 };
+enum { TABLE_WORDS = NETS * FONTARELGA_FINDING_WORDS };
 
 int main(void)
 {
@@ -20,9 +21,9 @@ int main(void)
     uint64_t state[NETS];
     uint64_t table[TABLE_WORDS];
 
-    uint64_t refusal = fontarelga_diagnose(NETS, LEVEL, CLASS, vectors, VECTORS, responses, VECTORS, state, NETS);
+    uint64_t refusal = fontarelga_diagnose(NETS, LEVEL, GATE, CLASS, vectors, VECTORS, responses, VECTORS, state, NETS);
     if (refusal == 0) {
-        refusal = fontarelga_findings(NETS, LEVEL, state, NETS, table, TABLE_WORDS);
+        refusal = fontarelga_findings(NETS, LEVEL, GATE, state, NETS, table, TABLE_WORDS);
     }
     if (refusal != 0) {
         printf("refused %" PRIu64 "\n", refusal);

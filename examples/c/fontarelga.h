@@ -21,8 +21,8 @@
  * 128 KB with musl. A program whose threads have less makes the call on a thread to which it gives as much, with
  * pthread_attr_setstacksize.
  *
- * nets is n, 2 to 48. level is the soft level, 0 or 1: what a receiver reads that no driver reaches. class_ is k:
- * 1, 2, 3 or n. Bit i of a word stands for net i. */
+ * nets is n, 2 to 48. level is the soft level, 0 or 1: what a receiver reads that no driver reaches. gate is
+ * FONTARELGA_GATE_OR or FONTARELGA_GATE_AND. class_ is k: 1, 2, 3 or n. Bit i of a word stands for net i. */
 
 #ifndef FONTARELGA_H
 #define FONTARELGA_H
@@ -39,6 +39,11 @@ extern "C" {
 #define FONTARELGA_MOST_VECTORS 64
 #define FONTARELGA_MOST_FILE_BYTES 2048
 
+/* What a receiver reads that a driver reaches. OR: 1 if a driver in its reach drives 1, else 0. AND: 0 if a driver in
+ * its reach drives 0, else 1. */
+#define FONTARELGA_GATE_OR 0
+#define FONTARELGA_GATE_AND 1
+
 /* The stack of a thread that is enough for check and diagnosis, and for all else. */
 #define FONTARELGA_CHECK_STACK_BYTES 327680
 #define FONTARELGA_OTHER_STACK_BYTES 32768
@@ -49,17 +54,17 @@ extern "C" {
 #define FONTARELGA_VERDICT_A 1
 #define FONTARELGA_VERDICT_B 2
 
-/* Can the test set tell all states of the class apart? Rows 5, 6, 17, 7, 8. */
-uint64_t fontarelga_check(uint64_t nets, uint64_t level, uint64_t class_, const uint64_t *vectors, size_t vectors_len,
-                          uint64_t verdict[FONTARELGA_VERDICT_WORDS]);
+/* Can the test set tell all states of the class apart? Rows 5, 6, 17, 20, 7, 8. */
+uint64_t fontarelga_check(uint64_t nets, uint64_t level, uint64_t gate, uint64_t class_, const uint64_t *vectors,
+                          size_t vectors_len, uint64_t verdict[FONTARELGA_VERDICT_WORDS]);
 
-/* The response of a wiring state of nets words: a word a vector. Rows 5, 6, 17, 7, 8, 11, 12. */
-uint64_t fontarelga_respond(uint64_t nets, uint64_t level, uint64_t class_, const uint64_t *vectors,
+/* The response of a wiring state of nets words: a word a vector. Rows 5, 6, 17, 20, 7, 8, 11, 12. */
+uint64_t fontarelga_respond(uint64_t nets, uint64_t level, uint64_t gate, uint64_t class_, const uint64_t *vectors,
                             size_t vectors_len, const uint64_t *state, size_t state_len, uint64_t *response,
                             size_t response_len);
 
-/* The only state of the class that gives the responses: a word a net. Rows 5, 6, 17, 7 to 10, 12 to 14. */
-uint64_t fontarelga_diagnose(uint64_t nets, uint64_t level, uint64_t class_, const uint64_t *vectors,
+/* The only state of the class that gives the responses: a word a net. Rows 5, 6, 17, 20, 7 to 10, 12 to 14. */
+uint64_t fontarelga_diagnose(uint64_t nets, uint64_t level, uint64_t gate, uint64_t class_, const uint64_t *vectors,
                              size_t vectors_len, const uint64_t *responses, size_t responses_len, uint64_t *state,
                              size_t state_len);
 
@@ -73,32 +78,33 @@ uint64_t fontarelga_diagnose(uint64_t nets, uint64_t level, uint64_t class_, con
 #define FONTARELGA_FINDING_PARTNERS 2
 
 /* What is found on each net of a state: a finding a net. A table has room for a third as many findings as it has words.
- * The level is tested and has no part in what is found. Rows 5, 17, 11, 12. */
-uint64_t fontarelga_findings(uint64_t nets, uint64_t level, const uint64_t *state, size_t state_len, uint64_t *table,
-                             size_t table_len);
+ * Level and gate are tested and have no part in what is found. Rows 5, 17, 20, 11, 12. */
+uint64_t fontarelga_findings(uint64_t nets, uint64_t level, uint64_t gate, const uint64_t *state, size_t state_len,
+                             uint64_t *table, size_t table_len);
 
-/* A session record: step, nets, level, 8 words of first answers, 48 reaches, vectors spent. What a step does not use is
- * 0. A record of any content may be given to begin. */
-#define FONTARELGA_SESSION_WORDS 60
+/* A session record: step, nets, level, gate, 8 words of first answers, 48 reaches, vectors spent. What a step does not
+ * use is 0. A record of any content may be given to begin. */
+#define FONTARELGA_SESSION_WORDS 61
 #define FONTARELGA_SESSION_STEP 0
 #define FONTARELGA_SESSION_NETS 1
 #define FONTARELGA_SESSION_LEVEL 2
-#define FONTARELGA_SESSION_FIRST_ANSWERS 3
-#define FONTARELGA_SESSION_REACHES 11
-#define FONTARELGA_SESSION_SPENT 59
+#define FONTARELGA_SESSION_GATE 3
+#define FONTARELGA_SESSION_FIRST_ANSWERS 4
+#define FONTARELGA_SESSION_REACHES 12
+#define FONTARELGA_SESSION_SPENT 60
 
 /* The steps of a session: it waits for first answers, it waits for second answers, it is finished. */
 #define FONTARELGA_STEP_FIRST 1
 #define FONTARELGA_STEP_SECOND 2
 #define FONTARELGA_STEP_FINISHED 3
 
-/* The most vectors of step one, and of step two, which at level 0 has one less. */
+/* The most vectors of step one, and of step two, which has one less with OR at level 0 and with AND at level 1. */
 #define FONTARELGA_MOST_FIRST_VECTORS 8
 #define FONTARELGA_MOST_SECOND_VECTORS 49
 
-/* Starts the record anew, and writes the vectors of step one. Rows 5, 17, 12. */
-uint64_t fontarelga_begin(uint64_t session[FONTARELGA_SESSION_WORDS], uint64_t nets, uint64_t level, uint64_t *first,
-                          size_t first_len);
+/* Starts the record anew, and writes the vectors of step one. Rows 5, 17, 20, 12. */
+uint64_t fontarelga_begin(uint64_t session[FONTARELGA_SESSION_WORDS], uint64_t nets, uint64_t level, uint64_t gate,
+                          uint64_t *first, size_t first_len);
 
 /* Takes the answers to step one. Writes the vectors of step two if a net is unclear; else the session is finished.
  * Rows 4, 9, 10, 12. */
@@ -113,21 +119,22 @@ uint64_t fontarelga_second_answers(uint64_t session[FONTARELGA_SESSION_WORDS], c
 uint64_t fontarelga_to_drive(const uint64_t session[FONTARELGA_SESSION_WORDS], const uint64_t *first,
                              size_t first_len, const uint64_t *second, size_t second_len);
 
-/* A job: nets, level, class, number of vectors, number of responses. */
-#define FONTARELGA_JOB_WORDS 5
+/* A job: nets, level, gate, class, number of vectors, number of responses. */
+#define FONTARELGA_JOB_WORDS 6
 #define FONTARELGA_JOB_NETS 0
 #define FONTARELGA_JOB_LEVEL 1
-#define FONTARELGA_JOB_CLASS 2
-#define FONTARELGA_JOB_VECTORS 3
-#define FONTARELGA_JOB_RESPONSES 4
+#define FONTARELGA_JOB_GATE 2
+#define FONTARELGA_JOB_CLASS 3
+#define FONTARELGA_JOB_VECTORS 4
+#define FONTARELGA_JOB_RESPONSES 5
 
-/* Reads a job file. Rows 1 to 3, 5, 6, 17, 7 to 10, 12. */
+/* Reads a job file. Rows 1 to 3, 5, 6, 17, 20, 7 to 10, 12. */
 uint64_t fontarelga_read_job(const uint8_t *file, size_t file_len, uint64_t *vectors, size_t vectors_len,
                              uint64_t *responses, size_t responses_len, uint64_t job[FONTARELGA_JOB_WORDS]);
 
 /* Writes a job file, with two entries if there are no responses. size: one word, how many bytes.
- * Rows 5, 6, 17, 7 to 10, 12. */
-uint64_t fontarelga_write_job(uint64_t nets, uint64_t level, uint64_t class_, const uint64_t *vectors,
+ * Rows 5, 6, 17, 20, 7 to 10, 12. */
+uint64_t fontarelga_write_job(uint64_t nets, uint64_t level, uint64_t gate, uint64_t class_, const uint64_t *vectors,
                               size_t vectors_len, const uint64_t *responses, size_t responses_len, uint8_t *file,
                               size_t file_len, uint64_t *size);
 

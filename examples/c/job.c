@@ -1,6 +1,6 @@
-/* Works out what a board of four nets, soft level 1, answers to a test set, writes the job file with both, and reads it
- * back. Prints the response, the file's size, and what was read: nets, level, class and counts, then the vectors and
- * the responses.
+/* Works out what a board of four nets, soft level 1 and gate OR, answers to a test set, writes the job file with both,
+ * and reads it back. Prints the response, the file's size, and what was read: nets, level, gate, class and counts, then
+ * the vectors and the responses.
  *
  * At the repository's root, after `rt staticlib exports`:
  *
@@ -12,7 +12,7 @@
 #include <inttypes.h>
 #include <stdio.h>
 
-enum { NETS = 4, LEVEL = 1, CLASS = 4, VECTORS = 5 };
+enum { NETS = 4, LEVEL = 1, GATE = FONTARELGA_GATE_OR, CLASS = 4, VECTORS = 5 };
 
 static void print_words(const char *name, const uint64_t *words, uint64_t count)
 {
@@ -48,11 +48,11 @@ int main(void)
     uint8_t file[FONTARELGA_MOST_FILE_BYTES];
     uint64_t size = 0;
 
-    uint64_t refusal = fontarelga_respond(NETS, LEVEL, CLASS, vectors, VECTORS, state, NETS, response, VECTORS);
+    uint64_t refusal = fontarelga_respond(NETS, LEVEL, GATE, CLASS, vectors, VECTORS, state, NETS, response, VECTORS);
     if (refusal == 0) {
         print_words("response", response, VECTORS);
-        refusal = fontarelga_write_job(NETS, LEVEL, CLASS, vectors, VECTORS, response, VECTORS, file, sizeof file,
-                                       &size);
+        refusal = fontarelga_write_job(NETS, LEVEL, GATE, CLASS, vectors, VECTORS, response, VECTORS, file,
+                                       sizeof file, &size);
     }
     if (refusal == 0) {
         print_words("bytes", &size, 1);

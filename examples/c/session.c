@@ -1,5 +1,6 @@
 /* Finds the wiring state of a simulated board of four nets in a session, and prints what is driven and read, the
- * reaches found, and the number of vectors spent. Its soft level is 1; with -DLEVEL=0 it is 0.
+ * reaches found, and the number of vectors spent. Its soft level is 1; with -DLEVEL=0 it is 0. Its gate is OR; with
+ * -DGATE=1 it is AND.
  *
  * At the repository's root, after `rt staticlib exports`:
  *
@@ -15,17 +16,34 @@
 #define LEVEL 1
 #endif
 
+#ifndef GATE
+#define GATE FONTARELGA_GATE_OR
+#endif
+
 enum { NETS = 4, FIRST = FONTARELGA_MOST_FIRST_VECTORS, SECOND = FONTARELGA_MOST_SECOND_VECTORS };
 
 /* The board: nets 0 and 1 are tied together, and receiver 2 floats. */
 static const uint64_t board[NETS] = {3, 3, 0, 8};
 
-/* What the board's receivers read: 1 if a driver in the reach drives 1, or if the reach is empty and the level is 1. */
+/* What a receiver with this reach reads. With an empty reach it reads the level. Else with OR it reads 1 if a driver in
+ * the reach drives 1, and with AND it reads 0 if a driver in the reach drives 0. */
+static int reads_1(uint64_t reach, uint64_t vector)
+{
+    if (reach == 0) {
+        return LEVEL == 1;
+    }
+    if (GATE == FONTARELGA_GATE_AND) {
+        return (reach & ~vector) == 0;
+    }
+    return (reach & vector) != 0;
+}
+
+/* What the board's receivers read. */
 static uint64_t read_board(uint64_t vector)
 {
     uint64_t word = 0;
     for (int net = 0; net < NETS; net++) {
-        if ((board[net] & vector) != 0 || (board[net] == 0 && LEVEL == 1)) {
+        if (reads_1(board[net], vector)) {
             word |= UINT64_C(1) << net;
         }
     }
@@ -66,7 +84,7 @@ int main(void)
     uint64_t session[FONTARELGA_SESSION_WORDS] = {0};
     uint64_t first[FIRST] = {0}, second[SECOND] = {0};
 
-    uint64_t refusal = fontarelga_begin(session, NETS, LEVEL, first, FIRST);
+    uint64_t refusal = fontarelga_begin(session, NETS, LEVEL, GATE, first, FIRST);
     while (refusal == 0 && session[FONTARELGA_SESSION_STEP] != FONTARELGA_STEP_FINISHED) {
         refusal = do_step(session, first, second);
     }

@@ -54,17 +54,18 @@ pub struct Finding {
 
 /// Can a test set tell all states of a class apart?
 ///
-/// The network has n nets, 2 to 48, and soft level 0 or 1. `class` is 1, 2, 3 or n: the most drivers that a reach may
-/// have. `vectors` has 1 to 64 words; bit i is what driver i drives.
+/// The network has n nets, 2 to 48, soft level 0 or 1, and gate OR or AND. `class` is 1, 2, 3 or n: the most drivers
+/// that a reach may have. `vectors` has 1 to 64 words; bit i is what driver i drives.
 ///
-/// Refused: 5, 6, 17, 7, 8.
+/// Refused: 5, 6, 17, 20, 7, 8.
 ///
 /// ```
-/// use fontarelga::{check, Network, Verdict};
+/// use fontarelga::{check, Network, Verdict, AND};
 /// let network = Network::new(4);
 /// assert_eq!(check(network, 4, &[0, 1, 2, 4, 8]), Ok(Verdict::Pass));
 /// assert_eq!(check(network, 4, &[1, 2, 4, 8]), Ok(Verdict::Pair { a: 0, b: 15 }));
 /// assert_eq!(check(network.with_level(0), 4, &[1, 2, 4, 8]), Ok(Verdict::Pass));
+/// assert_eq!(check(network.with_gate(AND), 4, &[14, 13, 11, 7]), Ok(Verdict::Pass));
 /// ```
 pub fn check(network: impl Into<Network>, class: u64, vectors: &[u64]) -> Result<Verdict, Refusal> {
     let mut verdict = [0; VERDICT_WORDS];
@@ -79,13 +80,14 @@ pub fn check(network: impl Into<Network>, class: u64, vectors: &[u64]) -> Result
 ///
 /// `state` has n words, the reaches of receivers 0 to n - 1; 0 is a receiver that floats.
 ///
-/// Refused: 5, 6, 17, 7, 8, 11.
+/// Refused: 5, 6, 17, 20, 7, 8, 11.
 ///
 /// ```
-/// use fontarelga::{respond, Network};
+/// use fontarelga::{respond, Network, AND};
 /// let (network, vectors, state) = (Network::new(4), [0, 1, 2, 4, 8], [3, 3, 0, 8]);
 /// assert_eq!(respond(network, 4, &vectors, &state), Ok(vec![4, 7, 7, 4, 12]));
 /// assert_eq!(respond(network.with_level(0), 4, &vectors, &state), Ok(vec![0, 3, 3, 0, 8]));
+/// assert_eq!(respond(network.with_gate(AND), 4, &[14, 13, 11], &state), Ok(vec![12, 12, 15]));
 /// ```
 pub fn respond(network: impl Into<Network>, class: u64, vectors: &[u64], state: &[u64]) -> Result<Vec<u64>, Refusal> {
     let mut response = vec![0; vectors.len()];
@@ -97,7 +99,7 @@ pub fn respond(network: impl Into<Network>, class: u64, vectors: &[u64], state: 
 ///
 /// `responses` has a word a vector.
 ///
-/// Refused: 5, 6, 17, 7, 8, 9, 10, 13, 14.
+/// Refused: 5, 6, 17, 20, 7, 8, 9, 10, 13, 14.
 ///
 /// ```
 /// use fontarelga::{diagnose, Network, Refusal};
@@ -117,9 +119,9 @@ pub fn diagnose(
     Ok(state[..network.nets() as usize].to_vec())
 }
 
-/// What is found on each net of a wiring state, net 0 first. The soft level has no part in it.
+/// What is found on each net of a wiring state, net 0 first. Soft level and gate have no part in it.
 ///
-/// Refused: 5, 17, 11 (for class n).
+/// Refused: 5, 17, 20, 11 (for class n).
 ///
 /// ```
 /// use fontarelga::{findings, Finding, Kind, Network};

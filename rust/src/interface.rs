@@ -11,6 +11,7 @@ mod c {
         pub fn fontarelga_check(
             nets: u64,
             level: u64,
+            gate: u64,
             class: u64,
             vectors: *const u64,
             vectors_len: usize,
@@ -20,6 +21,7 @@ mod c {
         pub fn fontarelga_respond(
             nets: u64,
             level: u64,
+            gate: u64,
             class: u64,
             vectors: *const u64,
             vectors_len: usize,
@@ -32,6 +34,7 @@ mod c {
         pub fn fontarelga_diagnose(
             nets: u64,
             level: u64,
+            gate: u64,
             class: u64,
             vectors: *const u64,
             vectors_len: usize,
@@ -44,13 +47,21 @@ mod c {
         pub fn fontarelga_findings(
             nets: u64,
             level: u64,
+            gate: u64,
             state: *const u64,
             state_len: usize,
             table: *mut u64,
             table_len: usize,
         ) -> u64;
 
-        pub fn fontarelga_begin(session: *mut u64, nets: u64, level: u64, first: *mut u64, first_len: usize) -> u64;
+        pub fn fontarelga_begin(
+            session: *mut u64,
+            nets: u64,
+            level: u64,
+            gate: u64,
+            first: *mut u64,
+            first_len: usize,
+        ) -> u64;
 
         pub fn fontarelga_first_answers(
             session: *mut u64,
@@ -83,6 +94,7 @@ mod c {
         pub fn fontarelga_write_job(
             nets: u64,
             level: u64,
+            gate: u64,
             class: u64,
             vectors: *const u64,
             vectors_len: usize,
@@ -106,6 +118,7 @@ pub fn check(network: impl Into<Network>, class: u64, vectors: &[u64], verdict: 
         c::fontarelga_check(
             network.nets(),
             network.level(),
+            network.gate(),
             class,
             vectors.as_ptr(),
             vectors.len(),
@@ -121,6 +134,7 @@ pub fn respond(network: impl Into<Network>, class: u64, vectors: &[u64], state: 
         c::fontarelga_respond(
             network.nets(),
             network.level(),
+            network.gate(),
             class,
             vectors.as_ptr(),
             vectors.len(),
@@ -139,6 +153,7 @@ pub fn diagnose(network: impl Into<Network>, class: u64, vectors: &[u64], respon
         c::fontarelga_diagnose(
             network.nets(),
             network.level(),
+            network.gate(),
             class,
             vectors.as_ptr(),
             vectors.len(),
@@ -157,6 +172,7 @@ pub fn findings(network: impl Into<Network>, state: &[u64], table: &mut [u64]) -
         c::fontarelga_findings(
             network.nets(),
             network.level(),
+            network.gate(),
             state.as_ptr(),
             state.len(),
             table.as_mut_ptr(),
@@ -169,7 +185,14 @@ pub fn findings(network: impl Into<Network>, state: &[u64], table: &mut [u64]) -
 pub fn begin(session: &mut [u64; RECORD_WORDS], network: impl Into<Network>, first: &mut [u64]) -> u64 {
     let network = network.into();
     unsafe {
-        c::fontarelga_begin(session.as_mut_ptr(), network.nets(), network.level(), first.as_mut_ptr(), first.len())
+        c::fontarelga_begin(
+            session.as_mut_ptr(),
+            network.nets(),
+            network.level(),
+            network.gate(),
+            first.as_mut_ptr(),
+            first.len(),
+        )
     }
 }
 
@@ -197,7 +220,7 @@ pub fn to_drive(session: &[u64; RECORD_WORDS], first: &[u64], second: &[u64]) ->
     unsafe { c::fontarelga_to_drive(session.as_ptr(), first.as_ptr(), first.len(), second.as_ptr(), second.len()) }
 }
 
-/// The words into the fronts of `vectors` and `responses`; nets, level, class and the two counts into `job`.
+/// The words into the fronts of `vectors` and `responses`; nets, level, gate, class and the two counts into `job`.
 pub fn read_job(file: &[u8], vectors: &mut [u64], responses: &mut [u64], job: &mut [u64; JOB_WORDS]) -> u64 {
     unsafe {
         c::fontarelga_read_job(
@@ -226,6 +249,7 @@ pub fn write_job(
         c::fontarelga_write_job(
             network.nets(),
             network.level(),
+            network.gate(),
             class,
             vectors.as_ptr(),
             vectors.len(),

@@ -15,7 +15,7 @@ pub struct Job {
 impl Job {
     /// Reads a job file.
     ///
-    /// Refused: 1, 2, 3, 5, 6, 17, 7, 8, and with responses 9, 10.
+    /// Refused: 1, 2, 3, 5, 6, 17, 20, 7, 8, and with responses 9, 10.
     ///
     /// ```
     /// use fontarelga::{Job, Network, Refusal};
@@ -29,9 +29,9 @@ impl Job {
         let mut responses = [0; MOST_VECTORS];
         let mut job = [0; JOB_WORDS];
         Refusal::from_code(raw::read_job(file, &mut vectors, &mut responses, &mut job))?;
-        let [nets, level, class, vector_count, response_count] = job;
+        let [nets, level, gate, class, vector_count, response_count] = job;
         Ok(Job {
-            network: Network::new(nets).with_level(level),
+            network: Network::new(nets).with_level(level).with_gate(gate),
             class,
             vectors: vectors[..vector_count as usize].to_vec(),
             responses: responses[..response_count as usize].to_vec(),
@@ -40,7 +40,7 @@ impl Job {
 
     /// The job's file: two entries if there are no responses, else three.
     ///
-    /// Refused: 5, 6, 17, 7, 8, and with responses 9, 10.
+    /// Refused: 5, 6, 17, 20, 7, 8, and with responses 9, 10.
     pub fn write(&self) -> Result<Vec<u8>, Refusal> {
         let mut file = [0; MOST_FILE_BYTES];
         let mut size = 0;

@@ -1,12 +1,12 @@
 //! Opens and shorts in the wiring of a circuit board, from what its boundary-scan cells drive and read.
 //!
 //! Safe wrappers over a library that is written and proved in Rattle and linked as a static archive. The words (net,
-//! soft level, reach, wiring state, test set, class, session) are explained in the repository's README.
+//! soft level, gate, reach, wiring state, test set, class, session) are explained in the repository's README.
 //!
 //! A word has 64 bits; bit i stands for net i. Each call gives its full result or a [`Refusal`], the number of the
-//! first row of the table that holds; a call's rows are listed with it in the table's order, in which 17 follows 6. Any
-//! numbers, any bytes and any lengths are ordinary inputs. The wrappers lend lists that are long enough, so row 12 is
-//! met in [`raw`] only.
+//! first row of the table that holds; a call's rows are listed with it in the table's order, in which 17 and 20
+//! follow 6. Any numbers, any bytes and any lengths are ordinary inputs. The wrappers lend lists that are long enough,
+//! so row 12 is met in [`raw`] only.
 //!
 //! The library takes what it needs from the stack. [`check`] and [`diagnose`] run on a thread with a stack of at least
 //! [`CHECK_STACK_BYTES`], all else with [`OTHER_STACK_BYTES`]. Threads of the standard library have 2 MB by default.
@@ -21,7 +21,7 @@ mod sizes;
 
 pub use calls::{check, diagnose, findings, respond, Finding, Kind, Verdict};
 pub use job::Job;
-pub use network::Network;
+pub use network::{Network, AND, OR};
 pub use refusal::Refusal;
 pub use session::{Session, Waits};
 pub use sizes::{

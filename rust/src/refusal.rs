@@ -18,11 +18,12 @@ impl Refusal {
         match self.0 {
             1 => "file mark: first 4 bytes missing or different",
             2 => "file contents: over 2,048 bytes, or count, table, kinds, offsets, lengths or end break the layout",
-            3 => "file bodies: nets body not 3 bytes, or another not a multiple of 8",
+            3 => "file bodies: nets body not 4 bytes, or another not a multiple of 8",
             4 => "session step: the record does not wait for this call, or no accepted calls leave such a record",
             5 => "net count: n below 2 or above 48",
             6 => "class: k not 1, 2, 3 or n, or above n",
             17 => "soft level: neither 0 nor 1",
+            20 => "gate: neither OR (0) nor AND (1)",
             7 => "vectors: fewer than 1 or more than 64",
             8 => "vectors: a bit at or above n",
             9 => "responses: not as many as vectors",

@@ -6,8 +6,9 @@ use crate::sizes::{MOST_FIRST_VECTORS, MOST_SECOND_VECTORS, RECORD_WORDS};
 const STEP: usize = 0;
 const NETS: usize = 1;
 const LEVEL: usize = 2;
-const REACHES: usize = 11;
-const SPENT: usize = 59;
+const GATE: usize = 3;
+const REACHES: usize = 12;
+const SPENT: usize = 60;
 
 /// What a session waits for.
 #[derive(Clone, Copy, Debug, PartialEq, Eq, Hash)]
@@ -24,10 +25,11 @@ pub enum Waits {
 ///
 /// It owns its record and the vectors of both steps. A refused call changes nothing.
 ///
-/// Step two drives a vector for each net that step one left unclear, and at soft level 1 vector 0 before them.
+/// Step two drives the walking vector of each net that step one left unclear, and before them the extra vector where
+/// the [`Network`] has one.
 ///
 /// ```
-/// use fontarelga::{Network, Session, Waits};
+/// use fontarelga::{Network, Session, Waits, AND};
 /// let mut session = Session::begin(Network::new(4))?;
 /// assert_eq!(session.to_drive(), [11, 5, 6, 8]);
 /// session.first_answers(&[15, 7, 7, 12])?;
@@ -40,6 +42,10 @@ pub enum Waits {
 /// session.begin_anew(Network::new(4).with_level(0))?;
 /// session.first_answers(&[11, 3, 3, 8])?;
 /// assert_eq!(session.to_drive(), [1, 2, 4]);
+///
+/// session.begin_anew(Network::new(4).with_gate(AND))?;
+/// session.first_answers(&[15, 4, 4, 12])?;
+/// assert_eq!(session.to_drive(), [14, 13, 11]);
 /// # Ok::<(), fontarelga::Refusal>(())
 /// ```
 #[derive(Clone, Debug, PartialEq, Eq)]
@@ -52,7 +58,7 @@ pub struct Session {
 impl Session {
     /// A session on this network that waits for first answers.
     ///
-    /// Refused: 5, 17.
+    /// Refused: 5, 17, 20.
     pub fn begin(network: impl Into<Network>) -> Result<Session, Refusal> {
         let mut session =
             Session { record: [0; RECORD_WORDS], first: [0; MOST_FIRST_VECTORS], second: [0; MOST_SECOND_VECTORS] };
@@ -62,7 +68,7 @@ impl Session {
 
     /// Begins anew, whatever the session waited for. What it was told before counts no more.
     ///
-    /// Refused: 5, 17.
+    /// Refused: 5, 17, 20.
     pub fn begin_anew(&mut self, network: impl Into<Network>) -> Result<(), Refusal> {
         Refusal::from_code(raw::begin(&mut self.record, network, &mut self.first))
     }
@@ -103,7 +109,7 @@ impl Session {
 
     /// The network.
     pub fn network(&self) -> Network {
-        Network::new(self.nets()).with_level(self.record[LEVEL])
+        Network::new(self.nets()).with_level(self.record[LEVEL]).with_gate(self.record[GATE])
     }
 
     /// The number of nets.

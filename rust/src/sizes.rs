@@ -6,7 +6,7 @@ pub const MOST_NETS: usize = 48;
 pub const MOST_VECTORS: usize = 64;
 /// The most vectors of a session's step one.
 pub const MOST_FIRST_VECTORS: usize = 8;
-/// The most vectors of a session's step two: vector 0, at soft level 1, and one a net.
+/// The most vectors of a session's step two: the extra vector, where there is one, and one a net.
 pub const MOST_SECOND_VECTORS: usize = MOST_NETS + 1;
 /// The most bytes of a job file.
 pub const MOST_FILE_BYTES: usize = 2048;
@@ -15,10 +15,10 @@ pub const MOST_FILE_BYTES: usize = 2048;
 pub const VERDICT_WORDS: usize = 3;
 /// The words of a finding: kind, reach, partners.
 pub const FINDING_WORDS: usize = 3;
-/// The words of a session record: step, nets, level, 8 first answers, 48 reaches, vectors spent.
-pub const RECORD_WORDS: usize = 60;
-/// The words of a job: nets, level, class, number of vectors, number of responses.
-pub const JOB_WORDS: usize = 5;
+/// The words of a session record: step, nets, level, gate, 8 first answers, 48 reaches, vectors spent.
+pub const RECORD_WORDS: usize = 61;
+/// The words of a job: nets, level, gate, class, number of vectors, number of responses.
+pub const JOB_WORDS: usize = 6;
 
 /// The stack of a thread that is enough for [`check`](crate::check) and [`diagnose`](crate::diagnose).
 pub const CHECK_STACK_BYTES: usize = 320 * 1024;

@@ -1,9 +1,18 @@
-//! Document 01's bench examples and document 02's partners and soft level 0, by the wrappers.
+//! Document 01's bench examples and document 02's partners, soft level 0 and gate AND, by the wrappers.
+
+mod support;
 
 use fontarelga::*;
+use support::networks::{each_combination, of_library};
 
 /// Four nets whose receivers float to 0.
 const PULL_DOWN: Network = Network::new(4).with_level(0);
+/// The same with gate AND, and the same whose receivers float to 1.
+const AND_PULL_DOWN: Network = PULL_DOWN.with_gate(AND);
+const AND_PULL_UP: Network = AND_PULL_DOWN.with_level(1);
+
+/// Source document 004, table II, the set for two shorts.
+const TABLE_TWO: [u64; 7] = [34, 9, 49, 6, 76, 86, 96];
 
 fn pair(a: u64, b: u64) -> Result<Verdict, Refusal> {
     Ok(Verdict::Pair { a, b })
@@ -29,14 +38,75 @@ fn checker_at_level_0() {
     assert_eq!(check(PULL_DOWN, 2, &[3, 5, 12, 10]), pair(6, 9));
 }
 
-/// Source document 004, table II, the set for two shorts. At class 3 nets 0, 1 and 6 together read all ones; the pair
-/// shown is another.
+#[test]
+fn checker_with_and() {
+    for network in [AND_PULL_DOWN, AND_PULL_UP] {
+        assert_eq!(check(network, 4, &[15, 14, 13, 11, 7]), Ok(Verdict::Pass));
+        assert_eq!(check(network, 4, &[15, 14, 13, 11]), pair(7, 15));
+        assert_eq!(check(network, 4, &[7, 15, 11, 13]), pair(14, 15));
+        assert_eq!(check(network, 3, &[14, 13, 11, 7]), Ok(Verdict::Pass));
+    }
+    assert_eq!(check(AND_PULL_DOWN, 4, &[14, 13, 11, 7]), pair(0, 15));
+    assert_eq!(check(AND_PULL_DOWN, 4, &[0, 1, 2, 4, 8]), pair(0, 15));
+    assert_eq!(check(AND_PULL_UP, 4, &[14, 13, 11, 7]), Ok(Verdict::Pass));
+    assert_eq!(check(AND_PULL_UP, 4, &[0, 1, 2, 4, 8]), pair(14, 15));
+}
+
+/// At class 3 nets 0, 1 and 6 together read all ones; the pair shown is another.
 #[test]
 fn table_two() {
-    let vectors = [34, 9, 49, 6, 76, 86, 96];
-    assert_eq!(check(7, 2, &vectors), Ok(Verdict::Pass));
-    assert_eq!(respond(7, 3, &vectors, &[0b100_0011, 0, 0, 0, 0, 0, 0]), Ok(vec![127; 7]));
-    assert_eq!(check(7, 3, &vectors), pair(7, 11));
+    assert_eq!(check(7, 2, &TABLE_TWO), Ok(Verdict::Pass));
+    assert_eq!(respond(7, 3, &TABLE_TWO, &[0b100_0011, 0, 0, 0, 0, 0, 0]), Ok(vec![127; 7]));
+    assert_eq!(check(7, 3, &TABLE_TWO), pair(7, 11));
+}
+
+/// With AND nets 0 and 1 read 0 on every vector, and so do nets 0 and 2: at level 0 as a floating receiver does.
+#[test]
+fn table_two_with_and() {
+    let pull_up = Network::new(7).with_gate(AND);
+    let pull_down = pull_up.with_level(0);
+    let verdicts = |network: Network| [1, 2, 3].map(|class| check(network, class, &TABLE_TWO));
+    assert_eq!(verdicts(pull_down), [Ok(Verdict::Pass), pair(0, 3), pair(0, 3)]);
+    assert_eq!(verdicts(pull_up), [Ok(Verdict::Pass), pair(3, 5), pair(3, 5)]);
+    assert_eq!(respond(pull_up, 2, &TABLE_TWO, &[3, 3, 0, 0, 0, 0, 0]), Ok(vec![124; 7]));
+    assert_eq!(respond(pull_up, 2, &TABLE_TWO, &[5, 0, 5, 0, 0, 0, 0]), Ok(vec![122; 7]));
+}
+
+/// 64 vectors, along which every driver drives the same: what a set reads and what a floating receiver reads are words
+/// of 64 ones or of 64 zeros. For each gate and level the pairs over all ones and over zeros, for each class below n.
+#[test]
+fn full_words_of_64_vectors() {
+    for (nets, all) in [(4, 15), (48, (1 << 48) - 1)] {
+        for network in each_combination(nets).map(of_library) {
+            let [over_ones, over_zeros] = [[all; 64], [0; 64]];
+            let (as_floating, as_another) = (pair(0, 1), pair(1, 2));
+            let expected = if network.level() == 1 { [as_floating, as_another] } else { [as_another, as_floating] };
+            for class in [1, 2, 3] {
+                assert_eq!([over_ones, over_zeros].map(|vectors| check(network, class, &vectors)), expected);
+            }
+        }
+    }
+}
+
+/// 64 vectors that pass for every class on 48 nets: the walking ones with the single 0, and all ones.
+#[test]
+fn walking_zeros_of_48_nets() {
+    let all = (1 << 48) - 1;
+    let vectors: Vec<u64> = (0..48).map(|i| all - (1 << i)).chain([all; 16]).collect();
+    let state: Vec<u64> = [6 << 40, 6 << 40, 0].into_iter().chain((3..48).map(|i| 1 << (i % 38))).collect();
+    for (level, floating) in [(0, 0), (1, 4)] {
+        let network = Network::new(48).with_level(level).with_gate(AND);
+        let responses = respond(network, 2, &vectors, &state).unwrap();
+        let [by_pairs, by_ones] = [all - 7, all - 4].map(|driven| driven + floating);
+        assert_eq!([41, 42, 63].map(|place| responses[place]), [by_pairs, by_pairs, by_ones]);
+        for class in [2, 3, 48] {
+            assert_eq!(check(network, class, &vectors), Ok(Verdict::Pass));
+            assert_eq!(diagnose(network, class, &vectors, &responses).as_ref(), Ok(&state));
+        }
+        let without_all_ones = if level == 1 { Ok(Verdict::Pass) } else { pair(0, all) };
+        assert_eq!(check(network, 48, &vectors[..48]), without_all_ones);
+        assert_eq!(check(network, 48, &vectors[1..]), pair(all - 1, all));
+    }
 }
 
 #[test]
@@ -55,11 +125,24 @@ fn reading_back_at_level_0() {
     assert_eq!(diagnose(PULL_DOWN, 4, &[1, 2, 4, 8], &[3, 1, 0, 8]), Err(Refusal(14)));
 }
 
-/// At both soft levels, which have no part in the findings.
+#[test]
+fn reading_back_with_and() {
+    let [pull_down, pull_up] = [0, 1].map(|level| Network::new(3).with_level(level).with_gate(AND));
+    let state = vec![6, 6, 0];
+    assert_eq!(respond(pull_down, 3, &[7, 6, 5, 3], &state), Ok(vec![3, 3, 0, 0]));
+    assert_eq!(diagnose(pull_down, 3, &[7, 6, 5, 3], &[3, 3, 0, 0]).as_ref(), Ok(&state));
+    assert_eq!(diagnose(pull_down, 3, &[7, 6, 5, 3], &[3, 3, 0, 1]), Err(Refusal(14)));
+    assert_eq!(diagnose(pull_down, 3, &[6, 5, 3], &[3, 0, 0]), Err(Refusal(13)));
+    assert_eq!(respond(pull_up, 3, &[6, 5, 3], &state), Ok(vec![7, 4, 4]));
+    assert_eq!(diagnose(pull_up, 3, &[6, 5, 3], &[7, 4, 4]), Ok(state));
+    assert_eq!(diagnose(pull_up, 3, &[6, 5, 3], &[7, 4, 5]), Err(Refusal(14)));
+}
+
+/// Of each gate and soft level, which have no part in the findings.
 fn assert_findings(state: &[u64], expected: &[(Kind, u64, u64)]) {
     let expected: Vec<_> = expected.iter().map(|&(kind, reach, partners)| Finding { kind, reach, partners }).collect();
-    for level in [0, 1] {
-        assert_eq!(findings(Network::new(state.len() as u64).with_level(level), state).as_ref(), Ok(&expected));
+    for network in each_combination(state.len() as u64).map(of_library) {
+        assert_eq!(findings(network, state).as_ref(), Ok(&expected));
     }
 }
 
@@ -93,15 +176,26 @@ fn session_of_four_nets() {
     assert_eq!((session.reaches(), session.spent()), (Some(&[3, 3, 0, 8][..]), Some(8)));
 }
 
+/// The session of the same board on another network: first answers, second vectors, second answers and count spent.
+fn assert_session(network: Network, [first, vectors, second]: [&[u64]; 3], spent: u64) {
+    let mut session = Session::begin(network).unwrap();
+    assert_eq!((session.waits_for(), session.to_drive()), (Waits::FirstAnswers, &[11, 5, 6, 8][..]));
+    session.first_answers(first).unwrap();
+    assert_eq!((session.waits_for(), session.to_drive()), (Waits::SecondAnswers, vectors));
+    session.second_answers(second).unwrap();
+    assert_eq!((session.network(), session.waits_for()), (network, Waits::Nothing));
+    assert_eq!((session.reaches(), session.spent()), (Some(&[3, 3, 0, 8][..]), Some(spent)));
+}
+
 #[test]
 fn session_of_four_nets_at_level_0() {
-    let mut session = Session::begin(PULL_DOWN).unwrap();
-    assert_eq!((session.waits_for(), session.to_drive()), (Waits::FirstAnswers, &[11, 5, 6, 8][..]));
-    session.first_answers(&[11, 3, 3, 8]).unwrap();
-    assert_eq!((session.waits_for(), session.to_drive()), (Waits::SecondAnswers, &[1, 2, 4][..]));
-    session.second_answers(&[3, 3, 0]).unwrap();
-    assert_eq!((session.network(), session.waits_for()), (PULL_DOWN, Waits::Nothing));
-    assert_eq!((session.reaches(), session.spent()), (Some(&[3, 3, 0, 8][..]), Some(7)));
+    assert_session(PULL_DOWN, [&[11, 3, 3, 8], &[1, 2, 4], &[3, 3, 0]], 7);
+}
+
+#[test]
+fn sessions_of_four_nets_with_and() {
+    assert_session(AND_PULL_DOWN, [&[11, 0, 0, 8], &[15, 14, 13, 11], &[11, 8, 8, 11]], 8);
+    assert_session(AND_PULL_UP, [&[15, 4, 4, 12], &[14, 13, 11], &[12, 12, 15]], 7);
 }
 
 #[test]
@@ -117,6 +211,14 @@ fn sessions_of_two_nets() {
     session.first_answers(&[0, 0]).unwrap();
     session.second_answers(&[0, 0]).unwrap();
     assert_eq!((session.reaches(), session.spent()), (Some(&[0, 0][..]), Some(4)));
+    session.begin_anew(Network::new(2).with_gate(AND)).unwrap();
+    session.first_answers(&[3, 3]).unwrap();
+    session.second_answers(&[3, 3]).unwrap();
+    assert_eq!((session.reaches(), session.spent()), (Some(&[0, 0][..]), Some(4)));
+    session.begin_anew(Network::new(2).with_level(0).with_gate(AND)).unwrap();
+    session.first_answers(&[0, 0]).unwrap();
+    session.second_answers(&[0, 0, 0]).unwrap();
+    assert_eq!((session.reaches(), session.spent()), (Some(&[0, 0][..]), Some(5)));
 }
 
 #[test]
@@ -127,6 +229,7 @@ fn a_refused_call_leaves_the_session() {
     assert_eq!(session.first_answers(&[0]), Err(Refusal(9)));
     assert_eq!(session.begin_anew(49), Err(Refusal(5)));
     assert_eq!(session.begin_anew(PULL_DOWN.with_level(2)), Err(Refusal(17)));
+    assert_eq!(session.begin_anew(PULL_DOWN.with_gate(2)), Err(Refusal(20)));
     assert_eq!(session, begun);
 }
 
@@ -141,10 +244,10 @@ fn refusals() {
     assert_eq!(findings(2, &[3, 1]), Err(Refusal(11)));
 }
 
-/// Every call that takes a network, with this level in it.
-fn calls_at(level: u64) -> [Result<(), Refusal>; 6] {
-    let (network, vectors, state) = (Network::new(2).with_level(level), vec![0, 1, 2], [1, 2]);
-    assert_eq!((network.nets(), network.level()), (2, level));
+/// Every call that takes a network, on two nets with this level and gate.
+fn calls_on(level: u64, gate: u64) -> [Result<(), Refusal>; 6] {
+    let (network, vectors, state) = (Network::new(2).with_level(level).with_gate(gate), vec![0, 1, 2, 3], [1, 2]);
+    assert_eq!((network.nets(), network.level(), network.gate()), (2, level, gate));
     let job = Job { network, class: 2, vectors: vectors.clone(), responses: vec![] };
     [
         check(network, 2, &vectors).map(drop),
@@ -156,29 +259,58 @@ fn calls_at(level: u64) -> [Result<(), Refusal>; 6] {
     ]
 }
 
+/// Level and gate, each in and out of its range; the level is tested first.
 #[test]
-fn levels() {
-    for (level, answer) in [(0, Ok(())), (1, Ok(())), (2, Err(Refusal(17))), (u64::MAX, Err(Refusal(17)))] {
-        assert_eq!(calls_at(level), [answer; 6], "level {level}");
+fn levels_and_gates() {
+    for level in [0, 1, 2, 256, u64::MAX] {
+        for gate in [OR, AND, 2, 256, u64::MAX] {
+            let answer = match (level, gate) {
+                (0 | 1, OR | AND) => Ok(()),
+                (0 | 1, _) => Err(Refusal(20)),
+                _ => Err(Refusal(17)),
+            };
+            assert_eq!(calls_on(level, gate), [answer; 6], "level {level}, gate {gate}");
+        }
     }
 }
 
-/// The job of the report in document 01 and one of soft level 0, through a file.
+/// Class before level, level before gate, gate before vectors and state.
+#[test]
+fn the_rows_around_the_gate() {
+    let bad_gate = PULL_DOWN.with_gate(2);
+    let bad_both = bad_gate.with_level(2);
+    assert_eq!(check(bad_both, 0, &[]), Err(Refusal(6)));
+    assert_eq!(check(bad_both, 4, &[]), Err(Refusal(17)));
+    assert_eq!(check(bad_gate, 4, &[]), Err(Refusal(20)));
+    assert_eq!(check(PULL_DOWN, 4, &[]), Err(Refusal(7)));
+    assert_eq!(findings(Network::new(1).with_gate(2), &[]), Err(Refusal(5)));
+    assert_eq!(findings(bad_gate, &[]), Err(Refusal(20)));
+    assert_eq!(Session::begin(Network::new(49).with_gate(2)), Err(Refusal(5)));
+}
+
+/// The job of the report in document 01, and one of each other gate and soft level, through a file.
 #[test]
 fn job_of_the_listing() {
-    for (network, responses) in [(Network::new(4), vec![4, 7, 7, 4, 12]), (PULL_DOWN, vec![0, 3, 3, 0, 8])] {
-        let job = Job { network, class: 4, vectors: vec![0, 1, 2, 4, 8], responses };
+    let jobs = [
+        (Network::new(4), [0, 1, 2, 4, 8], [4, 7, 7, 4, 12], [4, 4, 1, 0]),
+        (PULL_DOWN, [0, 1, 2, 4, 8], [0, 3, 3, 0, 8], [4, 4, 0, 0]),
+        (AND_PULL_DOWN, [15, 14, 13, 11, 7], [11, 8, 8, 11, 3], [4, 4, 0, 1]),
+        (AND_PULL_UP, [15, 14, 13, 11, 7], [15, 12, 12, 15, 7], [4, 4, 1, 1]),
+    ];
+    for (network, vectors, responses, nets) in jobs {
+        assert_eq!(diagnose(network, 4, &vectors, &responses), Ok(vec![3, 3, 0, 8]));
+        let job = Job { network, class: 4, vectors: vectors.to_vec(), responses: responses.to_vec() };
         let file = job.write().unwrap();
-        assert_eq!((&file[..5], &file[32..35]), (&b"BSJ2\x03"[..], &[4, 4, network.level() as u8][..]));
+        assert_eq!((&file[..5], &file[32..36], file.len()), (&b"BSJ3\x03"[..], &nets[..], 116));
         assert_eq!(Job::read(&file), Ok(job));
     }
 }
 
 #[test]
 fn every_refusal_has_words() {
-    let words: std::collections::HashSet<_> = (1..=14).chain([17]).map(|number| Refusal(number).words()).collect();
-    assert_eq!(words.len(), 15);
-    for number in [0, 15, 16, 18, 99, u64::MAX] {
+    let words: std::collections::HashSet<_> = (1..=14).chain([17, 20]).map(|number| Refusal(number).words()).collect();
+    assert_eq!(words.len(), 16);
+    for number in [0, 15, 16, 18, 19, 21, 99, u64::MAX] {
         assert_eq!(Refusal(number).words(), "no row of the table");
         assert!(!words.contains(Refusal(number).words()));
     }

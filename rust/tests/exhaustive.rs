@@ -1,4 +1,4 @@
-//! Two and three nets, at both soft levels: every test set of a few vectors, every class, every state and every
+//! Two and three nets, of each gate and soft level: every test set of a few vectors, every class, every state and every
 //! response.
 
 mod support;
@@ -9,7 +9,7 @@ use model::network::{all_lists, all_states, response};
 use model::{Network, Verdict};
 use std::collections::HashMap;
 use support::calls::*;
-use support::networks::at_each_level;
+use support::networks::each_combination;
 
 /// The states of a class by the response that they give to a set.
 type Responses = HashMap<Vec<u64>, Vec<Vec<u64>>>;
@@ -65,14 +65,14 @@ fn try_sets(net: Network, longest: usize) -> usize {
 
 #[test]
 fn every_set_of_up_to_4_vectors_on_2_nets() {
-    for net in at_each_level(2) {
+    for net in each_combination(2) {
         assert_eq!(try_sets(net, 4), 2 * (4 + 16 + 64 + 256));
     }
 }
 
 #[test]
 fn every_set_of_up_to_3_vectors_on_3_nets() {
-    for net in at_each_level(3) {
+    for net in each_combination(3) {
         assert_eq!(try_sets(net, 3), 3 * (8 + 64 + 512));
     }
 }
@@ -80,7 +80,7 @@ fn every_set_of_up_to_3_vectors_on_3_nets() {
 /// Every list of n reaches, states or not, to the findings and to the response.
 #[test]
 fn every_list_of_reaches_on_up_to_4_nets() {
-    for net in (2..=4).flat_map(at_each_level) {
+    for net in (2..=4).flat_map(each_combination) {
         for (i, list) in all_lists(1 << net.nets, net.nets as usize).iter().enumerate() {
             let records = net.nets as usize + i % 3;
             findings_gives(net, list, 3 * records + i % 2, &model::findings(net, list, records));

@@ -1,4 +1,5 @@
-//! Four nets, at both soft levels: seeded cases of every class, with responses of states, turned bits and any words.
+//! Four nets, of each gate and soft level: seeded cases of every class, with responses of states, turned bits and any
+//! words.
 
 mod support;
 
@@ -9,9 +10,9 @@ use model::{Network, Verdict};
 use support::boards::walking_set;
 use support::calls::*;
 use support::generator::Generator;
-use support::networks::at_each_level;
+use support::networks::each_combination;
 
-const CASES: usize = 20_000;
+const CASES: usize = 10_000;
 const N: u64 = 4;
 
 /// A test set: all that walk among others, some of those, or any words.
@@ -65,7 +66,7 @@ fn try_case(g: &mut Generator, net: Network, k: u64, class: &[Vec<u64>]) -> Resu
 fn seeded_cases() {
     let g = &mut Generator::new(4);
     let states: Vec<_> = (1..=N).map(|k| all_states(N, k)).collect();
-    for net in at_each_level(N) {
+    for net in each_combination(N) {
         let mut seen = [0; 3];
         for _ in 0..CASES {
             let k = 1 + g.below(4);

@@ -32,6 +32,11 @@ fn sizes() {
 }
 
 #[test]
+fn gates() {
+    assert_eq!([stated("GATE_OR"), stated("GATE_AND")], [OR, AND].map(|gate| gate as usize));
+}
+
+#[test]
 fn verdict() {
     let mut verdict = [0; VERDICT_WORDS];
     assert_eq!(raw::check(4, 4, &[1, 2, 4, 8], &mut verdict), 0);
@@ -52,15 +57,15 @@ fn session() {
     let (mut record, mut first, mut second) = ([9; RECORD_WORDS], [0; MOST_FIRST_VECTORS], [0; MOST_SECOND_VECTORS]);
     let step = |record: &[u64; RECORD_WORDS]| record[stated("SESSION_STEP")] as usize;
 
-    assert_eq!(raw::begin(&mut record, 4, &mut first), 0);
+    assert_eq!(raw::begin(&mut record, Network::new(4).with_level(0).with_gate(AND), &mut first), 0);
     assert_eq!(step(&record), stated("STEP_FIRST"));
-    assert_eq!((record[stated("SESSION_NETS")], record[stated("SESSION_LEVEL")]), (4, 1));
+    assert_eq!(["SESSION_NETS", "SESSION_LEVEL", "SESSION_GATE"].map(|name| record[stated(name)]), [4, 0, 1]);
 
-    assert_eq!(raw::first_answers(&mut record, &[15, 7, 7, 12], &mut second), 0);
+    assert_eq!(raw::first_answers(&mut record, &[11, 0, 0, 8], &mut second), 0);
     assert_eq!(step(&record), stated("STEP_SECOND"));
-    assert_eq!(record[stated("SESSION_FIRST_ANSWERS")..][..4], [15, 7, 7, 12]);
+    assert_eq!(record[stated("SESSION_FIRST_ANSWERS")..][..4], [11, 0, 0, 8]);
 
-    assert_eq!(raw::second_answers(&mut record, &[4, 7, 7, 4]), 0);
+    assert_eq!(raw::second_answers(&mut record, &[11, 8, 8, 11]), 0);
     assert_eq!(step(&record), stated("STEP_FINISHED"));
     assert_eq!(record[stated("SESSION_REACHES")..][..4], [3, 3, 0, 8]);
     assert_eq!(record[stated("SESSION_SPENT")], 8);
@@ -68,10 +73,11 @@ fn session() {
 
 #[test]
 fn job() {
-    let written = Job { network: Network::new(4), class: 3, vectors: vec![0, 1], responses: vec![] };
+    let network = Network::new(4).with_level(0).with_gate(AND);
+    let written = Job { network, class: 3, vectors: vec![0, 1], responses: vec![] };
     let (mut vectors, mut responses, mut job) = ([0; 2], [0; 0], [9; JOB_WORDS]);
     assert_eq!(raw::read_job(&written.write().unwrap(), &mut vectors, &mut responses, &mut job), 0);
     let word = |name: &str| job[stated(name)];
-    assert_eq!((word("JOB_NETS"), word("JOB_LEVEL"), word("JOB_CLASS")), (4, 1, 3));
-    assert_eq!((word("JOB_VECTORS"), word("JOB_RESPONSES")), (2, 0));
+    assert_eq!(["JOB_NETS", "JOB_LEVEL", "JOB_GATE", "JOB_CLASS"].map(word), [4, 0, 1, 3]);
+    assert_eq!(["JOB_VECTORS", "JOB_RESPONSES"].map(word), [2, 0]);
 }

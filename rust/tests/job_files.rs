@@ -3,11 +3,11 @@
 mod support;
 
 use model::jobfile::{bytes_of, laid_out};
-use model::{read_job, write_job, Job, Network};
+use model::{read_job, write_job, Job, Network, AND, OR};
 use support::boards::{low_bits, state};
 use support::calls::*;
 use support::generator::Generator;
-use support::networks::at_each_level;
+use support::networks::{each_combination, of_library, whole_walking_set};
 
 /// Reads with lists long enough for any job, and compares.
 fn read_agrees(file: &[u8]) -> Result<Job, u64> {
@@ -16,11 +16,12 @@ fn read_agrees(file: &[u8]) -> Result<Job, u64> {
     answer
 }
 
-fn small_files() -> [Vec<u8>; 3] {
+fn small_files() -> [Vec<u8>; 4] {
     [
-        bytes_of(Network { nets: 4, level: 1 }, 4, &[0, 1, 2, 4, 8], &[4, 7, 7, 4, 12]),
-        bytes_of(Network { nets: 2, level: 0 }, 1, &[1, 3], &[]),
-        bytes_of(Network { nets: 48, level: 0 }, 3, &[1 << 47], &[(1 << 48) - 1]),
+        bytes_of(Network { nets: 4, level: 1, gate: OR }, 4, &[0, 1, 2, 4, 8], &[4, 7, 7, 4, 12]),
+        bytes_of(Network { nets: 2, level: 0, gate: OR }, 1, &[1, 3], &[]),
+        bytes_of(Network { nets: 48, level: 0, gate: AND }, 3, &[1 << 47], &[(1 << 48) - 1]),
+        bytes_of(Network { nets: 3, level: 1, gate: AND }, 3, &[6, 5, 3], &[7, 4, 4]),
     ]
 }
 
@@ -32,7 +33,7 @@ fn random_job(g: &mut Generator) -> Job {
     let words = |g: &mut Generator| (0..count).map(|_| g.word() & low_bits(n)).collect::<Vec<u64>>();
     let vectors = words(g);
     let responses = if g.once_in(3) { vec![] } else { words(g) };
-    Job { network: *g.pick(&at_each_level(n)), k: *g.pick(&classes), vectors, responses }
+    Job { network: *g.pick(&each_combination(n)), k: *g.pick(&classes), vectors, responses }
 }
 
 #[test]
@@ -64,8 +65,9 @@ fn jobs_that_are_seldom_admitted() {
         let count = *g.pick(&[0, 1, 2, 3, 5, 64, 65]);
         let vectors: Vec<u64> = (0..count).map(|_| g.word() & bits).collect();
         let responses: Vec<u64> = (0..*g.pick(&[0, count, count, count + 1])).map(|_| g.word() & bits).collect();
-        let room = *g.pick(&[0, 20, 30, 100, 1058, 1059, 2048]);
-        let net = Network { nets: n, level: *g.pick(&[0, 0, 1, 1, 2, u64::MAX]) };
+        let room = *g.pick(&[0, 20, 30, 100, 1059, 1060, 2048]);
+        let zero_or_one = [0, 0, 0, 1, 1, 1, 2, u64::MAX];
+        let net = Network { nets: n, level: *g.pick(&zero_or_one), gate: *g.pick(&zero_or_one) };
         let answer = write_job(net, k, &vectors, &responses, room);
         refused += usize::from(answer.is_err());
         write_job_gives(net, k, &vectors, &responses, room, &answer);
@@ -121,7 +123,7 @@ fn cut_and_lengthened() {
 /// Bodies of every small length in a right layout, the nets body with the front of these bytes.
 #[test]
 fn bodies_of_every_length() {
-    for nets in (0..=5).map(|length| [2, 2, 1, 0, 0][..length].to_vec()) {
+    for nets in (0..=6).map(|length| [2, 2, 1, 0, 0, 0][..length].to_vec()) {
         for vectors in 0..20 {
             let _ = read_agrees(&laid_out(&[nets.clone(), vec![1; vectors]]));
             for responses in 0..20 {
@@ -129,46 +131,59 @@ fn bodies_of_every_length() {
             }
         }
     }
-    assert_eq!(read_agrees(&laid_out(&[vec![2, 2, 1], vec![0; 8], vec![]])), Err(9));
-    assert_eq!(read_agrees(&laid_out(&[vec![2, 2, 1]])), Err(2));
-    assert_eq!(read_agrees(&laid_out(&[vec![2, 2, 1], vec![0; 8], vec![0; 8], vec![]])), Err(2));
+    assert_eq!(read_agrees(&laid_out(&[vec![2, 2, 1, 0], vec![0; 8], vec![]])), Err(9));
+    assert_eq!(read_agrees(&laid_out(&[vec![2, 2, 1, 0]])), Err(2));
+    assert_eq!(read_agrees(&laid_out(&[vec![2, 2, 1, 0], vec![0; 8], vec![0; 8], vec![]])), Err(2));
 }
 
-/// The nets body: its length, then its level, and what comes before and after that.
+/// The network that a file with this nets body gives. Its one vector has this in every byte.
+fn network_read(nets: &[u8], byte: u8) -> Result<Network, u64> {
+    read_agrees(&laid_out(&[nets.to_vec(), vec![byte; 8]])).map(|job| job.network)
+}
+
+/// The nets body: its length, then its level and its gate, and what comes before and after those.
 #[test]
 fn nets_bodies() {
-    let read = |nets: &[u8], byte: u8| read_agrees(&laid_out(&[nets.to_vec(), vec![byte; 8]])).map(|job| job.network);
-    for level in 0..=255 {
-        let network = Network { nets: 2, level: level.into() };
-        assert_eq!(read(&[2, 2, level], 0), if level < 2 { Ok(network) } else { Err(17) });
+    for number in 0..=255 {
+        for other in [0, 1] {
+            let answer = |network: Network, row: u64| if number < 2 { Ok(network) } else { Err(row) };
+            let at_level = Network { nets: 2, level: number.into(), gate: other.into() };
+            let with_gate = Network { nets: 2, level: other.into(), gate: number.into() };
+            assert_eq!(network_read(&[2, 2, number, other], 0), answer(at_level, 17));
+            assert_eq!(network_read(&[2, 2, other, number], 0), answer(with_gate, 20));
+        }
     }
-    assert_eq!([read(&[2, 2], 0), read(&[2, 2, 1, 0], 0), read(&[], 0)], [Err(3); 3]);
-    assert_eq!([read(&[1, 2, 2], 0), read(&[2, 0, 2], 0), read(&[2, 2, 2], 255)], [5, 6, 17].map(Err));
+    let of_another_length: [&[u8]; 5] = [&[], &[2], &[2, 2], &[2, 2, 1], &[2, 2, 1, 0, 0]];
+    assert_eq!(of_another_length.map(|nets| network_read(nets, 0)), [Err(3); 5]);
+    assert_eq!([[1, 2, 1, 2], [2, 0, 1, 2], [2, 2, 2, 2]].map(|nets| network_read(&nets, 0)), [5, 6, 17].map(Err));
+    assert_eq!([network_read(&[2, 2, 2, 1], 255), network_read(&[2, 2, 1, 2], 255)], [17, 20].map(Err));
 }
 
-/// Files with the mark BSJ1, whose nets body had no level.
+/// Files with the mark BSJ1, whose nets body had no level, and with BSJ2, whose nets body had no gate.
 #[test]
-fn files_without_a_level() {
-    let without = laid_out(&[vec![2, 2], vec![0; 8]]);
-    assert_eq!(read_agrees(&without), Err(3));
-    assert_eq!(read_agrees(&[b"BSJ1", &without[4..]].concat()), Err(1));
-    assert_eq!(small_files().map(|file| read_agrees(&[b"BSJ1", &file[4..]].concat())), [1, 1, 1].map(Err));
+fn files_of_older_marks() {
+    for (mark, nets) in [(b"BSJ1", vec![2, 2]), (b"BSJ2", vec![2, 2, 1])] {
+        let older = laid_out(&[nets, vec![0; 8]]);
+        assert_eq!(read_agrees(&older), Err(3));
+        assert_eq!(read_agrees(&[mark, &older[4..]].concat()), Err(1));
+        assert_eq!(small_files().map(|file| read_agrees(&[mark, &file[4..]].concat())), [1; 4].map(Err));
+    }
 }
 
 #[test]
 fn files_of_about_2048_bytes() {
-    let with_total = |total: usize| laid_out(&[vec![2, 2, 1], vec![0; total - 26]]);
-    assert_eq!(read_agrees(&with_total(2042)), Err(7));
+    let with_total = |total: usize| laid_out(&[vec![2, 2, 1, 0], vec![0; total - 27]]);
+    assert_eq!(read_agrees(&with_total(2043)), Err(7));
     assert_eq!(read_agrees(&with_total(2048)), Err(3));
     assert_eq!(read_agrees(&with_total(2049)), Err(2));
     assert_eq!(read_agrees(&with_total(2050)), Err(2));
     // Whole words and 2,048 bytes: only a nets body of another length leaves that.
     assert_eq!(read_agrees(&laid_out(&[vec![2; 9], vec![0; 2016]])), Err(3));
-    assert_eq!(read_agrees(&[b"BSJ1", &with_total(2049)[4..]].concat()), Err(1));
+    assert_eq!(read_agrees(&[b"BSJ2", &with_total(2049)[4..]].concat()), Err(1));
     assert_eq!(read_agrees(&vec![b'B'; 5000]), Err(1));
-    for net in at_each_level(48) {
+    for net in each_combination(48) {
         let full = bytes_of(net, 48, &[1; 64], &[2; 64]);
-        assert_eq!((full.len(), read_agrees(&full).is_ok()), (1059, true));
+        assert_eq!((full.len(), read_agrees(&full).is_ok()), (1060, true));
     }
 }
 
@@ -221,9 +236,9 @@ fn any_bytes() {
     let g = &mut Generator::new(10);
     for _ in 0..20_000 {
         let length = g.below(80);
-        let mut file: Vec<u8> = (0..length).map(|_| *g.pick(&[0, 1, 2, 3, 8, 23, 26, 32, 35, 255])).collect();
+        let mut file: Vec<u8> = (0..length).map(|_| *g.pick(&[0, 1, 2, 3, 4, 8, 23, 27, 32, 36, 255])).collect();
         if g.below(10) > 0 {
-            file.splice(..file.len().min(4), *b"BSJ2");
+            file.splice(..file.len().min(4), *b"BSJ3");
         }
         let _ = read_agrees(&file);
     }
@@ -233,12 +248,11 @@ fn any_bytes() {
 #[test]
 fn a_board_goes_through_a_file() {
     let g = &mut Generator::new(11);
-    let vectors: Vec<u64> = std::iter::once(0).chain((0..48).map(|i| 1 << i)).collect();
     for case in 0..100 {
-        let network = fontarelga::Network::new(48).with_level(case % 2);
-        let board = state(g, 48, 48);
+        let net = each_combination(48)[case % 4];
+        let (network, vectors, board) = (of_library(net), whole_walking_set(net), state(g, 48, 48));
         let responses = fontarelga::respond(network, 48, &vectors, &board).unwrap();
-        let job = fontarelga::Job { network, class: 48, vectors: vectors.clone(), responses };
+        let job = fontarelga::Job { network, class: 48, vectors, responses };
         let read = fontarelga::Job::read(&job.write().unwrap()).unwrap();
         assert_eq!(read, job);
         assert_eq!(fontarelga::diagnose(read.network, 48, &read.vectors, &read.responses), Ok(board));

@@ -1,6 +1,6 @@
 //! Classes below n, where the library looks up what a set reads: readings that share a slot, pairs that come early and
-//! late, the most sets, and the numbers of nets at which the library changes the size of its lists. All at both soft
-//! levels and by the model, which compares all pairs.
+//! late, the most sets, and the numbers of nets at which the library changes the size of its lists. All of each gate
+//! and soft level and by the model, which compares all pairs.
 
 mod support;
 
@@ -10,7 +10,7 @@ use model::{Network, Verdict};
 use support::boards::*;
 use support::calls::*;
 use support::generator::Generator;
-use support::networks::at_each_level;
+use support::networks::each_combination;
 
 /// The remainder by this number gives the slot in which the library keeps a reading.
 const SLOT_PRIME: u64 = 32749;
@@ -58,9 +58,9 @@ fn try_set(g: &mut Generator, net: Network, k: u64, vectors: &[u64]) -> Verdict 
     shown
 }
 
-/// The verdicts on one set at levels 0 and 1, tried as above.
-fn try_levels(g: &mut Generator, n: u64, k: u64, vectors: &[u64]) -> [Verdict; 2] {
-    at_each_level(n).map(|net| try_set(g, net, k, vectors))
+/// The verdicts with OR and then with AND, at levels 0 and 1, tried as above. For AND the set has every bit turned.
+fn try_each(g: &mut Generator, n: u64, k: u64, vectors: &[u64]) -> [Verdict; 4] {
+    each_combination(n).map(|net| try_set(g, net, k, &for_gate(net, vectors)))
 }
 
 #[test]
@@ -72,11 +72,13 @@ fn all_readings_share_a_slot() {
         assert!(n >= 5, "{n} words of {bits} bits");
         let vectors = vectors_of(&words, 64);
         let sets = sets_of_class(n, 3);
-        for net in at_each_level(n) {
-            assert!(sets[1..].iter().all(|set| read_along(net, *set, &vectors) % SLOT_PRIME == 0));
+        for net in each_combination(n) {
+            let vectors = for_gate(net, &vectors);
+            let slot = |set: u64| read_along(net, set, &vectors) % SLOT_PRIME;
+            assert!(sets[1..].iter().all(|set| slot(*set) == slot(sets[1])));
         }
         for k in 1..=3 {
-            assert_eq!(try_levels(g, n, k, &vectors), [Verdict::Pass; 2]);
+            assert_eq!(try_each(g, n, k, &vectors), [Verdict::Pass; 4]);
         }
     }
 }
@@ -85,15 +87,15 @@ fn all_readings_share_a_slot() {
 #[test]
 fn pairs_in_a_shared_slot() {
     let g = &mut Generator::new(22);
-    for case in 0..60 {
+    for case in 0..45 {
         let mut words = sharing_words(g, 64, 6);
         let together = (0..1 + case % 3).map(|_| *g.pick(&words)).fold(0, |all, word| all | word);
         let place = g.below(words.len() + 1);
         words.insert(place, together);
         let (n, vectors) = (words.len() as u64, vectors_of(&words, 64));
-        assert!(!try_levels(g, n, 3, &vectors).contains(&Verdict::Pass), "{words:?}");
+        assert!(!try_each(g, n, 3, &vectors).contains(&Verdict::Pass), "{words:?}");
         for k in 1..=2 {
-            try_levels(g, n, k, &vectors);
+            try_each(g, n, k, &vectors);
         }
     }
 }
@@ -106,13 +108,14 @@ fn rows_and_columns() -> Vec<u64> {
     (0..42).map(|i| 1 << i).chain(rows).chain(columns).collect()
 }
 
-/// The pairs at levels 0 and 1, from numbers.
-fn pairs(at_0: (u64, u64), at_1: (u64, u64)) -> [Verdict; 2] {
-    [at_0, at_1].map(|(a, b)| Verdict::Pair(a, b))
+/// The pairs with OR at levels 0 and 1, and with AND at levels 1 and 0, from numbers.
+fn pairs(at_0: (u64, u64), at_1: (u64, u64)) -> [Verdict; 4] {
+    [at_0, at_1, at_1, at_0].map(|(a, b)| Verdict::Pair(a, b))
 }
 
-/// 48 nets, class 3: a pair with the first set, with the last, and between. A net that always drives 1 reads as one that
-/// floats at level 1, and at level 0 as itself with any other; with a net that never does it is the other way round.
+/// 48 nets, class 3: a pair with the first set, with the last, and between. With OR a net that always drives 1 reads as
+/// one that floats at level 1, and at level 0 as itself with any other; with a net that never does it is the other way
+/// round. With AND it is so of a net that always drives 0, and of one that never does, at the other level.
 #[test]
 fn early_and_late_pairs_of_48_nets() {
     let g = &mut Generator::new(23);
@@ -139,7 +142,7 @@ fn early_and_late_pairs_of_48_nets() {
         (vectors_of(&rows_and_columns(), 64), at_both(7 << 42, 7 << 45)),
     ];
     for (vectors, pair) in expected {
-        assert_eq!(try_levels(g, 48, 3, &vectors), pair);
+        assert_eq!(try_each(g, 48, 3, &vectors), pair);
     }
 }
 
@@ -150,7 +153,7 @@ fn the_most_sets_pass() {
     for (n, k, sets) in [(48, 3, 18_473), (48, 2, 1_177), (20, 3, 1_351), (19, 3, 1_160)] {
         assert_eq!(sets_of_class(n, k).len(), sets);
         let vectors = vectors_of(&words_apart(g, n), 64);
-        assert_eq!(try_levels(g, n, k, &vectors), [Verdict::Pass; 2]);
+        assert_eq!(try_each(g, n, k, &vectors), [Verdict::Pass; 4]);
     }
 }
 
@@ -158,17 +161,20 @@ fn the_most_sets_pass() {
 #[test]
 fn every_number_of_nets() {
     let g = &mut Generator::new(25);
-    let (mut passed, mut differing) = ([0; 2], 0);
-    for case in 0..1400 {
+    let (mut passed, mut differing) = ([0; 4], 0);
+    for case in 0..1000 {
         let (n, k) = (2 + case % 23, 1 + case / 23 % 3);
         if k < n {
             let (length, times) = (1 + g.below(64), 2 + g.below(6));
             let vectors = sparse_set(g, n, length, times);
-            let shown = try_levels(g, n, k, &vectors);
+            let shown = try_each(g, n, k, &vectors);
             passed.iter_mut().zip(shown).for_each(|(count, shown)| *count += u32::from(shown == Verdict::Pass));
             differing += u32::from(shown[0] != shown[1]);
+            assert_eq!([shown[2], shown[3]], [shown[1], shown[0]], "a turned set tells with AND what it told with OR");
         }
     }
-    println!("random sets that pass at levels 0 and 1: {passed:?}; on which the verdicts differ: {differing}");
-    assert!(passed.iter().all(|count| (200..1200).contains(count)) && differing > 50);
+    println!(
+        "random sets that pass with OR and AND at levels 0 and 1: {passed:?}; on which levels differ: {differing}"
+    );
+    assert!(passed.iter().all(|count| (140..860).contains(count)) && differing > 35);
 }

@@ -1,8 +1,8 @@
 //! The table "Where a call is turned away": every row of every call, and every two rows of a call at once.
 //!
-//! For each call there is an input of each soft level that is accepted, and for each row some ways to make it hold.
-//! Every way is tried alone, and every two together. The model says which rows then hold; the library must return the
-//! first of them, and leave all lists as they were.
+//! For each call there is an input of each gate and soft level that is accepted, and for each row some ways to make it
+//! hold. Every way is tried alone, and every two together. The model says which rows then hold; the library must return
+//! the first of them, and leave all lists as they were.
 
 mod support;
 
@@ -11,10 +11,10 @@ use model::diagnosis::{rows_of_diagnose, rows_of_findings};
 use model::jobfile::{laid_out, reader_rows_holding, rows_of_write_job};
 use model::responding::{respond, rows_of_respond};
 use model::session::{rows_of_begin, rows_of_first_answers, rows_of_second_answers};
-use model::{check, diagnose, findings, read_job, write_job, Network, Record};
+use model::{check, diagnose, findings, read_job, write_job, Network, Record, AND, OR};
 use std::collections::BTreeSet;
 use support::calls::*;
-use support::networks::at_each_level;
+use support::networks::each_combination;
 use support::session::{session_call_gives, Call};
 
 const HIGH: u64 = 1 << 63;
@@ -22,10 +22,10 @@ const HIGH: u64 = 1 << 63;
 /// A way to make a row hold.
 type Way<I> = (u64, fn(&mut I));
 
-/// A call's table: its rows in order, accepted inputs, one a soft level, and ways to make each row hold.
+/// A call's table: its rows in order, accepted inputs, one a gate and soft level, and ways to make each row hold.
 struct Table<I> {
     rows: &'static [u64],
-    accepted: [I; 2],
+    accepted: [I; 4],
     ways: Vec<Way<I>>,
 }
 
@@ -42,7 +42,8 @@ impl<I: Clone> Table<I> {
             self.try_alone(accepted, tried);
             self.try_together(accepted, tried);
         }
-        println!("rows {:?}: {} inputs", self.rows, 2 * (1 + self.ways.len() + self.ways.len().pow(2)));
+        let inputs = self.accepted.len() * (1 + self.ways.len() + self.ways.len().pow(2));
+        println!("rows {:?}: {inputs} inputs", self.rows);
     }
 
     /// Every way alone makes its row hold.
@@ -102,26 +103,25 @@ struct Set {
 }
 
 /// Three nets, class 3, nets 0 and 1 tied and net 2 floating, with this much room.
-fn accepted_sets(room: usize) -> [Set; 2] {
-    at_each_level(3).map(|net| Set {
-        net,
-        k: 3,
-        vectors: vec![0, 1, 2, 4],
-        responses: tied_and_floating(net.level),
-        state: vec![3, 3, 0],
-        room,
+fn accepted_sets(room: usize) -> [Set; 4] {
+    each_combination(3).map(|net| {
+        let (vectors, responses) = tied_and_floating(net);
+        Set { net, k: 3, vectors, responses, state: vec![3, 3, 0], room }
     })
 }
 
-/// What they answer to vectors 0 1 2 4.
-fn tied_and_floating(level: u64) -> Vec<u64> {
-    match level {
-        0 => vec![0, 3, 3, 0],
-        _ => vec![4, 7, 7, 4],
-    }
+/// The gate's extra vector and walking vectors, and what they answer to them.
+fn tied_and_floating(net: Network) -> (Vec<u64>, Vec<u64>) {
+    let (vectors, responses) = match (net.gate, net.level) {
+        (OR, 0) => ([0, 1, 2, 4], [0, 3, 3, 0]),
+        (OR, _) => ([0, 1, 2, 4], [4, 7, 7, 4]),
+        (_, 0) => ([7, 6, 5, 3], [3, 0, 0, 3]),
+        _ => ([7, 6, 5, 3], [7, 4, 4, 7]),
+    };
+    (vectors.to_vec(), responses.to_vec())
 }
 
-/// Ways for rows 5, 6, 17, 7 and 8.
+/// Ways for rows 5, 6, 17, 20, 7 and 8.
 fn set_ways() -> Vec<Way<Set>> {
     vec![
         (5, |i| i.net.nets = 0),
@@ -137,6 +137,9 @@ fn set_ways() -> Vec<Way<Set>> {
         (6, |i| (i.net.nets, i.k) = (5, 4)),
         (17, |i| i.net.level = 2),
         (17, |i| i.net.level = u64::MAX),
+        (20, |i| i.net.gate = 2),
+        (20, |i| i.net.gate = 256),
+        (20, |i| i.net.gate = u64::MAX),
         (7, |i| (i.vectors, i.responses) = (vec![], vec![])),
         (7, |i| {
             i.vectors.resize(65, 0);
@@ -172,7 +175,7 @@ fn state_ways() -> Vec<Way<Set>> {
 
 #[test]
 fn checker() {
-    let table = Table { rows: &[5, 6, 17, 7, 8], accepted: accepted_sets(0), ways: set_ways() };
+    let table = Table { rows: &[5, 6, 17, 20, 7, 8], accepted: accepted_sets(0), ways: set_ways() };
     table.try_all(
         |i| rows_of_check(i.net, i.k, &i.vectors).holding(),
         |i, first| check_gives(i.net, i.k, &i.vectors, &by_rows(check(i.net, i.k, &i.vectors), first)),
@@ -184,7 +187,7 @@ fn response_from_a_state() {
     let more_drivers: Way<Set> = (11, |i| (i.k, i.state) = (1, vec![3, 3, 0]));
     let room: Vec<Way<Set>> = vec![(12, |i| i.room = 3), (12, |i| i.room = 0)];
     let table = Table {
-        rows: &[5, 6, 17, 7, 8, 11, 12],
+        rows: &[5, 6, 17, 20, 7, 8, 11, 12],
         accepted: accepted_sets(4),
         ways: [set_ways(), state_ways(), vec![more_drivers], room].concat(),
     };
@@ -202,19 +205,26 @@ fn diagnosis() {
     let own: Vec<Way<Set>> = vec![
         (12, |i| i.room = 2),
         (12, |i| i.room = 0),
-        // Without a walking vector, and at level 1 without vector 0.
-        (13, |i| i.vectors = vec![0, 1, 2, 2]),
-        (13, |i| i.vectors = if i.net.level == 1 { vec![1, 1, 2, 4] } else { vec![1, 1, 4, 4] }),
+        // Without a walking vector, and without the extra vector or, where there is none, without another walking one.
+        (13, |i| i.vectors = if i.net.gate == OR { vec![0, 1, 2, 2] } else { vec![7, 6, 5, 5] }),
+        (13, |i| {
+            i.vectors = match (i.net.gate, i.net.level) {
+                (OR, 1) => vec![1, 1, 2, 4],
+                (OR, _) => vec![1, 1, 4, 4],
+                (_, 0) => vec![6, 6, 5, 3],
+                _ => vec![6, 6, 3, 3],
+            }
+        }),
         (13, |i| {
             i.k = 2;
             i.vectors.fill(0);
         }),
-        // Reaches that meet and differ, and a receiver that floats, but for what it reads on vector 0.
-        (14, |i| *i.responses.get_mut(1).unwrap_or(&mut 0) &= !2),
+        // Reaches that meet and differ, and a receiver that floats, but for what it reads on the first vector.
+        (14, |i| *i.responses.get_mut(1).unwrap_or(&mut 0) ^= 2),
         (14, |i| *i.responses.get_mut(0).unwrap_or(&mut 0) ^= 4),
     ];
     let table = Table {
-        rows: &[5, 6, 17, 7, 8, 9, 10, 12, 13, 14],
+        rows: &[5, 6, 17, 20, 7, 8, 9, 10, 12, 13, 14],
         accepted: accepted_sets(4),
         ways: [set_ways(), response_ways(), own].concat(),
     };
@@ -231,17 +241,20 @@ fn diagnosis() {
 #[test]
 fn findings_of_a_state() {
     let mut ways = state_ways();
-    ways.extend::<[Way<Set>; 8]>([
+    ways.extend::<[Way<Set>; 11]>([
         (5, |i| i.net.nets = 1),
         (5, |i| i.net.nets = 49),
         (5, |i| i.net.nets = u64::MAX),
         (17, |i| i.net.level = 2),
         (17, |i| i.net.level = u64::MAX),
+        (20, |i| i.net.gate = 2),
+        (20, |i| i.net.gate = 256),
+        (20, |i| i.net.gate = u64::MAX),
         (12, |i| i.room = 8),
         (12, |i| i.room = 1),
         (12, |i| i.room = 0),
     ]);
-    let table = Table { rows: &[5, 17, 11, 12], accepted: accepted_sets(10), ways };
+    let table = Table { rows: &[5, 17, 20, 11, 12], accepted: accepted_sets(10), ways };
     table.try_all(
         |i| rows_of_findings(i.net, &i.state, i.room / 3).holding(),
         |i, first| {
@@ -251,13 +264,13 @@ fn findings_of_a_state() {
     );
 }
 
-/// Room of the writer's file is in bytes; the accepted job needs 99 of them.
+/// Room of the writer's file is in bytes; the accepted job needs 100 of them.
 #[test]
 fn job_writer() {
-    let room: Vec<Way<Set>> = vec![(12, |i| i.room = 98), (12, |i| i.room = 0)];
+    let room: Vec<Way<Set>> = vec![(12, |i| i.room = 99), (12, |i| i.room = 0)];
     let table = Table {
-        rows: &[5, 6, 17, 7, 8, 9, 10, 12],
-        accepted: accepted_sets(99),
+        rows: &[5, 6, 17, 20, 7, 8, 9, 10, 12],
+        accepted: accepted_sets(100),
         ways: [set_ways(), response_ways(), room].concat(),
     };
     table.try_all(
@@ -298,33 +311,44 @@ fn words(list: &[u64]) -> Vec<u8> {
     list.iter().flat_map(|word| word.to_le_bytes()).collect()
 }
 
-fn accepted_parts() -> [Parts; 2] {
-    [0, 1].map(|level| Parts {
-        mark: b"BSJ2".to_vec(),
-        nets: vec![3, 3, level],
-        vectors: words(&[0, 1, 2, 4]),
-        responses: words(&tied_and_floating(level.into())),
-        count: None,
-        rest: vec![],
-        rooms: (4, 4),
+fn accepted_parts() -> [Parts; 4] {
+    each_combination(3).map(|net| {
+        let (vectors, responses) = tied_and_floating(net);
+        Parts {
+            mark: b"BSJ3".to_vec(),
+            nets: vec![3, 3, net.level as u8, net.gate as u8],
+            vectors: words(&vectors),
+            responses: words(&responses),
+            count: None,
+            rest: vec![],
+            rooms: (4, 4),
+        }
     })
 }
 
-/// Ways to break a job file, each with the row that it makes hold.
-fn reader_ways() -> Vec<Way<Parts>> {
+/// Ways for rows 1, 2 and 3.
+fn layout_ways() -> Vec<Way<Parts>> {
     vec![
         (1, |i| i.mark = b"BSJ1".to_vec()),
-        (1, |i| i.mark = b"bSJ2".to_vec()),
+        (1, |i| i.mark = b"BSJ2".to_vec()),
+        (1, |i| i.mark = b"bSJ3".to_vec()),
         (2, |i| i.count = Some(2)),
         (2, |i| i.count = Some(4)),
         (2, |i| i.rest.push(0)),
         // Right layout, but over 2,048 bytes: rows on what the file says can hold too.
         (2, |i| i.responses.extend([0; 2048])),
         (3, |i| i.nets.push(0)),
+        (3, |i| i.nets.truncate(3)),
         (3, |i| i.nets.truncate(2)),
         (3, |i| i.nets.truncate(1)),
         (3, |i| i.vectors.push(0)),
         (3, |i| i.responses.push(0)),
+    ]
+}
+
+/// Ways for the rows on what a job file says, and on the room of the lists.
+fn content_ways() -> Vec<Way<Parts>> {
+    vec![
         (5, |i| i.nets[0] = 0),
         (5, |i| i.nets[0] = 1),
         (5, |i| i.nets[0] = 49),
@@ -333,6 +357,8 @@ fn reader_ways() -> Vec<Way<Parts>> {
         (6, |i| *i.nets.get_mut(1).unwrap_or(&mut 0) = 4),
         (17, |i| *i.nets.get_mut(2).unwrap_or(&mut 0) = 2),
         (17, |i| *i.nets.get_mut(2).unwrap_or(&mut 0) = 255),
+        (20, |i| *i.nets.get_mut(3).unwrap_or(&mut 0) = 2),
+        (20, |i| *i.nets.get_mut(3).unwrap_or(&mut 0) = 255),
         (7, |i| i.vectors.clear()),
         (7, |i| i.vectors.resize(65 * 8, 0)),
         (8, |i| *i.vectors.get_mut(0).unwrap_or(&mut 0) |= 8),
@@ -350,7 +376,11 @@ fn reader_ways() -> Vec<Way<Parts>> {
 
 #[test]
 fn job_reader() {
-    let table = Table { rows: &[1, 2, 3, 5, 6, 17, 7, 8, 9, 10, 12], accepted: accepted_parts(), ways: reader_ways() };
+    let table = Table {
+        rows: &[1, 2, 3, 5, 6, 17, 20, 7, 8, 9, 10, 12],
+        accepted: accepted_parts(),
+        ways: [layout_ways(), content_ways()].concat(),
+    };
     table.try_all(
         |i| reader_rows_holding(&i.file(), i.rooms.0, i.rooms.1),
         |i, first| {
@@ -387,14 +417,17 @@ fn begin() {
         (5, |i| i.net.nets = u64::MAX),
         (17, |i| i.net.level = 2),
         (17, |i| i.net.level = u64::MAX),
+        (20, |i| i.net.gate = 2),
+        (20, |i| i.net.gate = 256),
+        (20, |i| i.net.gate = u64::MAX),
         (12, |i| i.room = 3),
         (12, |i| i.room = 0),
     ];
-    let accepted = at_each_level(4).map(|net| {
+    let accepted = each_combination(4).map(|net| {
         let junk = Record { spent: 77, ..begun(net) };
         Step { record: junk, net, answers: vec![], room: 4 }
     });
-    let table = Table { rows: &[5, 17, 12], accepted, ways };
+    let table = Table { rows: &[5, 17, 20, 12], accepted, ways };
     table.try_all(
         |i| rows_of_begin(i.net, i.room).holding(),
         |i, first| make(i, Call::Begin { net: i.net, room: i.room }, first),
@@ -402,14 +435,16 @@ fn begin() {
 }
 
 /// Four nets: 0 and 1 tied, 2 floating, 3 sound. What they answer to step one and to step two.
-fn answers(level: u64) -> [Vec<u64>; 2] {
-    match level {
-        0 => [vec![11, 3, 3, 8], vec![3, 3, 0]],
-        _ => [vec![15, 7, 7, 12], vec![4, 7, 7, 4]],
+fn answers(net: Network) -> [Vec<u64>; 2] {
+    match (net.gate, net.level) {
+        (OR, 0) => [vec![11, 3, 3, 8], vec![3, 3, 0]],
+        (OR, _) => [vec![15, 7, 7, 12], vec![4, 7, 7, 4]],
+        (_, 0) => [vec![11, 0, 0, 8], vec![11, 8, 8, 11]],
+        _ => [vec![15, 4, 4, 12], vec![12, 12, 15]],
     }
 }
 
-/// Ways for row 4: each unused field, the net count and the level.
+/// Ways for row 4: each unused field, the net count, the level and the gate.
 fn record_ways() -> Vec<Way<Step>> {
     vec![
         (4, |i| i.record.step = 0),
@@ -423,6 +458,9 @@ fn record_ways() -> Vec<Way<Step>> {
         (4, |i| i.record.network.nets = 49),
         (4, |i| i.record.network.level = 2),
         (4, |i| i.record.network.level = u64::MAX),
+        (4, |i| i.record.network.gate = 2),
+        (4, |i| i.record.network.gate = 256),
+        (4, |i| i.record.network.gate = u64::MAX),
     ]
 }
 
@@ -440,8 +478,8 @@ fn answer_ways() -> Vec<Way<Step>> {
 #[test]
 fn first_answers() {
     let room: Vec<Way<Step>> = vec![(12, |i| i.room = i.room.saturating_sub(1)), (12, |i| i.room = 0)];
-    let accepted = at_each_level(4).map(|net| {
-        let [first, second] = answers(net.level);
+    let accepted = each_combination(4).map(|net| {
+        let [first, second] = answers(net);
         Step { record: begun(net), net, answers: first, room: second.len() }
     });
     let table = Table { rows: &[4, 9, 10, 12], accepted, ways: [record_ways(), answer_ways(), room].concat() };
@@ -454,13 +492,14 @@ fn first_answers() {
 #[test]
 fn second_answers() {
     let unfit: Vec<Way<Step>> = vec![
-        // A clear net that reads 1; reaches that meet and differ; first answers that no state gives.
-        (14, |i| *i.answers.get_mut(1).unwrap_or(&mut 0) |= 8),
-        (14, |i| *i.answers.get_mut(1).unwrap_or(&mut 0) &= !2),
+        // A clear net that another's driver seems to reach; reaches that meet and differ; first answers that no state
+        // gives.
+        (14, |i| *i.answers.get_mut(1).unwrap_or(&mut 0) ^= 8),
+        (14, |i| *i.answers.get_mut(1).unwrap_or(&mut 0) ^= 2),
         (14, |i| i.record.answers[3] = 4),
     ];
-    let accepted = at_each_level(4).map(|net| {
-        let [first, second] = answers(net.level);
+    let accepted = each_combination(4).map(|net| {
+        let [first, second] = answers(net);
         let record = model::first_answers(&begun(net), &first, 4).unwrap().0;
         Step { record, net, answers: second, room: 0 }
     });
@@ -469,4 +508,49 @@ fn second_answers() {
         |i| rows_of_second_answers(&i.record, &i.answers).holding(),
         |i, first| make(i, Call::Second { answers: i.answers.clone() }, first),
     );
+}
+
+/// The record with the other gate.
+fn with_other_gate(record: &Record) -> Record {
+    let network = Network { gate: 1 - record.network.gate, ..record.network };
+    Record { network, ..record.clone() }
+}
+
+/// Makes the call on the record, whose answer must be this, and gives the record that it leaves.
+fn made(record: &Record, call: Call, expected: Result<&[u64], u64>) -> Record {
+    let answer = call.answer(record);
+    session_call_gives(&record.words(), &call, &answer);
+    assert_eq!(answer.as_ref().map(|(_, written)| &written[..]).map_err(|number| *number), expected);
+    answer.map_or(record.clone(), |(left, _)| left)
+}
+
+/// A record whose gate is changed is another session's: it is accepted, and goes on with the gate that it now has.
+#[test]
+fn records_with_the_other_gate() {
+    let begun_with_and = begun(Network { nets: 4, level: 1, gate: AND });
+    let begun_with_or = begun(Network { nets: 4, level: 1, gate: OR });
+    assert_eq!(with_other_gate(&begun_with_and), begun_with_or);
+    let floating = Call::First { answers: vec![15; 4], room: 5 };
+    let with_and = made(&begun_with_and, floating.clone(), Ok(&[14, 13, 11, 7]));
+    let with_or = made(&begun_with_or, floating, Ok(&[0, 1, 2, 4, 8]));
+    assert_eq!(with_other_gate(&with_and), with_or);
+    for (record, count) in [(with_and, 4), (with_or, 5)] {
+        for wrong in [count - 1, count + 1] {
+            made(&record, Call::Second { answers: vec![15; wrong] }, Err(9));
+        }
+        let finished = made(&record, Call::Second { answers: vec![15; count] }, Ok(&[]));
+        assert_eq!((finished.reaches, finished.spent), ([0; 48], 4 + count as u64));
+    }
+}
+
+/// First answers of tied nets with AND, which with OR no state gives: the changed record waits, and no answers fit it.
+#[test]
+fn first_answers_of_the_other_gate() {
+    let begun = begun(Network { nets: 4, level: 0, gate: AND });
+    let [first, second] = answers(begun.network);
+    let waiting = made(&begun, Call::First { answers: first, room: 4 }, Ok(&[15, 14, 13, 11]));
+    made(&waiting, Call::Second { answers: second.clone() }, Ok(&[]));
+    let changed = with_other_gate(&waiting);
+    made(&changed, Call::Second { answers: second }, Err(9));
+    made(&changed, Call::Second { answers: vec![3, 3, 0] }, Err(14));
 }

@@ -1,16 +1,16 @@
-//! Sessions at both soft levels: every list of a few calls on two nets, every state of up to four, damaged records and
-//! damaged answers.
+//! Sessions of each gate and soft level: every list of a few calls on two nets, every state of up to four, damaged
+//! records and damaged answers.
 
 mod support;
 
-use model::network::{all_lists, all_states, response};
+use model::network::{all_lists, all_states, extra_vector, response, walking_vector};
 use model::session::{finished, left_waiting, FINISHED, FIRST, SECOND, WORDS};
-use model::{Network, Record};
+use model::{Network, Record, AND, OR};
 use std::collections::HashMap;
 use std::rc::Rc;
 use support::boards;
 use support::generator::Generator;
-use support::networks::at_each_level;
+use support::networks::each_combination;
 use support::session::*;
 
 /// The most words that a call of the walk is lent.
@@ -78,16 +78,37 @@ impl Walk {
     }
 }
 
-/// Begins: accepted with room to spare, at the level and at the other one, and refused by 12, 5 and 17.
-fn begins(level: u64) -> Vec<Call> {
-    let calls = [(2, level, 3), (2, 1 - level, 2), (2, level, 1), (1, level, 3), (49, level, 6), (2, 2, 3)];
-    calls.map(|(nets, level, room)| Call::Begin { net: Network { nets, level }, room }).to_vec()
+/// The network at the other soft level, and with the other gate.
+fn others(net: Network) -> [Network; 2] {
+    [Network { level: 1 - net.level, ..net }, Network { gate: 1 - net.gate, ..net }]
+}
+
+/// Begins: accepted with room to spare, and exact at the other level and with the other gate, and refused by 12, 5, 17
+/// and 20.
+fn begins(net: Network) -> Vec<Call> {
+    let [other_level, other_gate] = others(net);
+    let calls = [
+        (net, 3),
+        (other_level, 2),
+        (other_gate, 2),
+        (net, 1),
+        (Network { nets: 1, ..net }, 3),
+        (Network { nets: 49, ..net }, 6),
+        (Network { level: 2, ..net }, 3),
+        (Network { gate: 2, ..net }, 3),
+    ];
+    calls.map(|(net, room)| Call::Begin { net, room }).to_vec()
+}
+
+/// The most vectors of step two on two nets.
+fn most_seconds(net: Network) -> usize {
+    2 + extra_vector(net).iter().count()
 }
 
 /// First answers: every two words below 4, right for some state or not; room exact, short and not needed; too few, too
 /// many, high bits.
-fn firsts(level: u64) -> Vec<Call> {
-    let most = 2 + level as usize;
+fn firsts(net: Network) -> Vec<Call> {
+    let most = most_seconds(net);
     let mut calls: Vec<Call> = all_lists(4, 2).into_iter().map(|answers| Call::First { answers, room: 4 }).collect();
     let others: [(&[u64], usize); 8] = [
         (&[1, 2], 0),
@@ -103,13 +124,14 @@ fn firsts(level: u64) -> Vec<Call> {
     calls
 }
 
-/// Second answers that some state gives after some first answers. Vector 0 is asked at level 1 only.
-fn right_seconds(level: u64) -> Vec<Vec<u64>> {
+/// Second answers that some state gives after some first answers, which leave both nets unclear or one.
+fn right_seconds(net: Network) -> Vec<Vec<u64>> {
     let mut lists: Vec<Vec<u64>> = Vec::new();
     for state in all_states(2, 2) {
-        for asked in [[0, 1, 2].as_slice(), &[0, 1], &[0, 2]] {
-            let second = if level == 1 { asked } else { &asked[1..] };
-            lists.push(response(Network { nets: 2, level }, second, &state));
+        for unclear in [[0, 1].as_slice(), &[0], &[1]] {
+            let walking = unclear.iter().map(|i| walking_vector(net, *i));
+            let second: Vec<u64> = extra_vector(net).into_iter().chain(walking).collect();
+            lists.push(response(net, &second, &state));
         }
     }
     lists.sort();
@@ -118,37 +140,48 @@ fn right_seconds(level: u64) -> Vec<Vec<u64>> {
 }
 
 /// Second answers that are refused after any first ones: none, too few or given by no state, too many, high bits.
-fn odd_seconds() -> Vec<Vec<u64>> {
-    vec![vec![], vec![3], vec![0, 1, 2, 0], vec![4, 1, 2], vec![0, 1 << 63], vec![4]]
+fn odd_seconds(net: Network) -> Vec<Vec<u64>> {
+    // A clear net reads 0 with OR on the other's walking vector, and 1 with AND.
+    let given_by_no_state = if net.gate == AND { 0 } else { 3 };
+    vec![vec![], vec![given_by_no_state], vec![0, 1, 2, 0], vec![4, 1, 2], vec![0, 1 << 63], vec![4]]
 }
 
 fn seconds(lists: Vec<Vec<u64>>) -> Vec<Call> {
     lists.into_iter().map(|answers| Call::Second { answers }).collect()
 }
 
-/// Records to start from: clean, junk, left by calls, and nearly so, in the level too.
-fn starting_records(level: u64) -> Vec<[u64; WORDS]> {
+/// The records that a session on two tied nets leaves: begun, waiting for second answers, finished.
+fn records_of_tied_nets(net: Network) -> [Record; 3] {
+    let (begun, first) = model::begin(net, 2).unwrap();
+    let (waiting, second) = model::first_answers(&begun, &response(net, &first, &[3, 3]), 3).unwrap();
+    let finished = model::second_answers(&waiting, &response(net, &second, &[3, 3])).unwrap();
+    [begun, waiting, finished]
+}
+
+/// Records to start from: clean, junk, left by calls, and nearly so, in the level and the gate too.
+fn starting_records(net: Network) -> Vec<[u64; WORDS]> {
     let mut g = Generator::new(59);
-    let begun = model::begin(Network { nets: 2, level }, 2).unwrap().0;
-    let (waiting, second) = model::first_answers(&begun, &[3, 3], 3).unwrap();
-    let tied = model::second_answers(&waiting, &response(begun.network, &second, &[3, 3])).unwrap();
-    let with_level = |level: u64, record: &Record| Record { network: Network { nets: 2, level }, ..record.clone() };
+    let [begun, waiting, finished] = records_of_tied_nets(net);
+    let [other_level, other_gate] = others(net);
+    let with = |network: Network, record: &Record| Record { network, ..record.clone() }.words();
     vec![
         [0; WORDS],
         [u64::MAX; WORDS],
         std::array::from_fn(|_| g.word() % 4),
         begun.words(),
         Record { spent: 1, ..begun.clone() }.words(),
-        with_level(2, &begun).words(),
+        with(Network { level: 2, ..net }, &begun),
+        with(Network { gate: 2, ..net }, &begun),
         waiting.words(),
         Record { spent: 5, ..waiting.clone() }.words(),
-        with_level(2, &waiting).words(),
-        with_level(u64::MAX, &waiting).words(),
-        // Accepted calls at the other level leave this one.
-        with_level(1 - level, &waiting).words(),
+        with(Network { level: 2, ..net }, &waiting),
+        with(Network { gate: u64::MAX, ..net }, &waiting),
+        // Accepted calls at the other level, and with the other gate, leave these.
+        with(other_level, &waiting),
+        with(other_gate, &waiting),
         // Answers that leave no net unclear finish a session, so no call leaves this one waiting.
         Record { answers: [1, 2, 0, 0, 0, 0, 0, 0], ..waiting }.words(),
-        tied.words(),
+        finished.words(),
     ]
 }
 
@@ -161,11 +194,11 @@ fn walk(calls: Vec<Call>, depth: usize, records: &[[u64; WORDS]]) -> (usize, usi
 
 #[test]
 fn every_list_of_4_calls_on_2_nets() {
-    for level in [0, 1] {
-        let calls = [begins(level), firsts(level), seconds(right_seconds(level)), seconds(odd_seconds())].concat();
+    for net in each_combination(2) {
+        let calls = [begins(net), firsts(net), seconds(right_seconds(net)), seconds(odd_seconds(net))].concat();
         let alphabet = calls.len();
-        let (made, accepted) = walk(calls, 4, &starting_records(level)[..3]);
-        println!("level {level}, lists of up to 4 of {alphabet} calls: {made} calls, {accepted} accepted");
+        let (made, accepted) = walk(calls, 4, &starting_records(net)[..2]);
+        println!("{net:?}, lists of up to 4 of {alphabet} calls: {made} calls, {accepted} accepted");
         assert!(accepted > 0 && accepted < made);
     }
 }
@@ -173,12 +206,13 @@ fn every_list_of_4_calls_on_2_nets() {
 /// The same with every list of second answers, wrong ones included, and from more records.
 #[test]
 fn every_list_of_3_calls_on_2_nets() {
-    for level in [0, 1] {
-        let every_second = [all_lists(4, 1 + level as usize), all_lists(4, 2 + level as usize), odd_seconds()].concat();
-        let calls = [begins(level), firsts(level), seconds(every_second)].concat();
+    for net in each_combination(2) {
+        let most = most_seconds(net);
+        let every_second = [all_lists(4, most - 1), all_lists(4, most), odd_seconds(net)].concat();
+        let calls = [begins(net), firsts(net), seconds(every_second)].concat();
         let alphabet = calls.len();
-        let (made, accepted) = walk(calls, 3, &starting_records(level));
-        println!("level {level}, lists of up to 3 of {alphabet} calls: {made} calls, {accepted} accepted");
+        let (made, accepted) = walk(calls, 3, &starting_records(net));
+        println!("{net:?}, lists of up to 3 of {alphabet} calls: {made} calls, {accepted} accepted");
         assert!(accepted > 0 && accepted < made);
     }
 }
@@ -202,17 +236,17 @@ fn run(net: Network, answer_first: &[u64], answer_second: impl FnOnce(&[u64]) ->
     Ok(make(Call::Second { answers: answer_second(&second) })?.0)
 }
 
-/// A board that stays the same through both steps is the one reported. With p vectors spent if all nets are clear, else
-/// with p + F at level 0 and p + F + 1 at level 1.
+/// A board that stays the same through both steps is the one reported. With p vectors spent if all nets are clear; else
+/// with p + F + 1 for OR at level 1 and AND at level 0, and p + F for the other two.
 fn assert_reported(net: Network, state: &[u64]) {
     let first = model::session::first_vectors(net.nets);
     let answers = response(net, &first, state);
     let unclear = model::session::unclear_nets(net.nets, &answers).len();
     let record = run(net, &answers, |second| response(net, second, state)).expect("a state is never refused");
-    let spent = match (unclear, net.level) {
-        (0, _) => first.len(),
-        (_, 0) => first.len() + unclear,
-        _ => first.len() + unclear + 1,
+    let spent = match (unclear, net.gate, net.level) {
+        (0, _, _) => first.len(),
+        (_, OR, 1) | (_, AND, 0) => first.len() + unclear + 1,
+        _ => first.len() + unclear,
     };
     assert_eq!(record, finished(net, state, spent), "{net:?} {state:?}");
 }
@@ -220,25 +254,25 @@ fn assert_reported(net: Network, state: &[u64]) {
 #[test]
 fn every_state_of_up_to_4_nets_is_reported() {
     let mut boards = 0;
-    for net in (2..=4).flat_map(at_each_level) {
+    for net in (2..=4).flat_map(each_combination) {
         for state in all_states(net.nets, net.nets) {
             assert_reported(net, &state);
             boards += 1;
         }
     }
-    println!("sessions over every state of 2 to 4 nets at both levels: {boards}");
-    assert!(boards > 2000);
+    println!("sessions over every state of 2 to 4 nets, of each gate and level: {boards}");
+    assert!(boards > 4000);
 }
 
 #[test]
 fn random_boards_of_2_to_48_nets_are_reported() {
     let g = &mut Generator::new(48);
-    for case in 0..940 {
+    for case in 0..705 {
         let n = 2 + case % 47;
         let board = boards::state(g, n, n);
-        at_each_level(n).iter().for_each(|net| assert_reported(*net, &board));
+        each_combination(n).iter().for_each(|net| assert_reported(*net, &board));
     }
-    for net in (2..=48).flat_map(at_each_level) {
+    for net in (2..=48).flat_map(each_combination) {
         assert_reported(net, &(0..net.nets).map(|i| 1 << i).collect::<Vec<_>>());
     }
 }
@@ -261,14 +295,15 @@ fn run_damaged(g: &mut Generator, net: Network, case: usize) -> Result<Record, u
 #[test]
 fn damaged_answers() {
     let g = &mut Generator::new(14);
-    for level in [0, 1] {
+    for of_two_nets in each_combination(2) {
         let (mut cases, mut unfit) = (0, 0);
         for nets in [3, 4, 5, 6, 9, 17, 33, 48] {
-            cases += 300;
-            let outcomes = (0..300).map(|case| run_damaged(g, Network { nets, level }, case));
+            cases += 200;
+            let outcomes = (0..200).map(|case| run_damaged(g, Network { nets, ..of_two_nets }, case));
             unfit += outcomes.filter(|outcome| *outcome == Err(14)).count();
         }
-        println!("level {level}, sessions with damaged answers: {cases}, refused with 14: {unfit}");
+        let Network { gate, level, .. } = of_two_nets;
+        println!("gate {gate}, level {level}, sessions with damaged answers: {cases}, refused with 14: {unfit}");
         assert!(unfit > cases / 10 && unfit < cases);
     }
 }
@@ -276,7 +311,7 @@ fn damaged_answers() {
 /// Records left by calls, on few and many nets, with answers that suit each.
 fn left_records() -> Vec<(Record, Vec<u64>, Vec<u64>)> {
     let mut records = Vec::new();
-    for net in [2, 3, 4, 6, 7, 10, 48].into_iter().flat_map(at_each_level) {
+    for net in [2, 3, 4, 6, 7, 10, 48].into_iter().flat_map(each_combination) {
         let (begun, first) = model::begin(net, 8).unwrap();
         let mut state: Vec<u64> = (0..net.nets).map(|i| 1 << i).collect();
         state[0] = 0;
@@ -289,7 +324,7 @@ fn left_records() -> Vec<(Record, Vec<u64>, Vec<u64>)> {
     records
 }
 
-/// Numbers that a step, a net count, a level or a word may be mistaken for, and the neighbours of the old one.
+/// Numbers that a step, a net count, a level, a gate or a word may be mistaken for, and the neighbours of the old one.
 fn values_near(old: u64) -> [u64; 17] {
     [0, 1, 2, 3, 4, 5, 47, 48, 49, 60, 71, old ^ 1, old ^ 2, old.wrapping_add(1), 1 << 47, 1 << 63, u64::MAX]
 }
@@ -308,7 +343,7 @@ fn records_with_any_word_changed() {
                 changed[place] = new;
                 let record = Record::from_words(&changed);
                 let calls = [
-                    Call::Begin { net: Network { nets: 3, level: 0 }, room: 4 },
+                    Call::Begin { net: Network { nets: 3, level: 0, gate: AND }, room: 4 },
                     Call::First { answers: first.clone(), room: 49 },
                     Call::Second { answers: second.clone() },
                 ];

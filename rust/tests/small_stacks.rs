@@ -1,12 +1,13 @@
-//! Every call at its largest, at both soft levels, on a thread with no more stack than is stated for it. A call that
-//! takes more ends the whole test program, with the words that a thread has overflowed its stack.
+//! Every call at its largest, of each gate and soft level, on a thread with no more stack than is stated for it. A call
+//! that takes more ends the whole test program, with the words that a thread has overflowed its stack.
 
 mod support;
 
 use fontarelga::*;
+use model::network::extra_vector;
 use support::boards::{state, walking_set};
 use support::generator::Generator;
-use support::networks::{at_each_level, of_library};
+use support::networks::{each_combination, extra_at_some_level, of_library};
 
 const N: u64 = MOST_NETS as u64;
 
@@ -18,21 +19,16 @@ fn on_a_stack_of<T: Send>(bytes: usize, call: impl FnOnce() -> T + Send) -> T {
     })
 }
 
-/// 48 nets at each level.
-fn largest_networks() -> [Network; 2] {
-    at_each_level(N).map(of_library)
-}
-
-/// 64 vectors for 48 nets, which pass for every class at either level.
-fn largest_set(g: &mut Generator) -> Vec<u64> {
-    let mut vectors = walking_set(g, model::Network { nets: N, level: 1 });
-    vectors.resize(MOST_VECTORS, 0);
+/// 64 vectors for 48 nets, which pass for every class.
+fn largest_set(g: &mut Generator, net: model::Network) -> Vec<u64> {
+    let mut vectors = walking_set(g, net);
+    vectors.resize(MOST_VECTORS, extra_at_some_level(net));
     vectors
 }
 
 /// Check and diagnosis of a random board on a stack of this size.
-fn try_check_and_diagnosis(g: &mut Generator, network: Network, class: u64, bytes: usize) {
-    let (vectors, board) = (largest_set(g), state(g, N, class));
+fn try_check_and_diagnosis(g: &mut Generator, net: model::Network, class: u64, bytes: usize) {
+    let (network, vectors, board) = (of_library(net), largest_set(g, net), state(g, N, class));
     let responses = respond(network, class, &vectors, &board).unwrap();
     let verdict = on_a_stack_of(bytes, || check(network, class, &vectors));
     let found = on_a_stack_of(bytes, || diagnose(network, class, &vectors, &responses));
@@ -42,8 +38,8 @@ fn try_check_and_diagnosis(g: &mut Generator, network: Network, class: u64, byte
 #[test]
 fn check_and_diagnosis() {
     let g = &mut Generator::new(15);
-    for network in largest_networks() {
-        [1, 2, 3, N].iter().for_each(|class| try_check_and_diagnosis(g, network, *class, CHECK_STACK_BYTES));
+    for net in each_combination(N) {
+        [1, 2, 3, N].iter().for_each(|class| try_check_and_diagnosis(g, net, *class, CHECK_STACK_BYTES));
     }
 }
 
@@ -51,7 +47,7 @@ fn check_and_diagnosis() {
 #[test]
 fn check_and_diagnosis_of_class_n() {
     let g = &mut Generator::new(17);
-    largest_networks().iter().for_each(|network| try_check_and_diagnosis(g, *network, N, OTHER_STACK_BYTES));
+    each_combination(N).iter().for_each(|net| try_check_and_diagnosis(g, *net, N, OTHER_STACK_BYTES));
 }
 
 /// So does a check that has few sets to search.
@@ -59,7 +55,7 @@ fn check_and_diagnosis_of_class_n() {
 fn small_checks() {
     let g = &mut Generator::new(18);
     for (n, class) in [(2, 1), (7, 3), (N, 1)] {
-        for net in at_each_level(n) {
+        for net in each_combination(n) {
             let (network, vectors) = (of_library(net), walking_set(g, net));
             assert_eq!(on_a_stack_of(OTHER_STACK_BYTES, || check(network, class, &vectors)), Ok(Verdict::Pass));
         }
@@ -67,8 +63,8 @@ fn small_checks() {
 }
 
 /// Response and findings of a random board.
-fn try_response_and_findings(g: &mut Generator, network: Network, class: u64) {
-    let (vectors, board) = (largest_set(g), state(g, N, class));
+fn try_response_and_findings(g: &mut Generator, net: model::Network, class: u64) {
+    let (network, vectors, board) = (of_library(net), largest_set(g, net), state(g, N, class));
     let response = on_a_stack_of(OTHER_STACK_BYTES, || respond(network, class, &vectors, &board));
     let table = on_a_stack_of(OTHER_STACK_BYTES, || findings(network, &board));
     assert_eq!(response, respond(network, class, &vectors, &board));
@@ -78,15 +74,16 @@ fn try_response_and_findings(g: &mut Generator, network: Network, class: u64) {
 #[test]
 fn response_and_findings() {
     let g = &mut Generator::new(16);
-    for network in largest_networks() {
-        [1, 2, 3, N].iter().for_each(|class| try_response_and_findings(g, network, *class));
+    for net in each_combination(N) {
+        [1, 2, 3, N].iter().for_each(|class| try_response_and_findings(g, net, *class));
     }
 }
 
-/// All receivers float, so that every net is unclear and step two has a vector for each, at level 1 with vector 0.
+/// All receivers float, so that every net is unclear and step two has a vector for each, and the extra one.
 #[test]
 fn session() {
-    for network in largest_networks() {
+    for net in each_combination(N) {
+        let network = of_library(net);
         let floating = |vectors: &[u64]| vec![network.level() * ((1 << N) - 1); vectors.len()];
         let mut session = on_a_stack_of(OTHER_STACK_BYTES, || Session::begin(network)).unwrap();
         let first = on_a_stack_of(OTHER_STACK_BYTES, || session.to_drive());
@@ -94,7 +91,7 @@ fn session() {
         on_a_stack_of(OTHER_STACK_BYTES, || session.first_answers(&answers)).unwrap();
         let second = on_a_stack_of(OTHER_STACK_BYTES, || session.to_drive());
         let answers = floating(second);
-        assert_eq!(answers.len(), MOST_SECOND_VECTORS - 1 + network.level() as usize);
+        assert_eq!(answers.len(), MOST_NETS + extra_vector(net).iter().count());
         on_a_stack_of(OTHER_STACK_BYTES, || session.second_answers(&answers)).unwrap();
         assert_eq!(session.reaches(), Some(&[0; MOST_NETS][..]));
     }
@@ -102,9 +99,9 @@ fn session() {
 
 #[test]
 fn job_file() {
-    let vectors = largest_set(&mut Generator::new(17));
-    for network in largest_networks() {
-        let job = Job { network, class: N, responses: vectors.clone(), vectors: vectors.clone() };
+    for net in each_combination(N) {
+        let vectors = largest_set(&mut Generator::new(17), net);
+        let job = Job { network: of_library(net), class: N, responses: vectors.clone(), vectors };
         let file = on_a_stack_of(OTHER_STACK_BYTES, || job.write()).unwrap();
         assert_eq!(on_a_stack_of(OTHER_STACK_BYTES, || Job::read(&file)), Ok(job));
     }

@@ -18,9 +18,9 @@ rest-of (a ∷ []) = a ∷ []
 rest-of (a ∷ b ∷ []) = a ∷ b ∷ []
 rest-of (a ∷ b ∷ c ∷ words) = rest-of words
 
--- what the reader returns: nets, level, class, number of vectors, number of responses
+-- what the reader returns: nets, level, gate, class, number of vectors, number of responses
 abbrev pub returned-job-words : Job → List ℕ
-returned-job-words job = job .network .nets ∷ job .network .level ∷ job .class ∷ job .vectors ∷ job .responses ∷ []
+returned-job-words job = job .network .nets ∷ job .network .level ∷ job .network .gate ∷ job .class ∷ job .vectors ∷ job .responses ∷ []
 
 -- what the writer returns: how many bytes it wrote
 abbrev pub returned-size-words : ℕ → List ℕ

@@ -12,76 +12,85 @@ ghost use Rattle.demands.specs.ThroughC.{exported};
 ghost use Rattle.agreement.specs.InWords.{«records-of», «rest-of», «returned-job-words», «returned-size-words»};
 
 // *check*
-pub fn check(nets: u64, level: u64, class: u64, vectors: &[u64], verdict: &mut [u64; 3]) -> u64
-    ensures returned { λ r. ⌜ r ≡ code (our-check (network-with nets level) class (now (vectors .entry))) ⌝ }
+pub fn check(
+    nets: u64,
+    level: u64,
+    gate: u64,
+    class: u64,
+    vectors: &[u64],
+    verdict: &mut [u64; 3],
+) -> u64
+    ensures returned { λ r. ⌜ r ≡ code (our-check (network-with nets level gate) class (now (vectors .entry))) ⌝ }
     ensures verdict { λ r. ⌜ now (verdict .exit)
-        ≡ fixed-after (in-words verdict-words (our-check (network-with nets level) class (now (vectors .entry))))
+        ≡ fixed-after (in-words verdict-words (our-check (network-with nets level gate) class (now (vectors .entry))))
         (now (verdict .entry)) ⌝ }
 {
-    exports::fontarelga_check(nets, level, class, vectors, verdict)
+    exports::fontarelga_check(nets, level, gate, class, vectors, verdict)
 }
 
 // *response from a state*
 pub fn respond(
     nets: u64,
     level: u64,
+    gate: u64,
     class: u64,
     vectors: &[u64],
     state: &[u64],
     response: &mut [u64],
 ) -> u64
     ensures returned { λ r. ⌜ r
-        ≡ code (our-response (network-with nets level) class (now (vectors .entry)) (now (state .entry))
+        ≡ code (our-response (network-with nets level gate) class (now (vectors .entry)) (now (state .entry))
         (now (response .entry)) .returned) ⌝ }
     ensures response { λ r. ⌜ now (response .exit)
-        ≡ our-response (network-with nets level) class (now (vectors .entry)) (now (state .entry))
+        ≡ our-response (network-with nets level gate) class (now (vectors .entry)) (now (state .entry))
         (now (response .entry)) .list ⌝ }
 {
-    exports::fontarelga_respond(nets, level, class, vectors, state, response)
+    exports::fontarelga_respond(nets, level, gate, class, vectors, state, response)
 }
 
 // *diagnosis*
 pub fn diagnose(
     nets: u64,
     level: u64,
+    gate: u64,
     class: u64,
     vectors: &[u64],
     responses: &[u64],
     state: &mut [u64],
 ) -> u64
     ensures returned { λ r. ⌜ r
-        ≡ code (our-diagnosis (network-with nets level) class (now (vectors .entry)) (now (responses .entry))
+        ≡ code (our-diagnosis (network-with nets level gate) class (now (vectors .entry)) (now (responses .entry))
         (now (state .entry)) .returned) ⌝ }
     ensures state { λ r. ⌜ now (state .exit)
-        ≡ our-diagnosis (network-with nets level) class (now (vectors .entry)) (now (responses .entry))
+        ≡ our-diagnosis (network-with nets level gate) class (now (vectors .entry)) (now (responses .entry))
         (now (state .entry)) .list ⌝ }
 {
-    exports::fontarelga_diagnose(nets, level, class, vectors, responses, state)
+    exports::fontarelga_diagnose(nets, level, gate, class, vectors, responses, state)
 }
 
 // *findings*
-pub fn find(nets: u64, level: u64, state: &[u64], table: &mut [u64]) -> u64
+pub fn find(nets: u64, level: u64, gate: u64, state: &[u64], table: &mut [u64]) -> u64
     ensures returned { λ r. ⌜ r
-        ≡ code (our-findings (network-with nets level) (now (state .entry)) (records-of (now (table .entry))) .returned) ⌝ }
+        ≡ code (our-findings (network-with nets level gate) (now (state .entry)) (records-of (now (table .entry))) .returned) ⌝ }
     ensures table { λ r. ⌜ now (table .exit)
-        ≡ finding-words (our-findings (network-with nets level) (now (state .entry))
+        ≡ finding-words (our-findings (network-with nets level gate) (now (state .entry))
         (records-of (now (table .entry))) .list) ++ rest-of (now (table .entry)) ⌝ }
 {
-    exports::fontarelga_findings(nets, level, state, table)
+    exports::fontarelga_findings(nets, level, gate, state, table)
 }
 
 // *begin*
-pub fn begin(session: &mut [u64; 60], nets: u64, level: u64, list: &mut [u64]) -> u64
-    ensures returned { λ r. ⌜ r ≡ exported (now (session .entry)) (begin (network-with nets level) (now (list .entry))) .returned ⌝ }
+pub fn begin(session: &mut [u64; 61], nets: u64, level: u64, gate: u64, list: &mut [u64]) -> u64
+    ensures returned { λ r. ⌜ r ≡ exported (now (session .entry)) (begin (network-with nets level gate) (now (list .entry))) .returned ⌝ }
     ensures session { λ r. ⌜ now (session .exit)
-        ≡ exported (now (session .entry)) (begin (network-with nets level) (now (list .entry))) .session ⌝ }
-    ensures list { λ r. ⌜ now (list .exit) ≡ exported (now (session .entry)) (begin (network-with nets level) (now (list .entry))) .list ⌝ }
+        ≡ exported (now (session .entry)) (begin (network-with nets level gate) (now (list .entry))) .session ⌝ }
+    ensures list { λ r. ⌜ now (list .exit) ≡ exported (now (session .entry)) (begin (network-with nets level gate) (now (list .entry))) .list ⌝ }
 {
-    exports::fontarelga_begin(session, nets, level, list)
+    exports::fontarelga_begin(session, nets, level, gate, list)
 }
 
 // *first answers*
-pub fn first_answers(session: &mut [u64; 60], answers: &[u64], list: &mut [u64]) -> u64
+pub fn first_answers(session: &mut [u64; 61], answers: &[u64], list: &mut [u64]) -> u64
     ensures returned { λ r. ⌜ r ≡ exported (now (session .entry)) (first (now (answers .entry)) (now (list .entry))) .returned ⌝ }
     ensures session { λ r. ⌜ now (session .exit)
         ≡ exported (now (session .entry)) (first (now (answers .entry)) (now (list .entry))) .session ⌝ }
@@ -92,7 +101,7 @@ pub fn first_answers(session: &mut [u64; 60], answers: &[u64], list: &mut [u64])
 }
 
 // *second answers*
-pub fn second_answers(session: &mut [u64; 60], answers: &[u64]) -> u64
+pub fn second_answers(session: &mut [u64; 61], answers: &[u64]) -> u64
     ensures returned { λ r. ⌜ r ≡ exported (now (session .entry)) (second (now (answers .entry))) .returned ⌝ }
     ensures session { λ r. ⌜ now (session .exit) ≡ exported (now (session .entry)) (second (now (answers .entry))) .session ⌝ }
 {
@@ -100,14 +109,14 @@ pub fn second_answers(session: &mut [u64; 60], answers: &[u64]) -> u64
 }
 
 // the vectors to drive next
-pub fn to_drive<'a>(session: &[u64; 60], one: &'a [u64], two: &'a [u64]) -> u64
+pub fn to_drive<'a>(session: &[u64; 61], one: &'a [u64], two: &'a [u64]) -> u64
     ensures { λ r. ⌜ r ≡ drive-count (now (session .entry)) (now (one .entry)) (now (two .entry)) ⌝ }
 {
     exports::fontarelga_to_drive(session, one, two)
 }
 
 // *read a job file*
-pub fn read_job(file: &[u8], vectors: &mut [u64], responses: &mut [u64], job: &mut [u64; 5]) -> u64
+pub fn read_job(file: &[u8], vectors: &mut [u64], responses: &mut [u64], job: &mut [u64; 6]) -> u64
     ensures returned { λ r. ⌜ r ≡ code (our-reader (now (file .entry)) (now (vectors .entry)) (now (responses .entry)) .returned) ⌝ }
     ensures vectors { λ r. ⌜ now (vectors .exit)
         ≡ our-reader (now (file .entry)) (now (vectors .entry)) (now (responses .entry)) .vectors ⌝ }
@@ -125,6 +134,7 @@ pub fn read_job(file: &[u8], vectors: &mut [u64], responses: &mut [u64], job: &m
 pub fn write_job(
     nets: u64,
     level: u64,
+    gate: u64,
     class: u64,
     vectors: &[u64],
     responses: &[u64],
@@ -132,15 +142,15 @@ pub fn write_job(
     size: &mut [u64; 1],
 ) -> u64
     ensures returned { λ r. ⌜ r
-        ≡ code (our-writer (network-with nets level) class (now (vectors .entry)) (now (responses .entry))
+        ≡ code (our-writer (network-with nets level gate) class (now (vectors .entry)) (now (responses .entry))
         (now (file .entry)) .returned) ⌝ }
     ensures file { λ r. ⌜ now (file .exit)
-        ≡ our-writer (network-with nets level) class (now (vectors .entry)) (now (responses .entry))
+        ≡ our-writer (network-with nets level gate) class (now (vectors .entry)) (now (responses .entry))
         (now (file .entry)) .list ⌝ }
     ensures size { λ r. ⌜ now (size .exit)
         ≡ fixed-after (in-words returned-size-words
-        (our-writer (network-with nets level) class (now (vectors .entry)) (now (responses .entry))
+        (our-writer (network-with nets level gate) class (now (vectors .entry)) (now (responses .entry))
         (now (file .entry)) .returned)) (now (size .entry)) ⌝ }
 {
-    exports::fontarelga_write_job(nets, level, class, vectors, responses, file, size)
+    exports::fontarelga_write_job(nets, level, gate, class, vectors, responses, file, size)
 }

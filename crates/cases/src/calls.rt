@@ -1,7 +1,8 @@
 // Trying the lines of a text. A line names the call that the lines after it make: `check`, `respond`, `diagnose` or
-// `findings`. A line `level L` gives the soft level of the calls on the lines after it, up to the next such line; at
-// the start, and after a line that names a call, it is 1. A line that has not the form of its call, or says `level`
-// without one number, is shown as unreadable.
+// `findings`. A line `level L` gives the soft level of the calls on the lines after it, and a line `gate G` their gate,
+// each up to the next line of its name; at the start, and after a line that names a call, the level is 1 and the gate
+// 0. A line that has not the form of its call, or begins with `level` or `gate` and does not go on with a space and one
+// number, is shown as unreadable.
 use crate::checking;
 use crate::finding;
 use crate::responding;

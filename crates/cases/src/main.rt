@@ -1,8 +1,8 @@
 // The bench examples of document 01 for the checker, the response from a state, the diagnosis and the findings, the
-// refusals listed there, and inputs at the limits, at both soft levels. Standard input has them, a call a line
-// (calls.rt). A line a call: what it was given, and what it answered; and a line `level` where another soft level
-// begins. `lent` gives the length of the list lent, and after `kept` stand its entries that the call left as they were;
-// of a table of findings their number.
+// refusals listed there, and inputs at the limits, with both gates at both soft levels. Standard input has them, a call
+// a line (calls.rt). A line a call: what it was given, and what it answered; and a line `level` or `gate` where another
+// soft level or gate begins. `lent` gives the length of the list lent, and after `kept` stand its entries that the call
+// left as they were; of a table of findings their number.
 mod calls;
 mod checking;
 mod finding;

@@ -1,4 +1,4 @@
--- The call *check*: rows 5, 6, 17, 7, 8, then the verdict.
+-- The call *check*: rows 5, 6, 17, 20, 7, 8, then the verdict.
 use Prim.Native.Nat.{ℕ}
 use mathlib.Core.List.{List}
 use Rattle.words.specs.Answers.{Answer, refused, full, by-tests}

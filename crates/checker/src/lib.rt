@@ -37,7 +37,7 @@ pub fn verdict_of(net: Network, class: u64, vectors: &[u64]) -> Verdict
     bounded::bounded_verdict(net, class, vectors)
 }
 
-// The call *check*: whether the vectors tell the states of the class apart. Rows 5, 6, 17, 7, 8.
+// The call *check*: whether the vectors tell the states of the class apart. Rows 5, 6, 17, 20, 7, 8.
 pub fn check(net: Network, class: u64, vectors: &[u64]) -> Checked
     ensures { λ r. ⌜ meaning r ≡ check-answer net class (now (vectors .entry)) ⌝ }
 {

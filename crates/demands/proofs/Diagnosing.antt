@@ -4,11 +4,11 @@ use mathlib.Core.Logic.{_⊎_, inl, inr, _↔_}
 use mathlib.Core.Bool.{false}
 use mathlib.Core.List.{List, [], _∷_}
 use Prim.Native.Nat.{ℕ}
-use lib.ListN.{length, take}
+use lib.ListN.{length, take, replicate}
 use Rattle.words.specs.Answers.{Answer, refused, full, ByTable, NoneHolds, lent-after, count-of}
 use Rattle.words.proofs.Answers.{table-full, table-skip, none-front, none-rest, front-written, fills-determined, refused-not-full}
 use Rattle.network.specs.declared.Network.{Network}
-use Rattle.network.specs.Reading.{network-with}
+use Rattle.network.specs.Reading.{wired-or, wired-and}
 use Rattle.network.specs.States.{Fits, not-a-state}
 use Rattle.network.specs.Rows.{SetRows}
 use Rattle.network.proofs.Rows.{admitted-set}
@@ -111,7 +111,8 @@ diagnosis-determined-program p q f g net k vectors responses lent =
 
 -- what is computed on one network
 open-and-short-on : (net : Network) (vectors answers : List ℕ) → not-a-state net 3 open-and-short ≡ false
-    → our-response net 3 vectors open-and-short (9 ∷ 9 ∷ 9 ∷ 9 ∷ []) ≡ record { returned = full 4; list = answers }
+    → our-response net 3 vectors open-and-short (replicate (length vectors) 9)
+    ≡ record { returned = full (length vectors); list = answers }
     → our-diagnosis net 3 vectors answers (9 ∷ 9 ∷ 9 ∷ []) ≡ record { returned = full 3; list = open-and-short }
     → finding net open-and-short 0 .kind ≡ 3
     → OpenAndShort our-response our-diagnosis net vectors answers
@@ -130,6 +131,8 @@ unfolding open-diagnosis open-findings
 demand-2 = record {
   response = responds;
   reading-back = diagnoses;
-  soft-1 = open-and-short-on (network-with 3 1) (0 ∷ 1 ∷ 2 ∷ 4 ∷ []) (4 ∷ 4 ∷ 7 ∷ 7 ∷ []) refl refl refl refl;
-  soft-0 = open-and-short-on (network-with 3 0) (0 ∷ 1 ∷ 2 ∷ 4 ∷ []) (0 ∷ 0 ∷ 3 ∷ 3 ∷ []) refl refl refl refl;
+  or-1 = open-and-short-on (wired-or 3 1) (0 ∷ 1 ∷ 2 ∷ 4 ∷ []) (4 ∷ 4 ∷ 7 ∷ 7 ∷ []) refl refl refl refl;
+  or-0 = open-and-short-on (wired-or 3 0) (0 ∷ 1 ∷ 2 ∷ 4 ∷ []) (0 ∷ 0 ∷ 3 ∷ 3 ∷ []) refl refl refl refl;
+  and-1 = open-and-short-on (wired-and 3 1) (6 ∷ 5 ∷ 3 ∷ []) (7 ∷ 4 ∷ 4 ∷ []) refl refl refl refl;
+  and-0 = open-and-short-on (wired-and 3 0) (7 ∷ 6 ∷ 5 ∷ 3 ∷ []) (3 ∷ 3 ∷ 0 ∷ 0 ∷ []) refl refl refl refl;
 }

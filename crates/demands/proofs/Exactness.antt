@@ -143,7 +143,7 @@ module _ (file : List ℕ) where
   some-responses : AllFail file-set-tests
       → has-responses file && bad-response-count (length (body-words file 1)) (length (file-responses file)) ≡ false
       → entry-count file ≡ 3 → 0 < length (body-words file 2)
-  some-responses (t5, (t6, (t17, (t7, t8)))) t9 q =
+  some-responses (t5, (t6, (t17, (t20, (t7, t8))))) t9 q =
       let none : length (body-words file 1) < 1 → ⊥ = λ l. decides-row-7 (body-words file 1) .1 t7 (inl l) in
       let test : not (eqb (length (body-words file 2)) (length (body-words file 1))) ≡ false =
       sym (ap₂ (λ (n : ℕ) (words : List ℕ). eqb n 3 && not (eqb (length words) (length (body-words file 1)))) q (third-read q)) ∙ t9 in

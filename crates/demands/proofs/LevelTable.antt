@@ -1,9 +1,9 @@
 -- The cases of the soft level, by computation.
 use mathlib.Core.Path.{refl, sym, _∙_}
-use mathlib.Core.Logic.{inl, inr, ⊎-elim}
 use native.Mathlib.Omega.{arith}
 use Rattle.network.specs.Reading.{network-with}
-use Rattle.network.proofs.Reading.{one-drives}
+use Rattle.network.proofs.Reading.{reads-driven}
+use Rattle.network.proofs.Rows.{is-bit, above-bits}
 use Rattle.findings.specs.Open.{open-findings}
 use Rattle.session.specs.Open.{open-session}
 use Rattle.packing.specs.Packed.{session-words, job-words}
@@ -12,10 +12,10 @@ use Rattle.demands.specs.LevelCases.{LevelCases}
 pub level-cases : LevelCases
 unfolding open-session open-findings session-words job-words
 level-cases = record {
-  floats-to-0 = λ n vector. refl;
-  floats-to-1 = λ n vector. refl;
-  driven-alike = λ n level other reach vector some.
-      one-drives (network-with n level) reach vector some ∙ sym (one-drives (network-with n other) reach vector some);
+  floats-to-0 = λ n gate vector. refl;
+  floats-to-1 = λ n gate vector. refl;
+  driven-alike = λ n level other gate reach vector some.
+      reads-driven (network-with n level gate) reach vector some ∙ sym (reads-driven (network-with n other gate) reach vector some);
   extra-at-1 = λ n. refl;
   extra-at-0 = λ n. refl;
   walking-alone = refl;
@@ -35,9 +35,9 @@ level-cases = record {
   floating-pair = refl;
   driven-at-0 = refl;
   driven-at-1 = refl;
-  level-0 = λ n other. other (inl refl);
-  level-1 = λ n other. other (inr refl);
-  no-other-level = λ n level high. ⊎-elim (λ e. omega (arith, e, high)) (λ e. omega (arith, e, high));
+  level-0 = λ n gate. is-bit 0 (omega arith);
+  level-1 = λ n gate. is-bit 1 (omega arith);
+  no-other-level = λ n level gate high. above-bits level high;
   check-2 = refl;
   check-greatest = refl;
   respond-2 = refl;

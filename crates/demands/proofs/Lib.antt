@@ -22,4 +22,5 @@ pub mod RefutingFindings
 pub mod RefutingCalls
 pub mod Tables
 pub mod LevelTable
+pub mod GateTable
 pub mod FileTables

@@ -101,7 +101,7 @@ module _ (net : Network) (k : ℕ) (vectors responses : List ℕ) (h : AdmittedC
 
   network-made : file-network made ≡ net
   unfolding file-network
-  network-made = ap₂ network-with (byte-made 0) (byte-made 2)
+  network-made = λ j. network-with (byte-made 0 j) (byte-made 2 j) (byte-made 3 j)
 
   class-made : file-class made ≡ k
   unfolding file-class

@@ -2,7 +2,7 @@
 use Prim.Native.Nat.{ℕ}
 use native.Mathlib.Omega.{arith}
 use mathlib.Core.Path.{_≡_, refl, sym, ap, _∙_, subst}
-use mathlib.Core.Logic.{inr, ⊎-elim}
+use mathlib.Core.Logic.{inl, inr, ⊎-elim}
 use mathlib.Core.List.{List, [], _∷_}
 use lib.ListN.{take}
 use Rattle.words.specs.Answers.{NoneHolds}
@@ -90,7 +90,7 @@ pub refuses-begins : (number : ℕ) → ¬ (Sessions (refuses-every-begin number
 unfolding open-session
 refuses-begins number claim =
     let free : NoneHolds (BeginRows two (9 ∷ 9 ∷ [])) =
-    (λ r. ⊎-elim (λ l. omega arith) (λ l. omega arith) r, (λ r. r (inr refl), (λ l. omega arith, tt))) in
+    (λ r. ⊎-elim (λ l. omega arith) (λ l. omega arith) r, (λ r. r (inr refl), (λ r. r (inl refl), (λ l. omega arith, tt)))) in
     table-not-refused (λ (words : List ℕ). words ≡ first-vectors two) (BeginRows two (9 ∷ 9 ∷ [])) number free
     (claim junk (begin two (9 ∷ 9 ∷ []) ∷ []) .each [] [] (begin two (9 ∷ 9 ∷ [])) refl .begins two (9 ∷ 9 ∷ []) refl)
 

@@ -117,7 +117,7 @@ zero-accepted : (session : Session) (call : Call) → code (our-answer session c
     → (written : List ℕ) × (our-answer session call ≡ full written)
 unfolding begin-answer first-answer second-answer
 zero-accepted session (begin net list) e =
-    (_, zero-full _ _ (λ q. omega (arith, q), (λ q. omega (arith, q), (λ q. omega (arith, q), tt))) e)
+    (_, zero-full _ _ (λ q. omega (arith, q), (λ q. omega (arith, q), (λ q. omega (arith, q), (λ q. omega (arith, q), tt)))) e)
 zero-accepted session (first answers list) e =
     (_, zero-full _ _ (λ q. omega (arith, q), (λ q. omega (arith, q), (λ q. omega (arith, q), (λ q. omega (arith, q), tt)))) e)
 zero-accepted session (second answers) e =

@@ -1,5 +1,5 @@
 -- Inputs on both sides of each bound of rows 4 to 14, for the calls other than the reader and the writer. Theirs are in
--- FileBounds.antt, and those of row 17 in LevelCases.antt.
+-- FileBounds.antt, those of row 17 in LevelCases.antt, and those of row 20 in GateCases.antt.
 use Prim.Native.Nat.{ℕ, _-_, _^_}
 use mathlib.Core.Path.{_≡_}
 use mathlib.Core.List.{List, [], _∷_}

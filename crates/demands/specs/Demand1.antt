@@ -106,17 +106,17 @@ Rows p (drive session one two) = []
 
 -- their numbers, as documents 01 and 02 list them
 abbrev pub session-numbers : Call → List ℕ
-session-numbers (begin net list) = 5 ∷ 17 ∷ 12 ∷ []
+session-numbers (begin net list) = 5 ∷ 17 ∷ 20 ∷ 12 ∷ []
 session-numbers (first answers list) = 4 ∷ 9 ∷ 10 ∷ 12 ∷ []
 session-numbers (second answers) = 4 ∷ 9 ∷ 10 ∷ 14 ∷ []
 
 abbrev pub numbers : PublicCall → List ℕ
-numbers (check net k vectors) = 5 ∷ 6 ∷ 17 ∷ 7 ∷ 8 ∷ []
-numbers (respond net k vectors state list) = 5 ∷ 6 ∷ 17 ∷ 7 ∷ 8 ∷ 11 ∷ 12 ∷ []
-numbers (diagnose net k vectors responses list) = 5 ∷ 6 ∷ 17 ∷ 7 ∷ 8 ∷ 9 ∷ 10 ∷ 12 ∷ 13 ∷ 14 ∷ []
-numbers (find net state table) = 5 ∷ 17 ∷ 11 ∷ 12 ∷ []
-numbers (read file vectors responses) = 1 ∷ 2 ∷ 3 ∷ 5 ∷ 6 ∷ 17 ∷ 7 ∷ 8 ∷ 9 ∷ 10 ∷ 12 ∷ []
-numbers (write net k vectors responses file) = 5 ∷ 6 ∷ 17 ∷ 7 ∷ 8 ∷ 9 ∷ 10 ∷ 12 ∷ []
+numbers (check net k vectors) = 5 ∷ 6 ∷ 17 ∷ 20 ∷ 7 ∷ 8 ∷ []
+numbers (respond net k vectors state list) = 5 ∷ 6 ∷ 17 ∷ 20 ∷ 7 ∷ 8 ∷ 11 ∷ 12 ∷ []
+numbers (diagnose net k vectors responses list) = 5 ∷ 6 ∷ 17 ∷ 20 ∷ 7 ∷ 8 ∷ 9 ∷ 10 ∷ 12 ∷ 13 ∷ 14 ∷ []
+numbers (find net state table) = 5 ∷ 17 ∷ 20 ∷ 11 ∷ 12 ∷ []
+numbers (read file vectors responses) = 1 ∷ 2 ∷ 3 ∷ 5 ∷ 6 ∷ 17 ∷ 20 ∷ 7 ∷ 8 ∷ 9 ∷ 10 ∷ 12 ∷ []
+numbers (write net k vectors responses file) = 5 ∷ 6 ∷ 17 ∷ 20 ∷ 7 ∷ 8 ∷ 9 ∷ 10 ∷ 12 ∷ []
 numbers (advance session call) = session-numbers call
 numbers (drive session one two) = []
 

@@ -1,17 +1,17 @@
 -- Demand 2: a response worked out from a wiring state, and a wiring state read back from a response, both follow the
--- wired-OR model with floating receivers at the soft level, opens and shorts on one net included. With a passed test
--- set, the state read back is of the stated class and gives exactly that response, and, if no earlier refusal applies,
--- "no state fits" is said exactly when no state of the class gives it.
+-- wired-OR model, or at the gate AND the wired-AND model, with floating receivers at the soft level, opens and shorts on
+-- one net included. With a passed test set, the state read back is of the stated class and gives exactly that response,
+-- and, if no earlier refusal applies, "no state fits" is said exactly when no state of the class gives it.
 use Prim.Native.Nat.{ℕ}
 use mathlib.Core.Path.{_≡_}
 use mathlib.Core.Logic.{_↔_}
 use mathlib.Core.Bool.{true, false}
 use mathlib.Core.List.{List, [], _∷_, _++_}
-use lib.ListN.{length, take}
+use lib.ListN.{length, take, replicate}
 use Rattle.words.specs.Answers.{refused, full, NoneHolds, Filled, FillsByTable}
 use Rattle.words.specs.Bits.{has, at}
 use Rattle.network.specs.declared.Network.{Network}
-use Rattle.network.specs.Reading.{network-with, Response}
+use Rattle.network.specs.Reading.{wired-or, wired-and, Response}
 use Rattle.network.specs.States.{State, Fits}
 use Rattle.network.specs.Rows.{SetRows, Row9, HighBit, Row12}
 use Rattle.network.specs.Respond.{ResponseRows}
@@ -75,7 +75,8 @@ pub record OpenAndShort (responds : ResponseProgram) (diagnoses : DiagnosisProgr
   pub is-state : State net 3 open-and-short
   pub open-net : has (at open-and-short 0) 0 ≡ false
   pub shorted : (has (at open-and-short 0) 1 ≡ true) × (has (at open-and-short 1) 1 ≡ true)
-  pub response : responds net 3 vectors open-and-short (9 ∷ 9 ∷ 9 ∷ 9 ∷ []) ≡ record { returned = full 4; list = answers }
+  pub response : responds net 3 vectors open-and-short (replicate (length vectors) 9)
+      ≡ record { returned = full (length vectors); list = answers }
   pub and-back : diagnoses net 3 vectors answers (9 ∷ 9 ∷ 9 ∷ []) ≡ record { returned = full 3; list = open-and-short }
   pub both-found : finding net open-and-short 0 .kind ≡ 3
 
@@ -84,6 +85,8 @@ pub record OpenAndShort (responds : ResponseProgram) (diagnoses : DiagnosisProgr
 pub record Demand2 (responds : ResponseProgram) (diagnoses : DiagnosisProgram) : Type 0 where
   pub response : Responds responds
   pub reading-back : Diagnoses diagnoses
-  -- soft level 1 and soft level 0
-  pub soft-1 : OpenAndShort responds diagnoses (network-with 3 1) (0 ∷ 1 ∷ 2 ∷ 4 ∷ []) (4 ∷ 4 ∷ 7 ∷ 7 ∷ [])
-  pub soft-0 : OpenAndShort responds diagnoses (network-with 3 0) (0 ∷ 1 ∷ 2 ∷ 4 ∷ []) (0 ∷ 0 ∷ 3 ∷ 3 ∷ [])
+  -- each gate at each soft level
+  pub or-1 : OpenAndShort responds diagnoses (wired-or 3 1) (0 ∷ 1 ∷ 2 ∷ 4 ∷ []) (4 ∷ 4 ∷ 7 ∷ 7 ∷ [])
+  pub or-0 : OpenAndShort responds diagnoses (wired-or 3 0) (0 ∷ 1 ∷ 2 ∷ 4 ∷ []) (0 ∷ 0 ∷ 3 ∷ 3 ∷ [])
+  pub and-1 : OpenAndShort responds diagnoses (wired-and 3 1) (6 ∷ 5 ∷ 3 ∷ []) (7 ∷ 4 ∷ 4 ∷ [])
+  pub and-0 : OpenAndShort responds diagnoses (wired-and 3 0) (7 ∷ 6 ∷ 5 ∷ 3 ∷ []) (3 ∷ 3 ∷ 0 ∷ 0 ∷ [])

@@ -1,12 +1,13 @@
 -- Job files on both sides of each bound of the reader's rows, and calls of the writer on both sides of each of its own.
--- Each is worked out by hand from documents 01 and 02; none is a program's output. Where no level is said it is 1.
+-- Each is worked out by hand from documents 01 and 02; none is a program's output. Where no level is said it is 1,
+-- where no gate is said it is OR.
 use Prim.Native.Nat.{ℕ, _+_, _*_, _-_, _^_}
 use mathlib.Core.Path.{_≡_}
 use mathlib.Core.List.{List, [], _∷_, _++_}
 use lib.ListN.{take, drop, replicate}
 use Rattle.words.specs.Answers.{Answer, refused, full}
 use Rattle.network.specs.declared.Network.{Network}
-use Rattle.network.specs.Reading.{network-with, network-of}
+use Rattle.network.specs.Reading.{network-with, wired-or, wired-and, network-of}
 use Rattle.reader.specs.Reader.{JobContent, read-answer}
 use Rattle.writer.specs.Writer.{write-answer}
 use Rattle.demands.specs.Starred.{four}
@@ -24,16 +25,16 @@ holds-of net k vectors responses = full (record { network = net; class = k; vect
 abbrev pub holds : (n k : ℕ) → (vectors responses : List ℕ) → Answer JobContent
 holds n k vectors responses = holds-of (network-of n) k vectors responses
 
--- n = k = 4 and a vector 0, without responses (34 bytes) and with the response 0 (51 bytes)
+-- n = k = 4 and a vector 0, without responses (35 bytes) and with the response 0 (52 bytes)
 abbrev pub one-vector : List ℕ
 one-vector = set-file 4 4 (0 ∷ [])
 
 abbrev pub one-response : List ℕ
 one-response = job-file 4 4 (0 ∷ []) (0 ∷ [])
 
--- the first again, at any level
-abbrev pub level-file : ℕ → List ℕ
-level-file level = set-file-of (network-with 4 level) 4 (0 ∷ [])
+-- the first again, of any level and gate
+abbrev pub gate-file : (level gate : ℕ) → List ℕ
+gate-file level gate = set-file-of (network-with 4 level gate) 4 (0 ∷ [])
 
 -- the nets body with n = k = 4
 abbrev pub four-body : List ℕ
@@ -80,7 +81,7 @@ bytes-apart = 6 ∷ 5 ∷ 4 ∷ 3 ∷ 2 ∷ 1 ∷ 0 ∷ 0 ∷ []
 abbrev pub word-apart : ℕ
 word-apart = 6 + 5 * 2 ^ 8 + 4 * 2 ^ 16 + 3 * 2 ^ 24 + 2 * 2 ^ 32 + 2 ^ 40
 
--- the longest file that is accepted, 1,059 bytes: 64 vectors and 64 responses, 512 bytes each, from 35 and from 547 on
+-- the longest file that is accepted, 1,060 bytes: 64 vectors and 64 responses, 512 bytes each, from 36 and from 548 on
 abbrev pub longest-file : List ℕ
 longest-file =
     start 3
@@ -96,15 +97,17 @@ pub record ReaderBounds : Type 0 where
   pub bytes-1 : read (66 ∷ []) ≡ refused 1
   pub bytes-2 : read (66 ∷ 83 ∷ []) ≡ refused 1
   pub bytes-3 : read (66 ∷ 83 ∷ 74 ∷ []) ≡ refused 1
-  pub bytes-4 : read (66 ∷ 83 ∷ 74 ∷ 50 ∷ []) ≡ refused 2
-  pub mark-0 : read (65 ∷ 83 ∷ 74 ∷ 50 ∷ drop 4 one-vector) ≡ refused 1
-  pub mark-1 : read (66 ∷ 84 ∷ 74 ∷ 50 ∷ drop 4 one-vector) ≡ refused 1
-  pub mark-2 : read (66 ∷ 83 ∷ 73 ∷ 50 ∷ drop 4 one-vector) ≡ refused 1
-  pub mark-3 : read (66 ∷ 83 ∷ 74 ∷ 51 ∷ drop 4 one-vector) ≡ refused 1
-  -- document 01's mark, also before a nets body of 2 bytes, as its files have
+  pub bytes-4 : read (66 ∷ 83 ∷ 74 ∷ 51 ∷ []) ≡ refused 2
+  pub mark-0 : read (65 ∷ 83 ∷ 74 ∷ 51 ∷ drop 4 one-vector) ≡ refused 1
+  pub mark-1 : read (66 ∷ 84 ∷ 74 ∷ 51 ∷ drop 4 one-vector) ≡ refused 1
+  pub mark-2 : read (66 ∷ 83 ∷ 73 ∷ 51 ∷ drop 4 one-vector) ≡ refused 1
+  pub mark-3 : read (66 ∷ 83 ∷ 74 ∷ 52 ∷ drop 4 one-vector) ≡ refused 1
+  -- the marks of files without a gate, also before a nets body of 2 bytes and of 3, as those files have
   pub mark-BSJ1 : read (text "BSJ1" ++ drop 4 one-vector) ≡ refused 1
   pub file-BSJ1 : read (text "BSJ1" ++ drop 4 (two-bodies 2 8)) ≡ refused 1
-  -- row 2: the size. A file of 2,048 bytes passes this row; its 2,022 bytes of vectors are not a multiple of 8. One of
+  pub mark-BSJ2 : read (text "BSJ2" ++ drop 4 one-vector) ≡ refused 1
+  pub file-BSJ2 : read (text "BSJ2" ++ drop 4 (two-bodies 3 8)) ≡ refused 1
+  -- row 2: the size. A file of 2,048 bytes passes this row; its 2,021 bytes of vectors are not a multiple of 8. One of
   -- 2,049 does not, whether its bodies end at its end or one byte before; of the last, 2,048 bytes would not tell
   pub size-2048 : read (long-body (256 - after-two) 7 (replicate (2048 - after-two) 0)) ≡ refused 3
   pub size-2049 : read (long-body (257 - after-two) 7 (replicate (2049 - after-two) 0)) ≡ refused 2
@@ -135,9 +138,9 @@ pub record ReaderBounds : Type 0 where
   pub third-late : read (with-three (entry 1 32 nets-length) (entry 2 after-three 8) (entry 3 (after-three + 9) 7)) ≡ refused 2
   -- the end, one short and one long
   pub end-short : read (one-vector ++ 0 ∷ []) ≡ refused 2
-  pub end-long : read (take 33 one-vector) ≡ refused 2
+  pub end-long : read (take 34 one-vector) ≡ refused 2
   pub third-end-short : read (one-response ++ 0 ∷ []) ≡ refused 2
-  pub third-end-long : read (take 50 one-response) ≡ refused 2
+  pub third-end-long : read (take 51 one-response) ≡ refused 2
   -- sums past 2 ^ 32; if they wrapped, the layout would be right: the second body would end 8 bytes before it begins,
   -- where the third begins; or one byte before it begins, at the end of the file; and a third body that begins at
   -- 2 ^ 32 - 8 would end there
@@ -151,9 +154,9 @@ pub record ReaderBounds : Type 0 where
       (start 3 ++ entry 1 32 nets-length ++ 2 ∷ after-three ∷ 0 ∷ 0 ∷ 0 ∷ (248 - after-three) ∷ 255 ∷ 255 ∷ 255
       ∷ 3 ∷ 248 ∷ 255 ∷ 255 ∷ 255 ∷ (after-three + 16) ∷ 0 ∷ 0 ∷ 0 ∷ four-body ++ replicate 8 0) ≡ refused 2
   -- row 3: the nets body, the vectors and the responses
-  pub nets-body-2 : read (two-bodies 2 8) ≡ refused 3
-  pub nets-body-3 : read (two-bodies 3 8) ≡ holds 4 4 (0 ∷ []) []
-  pub nets-body-4 : read (two-bodies 4 8) ≡ refused 3
+  pub nets-body-3 : read (two-bodies 3 8) ≡ refused 3
+  pub nets-body-4 : read (two-bodies 4 8) ≡ holds 4 4 (0 ∷ []) []
+  pub nets-body-5 : read (two-bodies 5 8) ≡ refused 3
   pub vectors-body-7 : read (two-bodies nets-length 7) ≡ refused 3
   pub vectors-body-9 : read (two-bodies nets-length 9) ≡ refused 3
   pub responses-body-7 : read (third-body 7) ≡ refused 3
@@ -172,11 +175,17 @@ pub record ReaderBounds : Type 0 where
   pub class-5 : read (set-file 5 5 (0 ∷ [])) ≡ holds 5 5 (0 ∷ []) []
   pub class-6 : read (set-file 5 6 (0 ∷ [])) ≡ refused 6
   pub class-above : read (set-file 2 3 (0 ∷ [])) ≡ refused 6
-  -- row 17: the soft level
-  pub level-0 : read (level-file 0) ≡ holds-of (network-with 4 0) 4 (0 ∷ []) []
-  pub level-1 : read (level-file 1) ≡ holds-of (network-with 4 1) 4 (0 ∷ []) []
-  pub level-2 : read (level-file 2) ≡ refused 17
-  pub level-255 : read (level-file 255) ≡ refused 17
+  -- rows 17 and 20: the soft level and the gate. Either gate goes with either level (`OR-0` is OR with level 0), and a
+  -- level that is refused is 17 whatever the gate
+  pub OR-0 : read (gate-file 0 0) ≡ holds-of (wired-or 4 0) 4 (0 ∷ []) []
+  pub OR-1 : read (gate-file 1 0) ≡ holds-of (wired-or 4 1) 4 (0 ∷ []) []
+  pub AND-0 : read (gate-file 0 1) ≡ holds-of (wired-and 4 0) 4 (0 ∷ []) []
+  pub AND-1 : read (gate-file 1 1) ≡ holds-of (wired-and 4 1) 4 (0 ∷ []) []
+  pub level-2 : (gate : ℕ) → read (gate-file 2 gate) ≡ refused 17
+  pub level-255 : (gate : ℕ) → read (gate-file 255 gate) ≡ refused 17
+  pub gate-2-at-0 : read (gate-file 0 2) ≡ refused 20
+  pub gate-2-at-1 : read (gate-file 1 2) ≡ refused 20
+  pub gate-255 : read (gate-file 1 255) ≡ refused 20
   -- row 7: vectors
   pub vectors-0 : read (two-bodies nets-length 0) ≡ refused 7
   pub vectors-64 : read-answer (long-body 0 2 (replicate 512 0)) 64 0 ≡ holds 4 4 (replicate 64 0) []
@@ -204,15 +213,16 @@ pub record ReaderBounds : Type 0 where
   pub set-room-1 : read-answer one-vector 1 0 ≡ holds 4 4 (0 ∷ []) []
   pub longest-short : read-answer longest-file 64 63 ≡ refused 12
   pub longest : read-answer longest-file 64 64 ≡ holds 4 4 (replicate 64 0) (replicate 64 0)
-  -- two rows at once: the upper one
+  -- several rows at once: the uppermost
   pub rows-1-2 : read (replicate 2049 0) ≡ refused 1
   pub rows-2-3 : read (two-bodies (nets-length + 1) 7 ++ 0 ∷ []) ≡ refused 2
   pub rows-3-5 : read (start 2 ++ entry 1 23 nets-length ++ entry 2 after-two 7 ++ nets-body (network-of 1) 1 ++ replicate 7 0) ≡ refused 3
   pub rows-5-6 : read (set-file 1 4 (0 ∷ [])) ≡ refused 5
-  pub rows-5-17 : read (set-file-of (network-with 1 2) 1 (0 ∷ [])) ≡ refused 5
-  pub rows-6-17 : read (set-file-of (network-with 4 2) 0 (0 ∷ [])) ≡ refused 6
+  pub rows-5-17-20 : (level gate : ℕ) → read (set-file-of (network-with 1 level gate) 1 (0 ∷ [])) ≡ refused 5
+  pub rows-6-17-20 : (level gate : ℕ) → read (set-file-of (network-with 4 level gate) 0 (0 ∷ [])) ≡ refused 6
   pub rows-6-7 : read (set-file 4 0 []) ≡ refused 6
-  pub rows-17-7 : read (set-file-of (network-with 4 2) 4 []) ≡ refused 17
+  pub rows-17-20-7 : (gate : ℕ) → read (set-file-of (network-with 4 2 gate) 4 []) ≡ refused 17
+  pub rows-20-7 : read (set-file-of (network-with 4 1 2) 4 []) ≡ refused 20
   pub rows-7-8 : read (long-body 8 2 (replicate 520 255)) ≡ refused 7
   pub rows-8-9 : read (job-file 4 4 (16 ∷ []) (0 ∷ 0 ∷ [])) ≡ refused 8
   pub rows-9-10 : read (job-file 4 4 (0 ∷ []) (16 ∷ 16 ∷ [])) ≡ refused 9
@@ -243,12 +253,18 @@ pub record WriterBounds : Type 0 where
   pub class-5 : write 5 5 (0 ∷ []) [] ≡ full (set-file 5 5 (0 ∷ []))
   pub class-6 : write 5 6 (0 ∷ []) [] ≡ refused 6
   pub class-above : write 2 3 (0 ∷ []) [] ≡ refused 6
-  -- row 17: the soft level, also where its low byte is 0
-  pub level-0 : write-of (network-with 4 0) 4 (0 ∷ []) [] ≡ full (level-file 0)
-  pub level-1 : write-of (network-with 4 1) 4 (0 ∷ []) [] ≡ full (level-file 1)
-  pub level-2 : write-of (network-with 4 2) 4 (0 ∷ []) [] ≡ refused 17
-  pub level-256 : write-of (network-with 4 256) 4 (0 ∷ []) [] ≡ refused 17
-  pub level-greatest : write-of (network-with 4 (2 ^ 64 - 1)) 4 (0 ∷ []) [] ≡ refused 17
+  -- rows 17 and 20: the soft level and the gate, as in the reader, also where the low byte is 0
+  pub OR-0 : write-of (wired-or 4 0) 4 (0 ∷ []) [] ≡ full (gate-file 0 0)
+  pub OR-1 : write-of (wired-or 4 1) 4 (0 ∷ []) [] ≡ full (gate-file 1 0)
+  pub AND-0 : write-of (wired-and 4 0) 4 (0 ∷ []) [] ≡ full (gate-file 0 1)
+  pub AND-1 : write-of (wired-and 4 1) 4 (0 ∷ []) [] ≡ full (gate-file 1 1)
+  pub level-2 : (gate : ℕ) → write-of (network-with 4 2 gate) 4 (0 ∷ []) [] ≡ refused 17
+  pub level-256 : (gate : ℕ) → write-of (network-with 4 256 gate) 4 (0 ∷ []) [] ≡ refused 17
+  pub level-greatest : (gate : ℕ) → write-of (network-with 4 (2 ^ 64 - 1) gate) 4 (0 ∷ []) [] ≡ refused 17
+  pub gate-2-at-0 : write-of (network-with 4 0 2) 4 (0 ∷ []) [] ≡ refused 20
+  pub gate-2-at-1 : write-of (network-with 4 1 2) 4 (0 ∷ []) [] ≡ refused 20
+  pub gate-256 : write-of (network-with 4 1 256) 4 (0 ∷ []) [] ≡ refused 20
+  pub gate-greatest : write-of (network-with 4 1 (2 ^ 64 - 1)) 4 (0 ∷ []) [] ≡ refused 20
   -- row 7: vectors
   pub vectors-0 : write 4 4 [] [] ≡ refused 7
   pub vectors-64 : write 4 4 (replicate 64 0) [] ≡ full (long-body 0 2 (replicate 512 0))
@@ -268,18 +284,19 @@ pub record WriterBounds : Type 0 where
   pub response-below : write 4 4 (0 ∷ []) (15 ∷ []) ≡ full (job-file 4 4 (0 ∷ []) (15 ∷ []))
   pub response-at : write 4 4 (0 ∷ []) (16 ∷ []) ≡ refused 10
   -- row 12: the room, without responses and with them
-  pub room-33 : write-into 33 four 4 (0 ∷ []) [] ≡ refused 12
-  pub room-34 : write-into 34 four 4 (0 ∷ []) [] ≡ full one-vector
-  pub room-50 : write-into 50 four 4 (0 ∷ []) (0 ∷ []) ≡ refused 12
-  pub room-51 : write-into 51 four 4 (0 ∷ []) (0 ∷ []) ≡ full one-response
-  pub longest-short : write-into 1058 four 4 (replicate 64 0) (replicate 64 0) ≡ refused 12
-  pub longest : write-into 1059 four 4 (replicate 64 0) (replicate 64 0) ≡ full longest-file
-  -- two rows at once: the upper one
+  pub room-34 : write-into 34 four 4 (0 ∷ []) [] ≡ refused 12
+  pub room-35 : write-into 35 four 4 (0 ∷ []) [] ≡ full one-vector
+  pub room-51 : write-into 51 four 4 (0 ∷ []) (0 ∷ []) ≡ refused 12
+  pub room-52 : write-into 52 four 4 (0 ∷ []) (0 ∷ []) ≡ full one-response
+  pub longest-short : write-into 1059 four 4 (replicate 64 0) (replicate 64 0) ≡ refused 12
+  pub longest : write-into 1060 four 4 (replicate 64 0) (replicate 64 0) ≡ full longest-file
+  -- several rows at once: the uppermost
   pub rows-5-6 : write 1 4 (0 ∷ []) [] ≡ refused 5
-  pub rows-5-17 : write-of (network-with 1 2) 1 (0 ∷ []) [] ≡ refused 5
-  pub rows-6-17 : write-of (network-with 4 2) 0 (0 ∷ []) [] ≡ refused 6
+  pub rows-5-17-20 : (level gate : ℕ) → write-of (network-with 1 level gate) 1 (0 ∷ []) [] ≡ refused 5
+  pub rows-6-17-20 : (level gate : ℕ) → write-of (network-with 4 level gate) 0 (0 ∷ []) [] ≡ refused 6
   pub rows-6-7 : write 4 0 [] [] ≡ refused 6
-  pub rows-17-7 : write-of (network-with 4 2) 4 [] [] ≡ refused 17
+  pub rows-17-20-7 : (gate : ℕ) → write-of (network-with 4 2 gate) 4 [] [] ≡ refused 17
+  pub rows-20-7 : write-of (network-with 4 1 2) 4 [] [] ≡ refused 20
   pub rows-7-8 : write 4 4 (replicate 65 16) [] ≡ refused 7
   pub rows-8-9 : write 4 4 (16 ∷ []) (0 ∷ 0 ∷ []) ≡ refused 8
   pub rows-9-10 : write 4 4 (0 ∷ []) (16 ∷ 16 ∷ []) ≡ refused 9

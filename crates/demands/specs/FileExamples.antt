@@ -8,12 +8,11 @@ use mathlib.Core.List.{List, [], _∷_, _++_}
 use lib.ListN.{length}
 use Rattle.words.specs.Answers.{full}
 use Rattle.network.specs.declared.Network.{Network}
-use Rattle.network.specs.Reading.{network-of}
+use Rattle.network.specs.Reading.{network-with, wired-or, wired-and, network-of}
 use Rattle.reader.specs.Reader.{read-answer}
 use Rattle.writer.specs.Writer.{file-of}
 use Rattle.listing.specs.Report.{report}
 use Rattle.demands.specs.Starred.{two, four}
-use Rattle.demands.specs.LevelCases.{four-at-0}
 
 -- a text as bytes
 abbrev pub text : String → List ℕ
@@ -22,14 +21,15 @@ text (letter ∷ˢ rest) = code letter ∷ text rest
 
 -- ---- files: a line each for the mark with the number of entries, for an entry, for the nets body, and for a word
 
--- document 01's example, of soft level 1 as the next two: n = 4, k = 4, vectors 0 1 2 4 8, responses 4 7 7 4 12
+-- document 01's example, wired OR and soft level 1 as the next two: n = 4, k = 4, vectors 0 1 2 4 8, responses
+-- 4 7 7 4 12
 abbrev pub example-file : List ℕ
 example-file =
-    66 ∷ 83 ∷ 74 ∷ 50 ∷ 3 ∷ []
-    ++ 1 ∷ 32 ∷ 0 ∷ 0 ∷ 0 ∷ 3 ∷ 0 ∷ 0 ∷ 0 ∷ []
-    ++ 2 ∷ 35 ∷ 0 ∷ 0 ∷ 0 ∷ 40 ∷ 0 ∷ 0 ∷ 0 ∷ []
-    ++ 3 ∷ 75 ∷ 0 ∷ 0 ∷ 0 ∷ 40 ∷ 0 ∷ 0 ∷ 0 ∷ []
-    ++ 4 ∷ 4 ∷ 1 ∷ []
+    66 ∷ 83 ∷ 74 ∷ 51 ∷ 3 ∷ []
+    ++ 1 ∷ 32 ∷ 0 ∷ 0 ∷ 0 ∷ 4 ∷ 0 ∷ 0 ∷ 0 ∷ []
+    ++ 2 ∷ 36 ∷ 0 ∷ 0 ∷ 0 ∷ 40 ∷ 0 ∷ 0 ∷ 0 ∷ []
+    ++ 3 ∷ 76 ∷ 0 ∷ 0 ∷ 0 ∷ 40 ∷ 0 ∷ 0 ∷ 0 ∷ []
+    ++ 4 ∷ 4 ∷ 1 ∷ 0 ∷ []
     ++ 0 ∷ 0 ∷ 0 ∷ 0 ∷ 0 ∷ 0 ∷ 0 ∷ 0 ∷ []
     ++ 1 ∷ 0 ∷ 0 ∷ 0 ∷ 0 ∷ 0 ∷ 0 ∷ 0 ∷ []
     ++ 2 ∷ 0 ∷ 0 ∷ 0 ∷ 0 ∷ 0 ∷ 0 ∷ 0 ∷ []
@@ -44,11 +44,11 @@ example-file =
 -- both receivers reached by driver 1: n = 2, k = 2, vectors 0 1 2, and the responses 0 0 3 of the state 2 2
 abbrev pub both-file : List ℕ
 both-file =
-    66 ∷ 83 ∷ 74 ∷ 50 ∷ 3 ∷ []
-    ++ 1 ∷ 32 ∷ 0 ∷ 0 ∷ 0 ∷ 3 ∷ 0 ∷ 0 ∷ 0 ∷ []
-    ++ 2 ∷ 35 ∷ 0 ∷ 0 ∷ 0 ∷ 24 ∷ 0 ∷ 0 ∷ 0 ∷ []
-    ++ 3 ∷ 59 ∷ 0 ∷ 0 ∷ 0 ∷ 24 ∷ 0 ∷ 0 ∷ 0 ∷ []
-    ++ 2 ∷ 2 ∷ 1 ∷ []
+    66 ∷ 83 ∷ 74 ∷ 51 ∷ 3 ∷ []
+    ++ 1 ∷ 32 ∷ 0 ∷ 0 ∷ 0 ∷ 4 ∷ 0 ∷ 0 ∷ 0 ∷ []
+    ++ 2 ∷ 36 ∷ 0 ∷ 0 ∷ 0 ∷ 24 ∷ 0 ∷ 0 ∷ 0 ∷ []
+    ++ 3 ∷ 60 ∷ 0 ∷ 0 ∷ 0 ∷ 24 ∷ 0 ∷ 0 ∷ 0 ∷ []
+    ++ 2 ∷ 2 ∷ 1 ∷ 0 ∷ []
     ++ 0 ∷ 0 ∷ 0 ∷ 0 ∷ 0 ∷ 0 ∷ 0 ∷ 0 ∷ []
     ++ 1 ∷ 0 ∷ 0 ∷ 0 ∷ 0 ∷ 0 ∷ 0 ∷ 0 ∷ []
     ++ 2 ∷ 0 ∷ 0 ∷ 0 ∷ 0 ∷ 0 ∷ 0 ∷ 0 ∷ []
@@ -59,23 +59,23 @@ both-file =
 -- walking ones without vector 0, and no responses: n = 4, k = 4, vectors 1 2 4 8
 abbrev pub walking-file : List ℕ
 walking-file =
-    66 ∷ 83 ∷ 74 ∷ 50 ∷ 2 ∷ []
-    ++ 1 ∷ 23 ∷ 0 ∷ 0 ∷ 0 ∷ 3 ∷ 0 ∷ 0 ∷ 0 ∷ []
-    ++ 2 ∷ 26 ∷ 0 ∷ 0 ∷ 0 ∷ 32 ∷ 0 ∷ 0 ∷ 0 ∷ []
-    ++ 4 ∷ 4 ∷ 1 ∷ []
+    66 ∷ 83 ∷ 74 ∷ 51 ∷ 2 ∷ []
+    ++ 1 ∷ 23 ∷ 0 ∷ 0 ∷ 0 ∷ 4 ∷ 0 ∷ 0 ∷ 0 ∷ []
+    ++ 2 ∷ 27 ∷ 0 ∷ 0 ∷ 0 ∷ 32 ∷ 0 ∷ 0 ∷ 0 ∷ []
+    ++ 4 ∷ 4 ∷ 1 ∷ 0 ∷ []
     ++ 1 ∷ 0 ∷ 0 ∷ 0 ∷ 0 ∷ 0 ∷ 0 ∷ 0 ∷ []
     ++ 2 ∷ 0 ∷ 0 ∷ 0 ∷ 0 ∷ 0 ∷ 0 ∷ 0 ∷ []
     ++ 4 ∷ 0 ∷ 0 ∷ 0 ∷ 0 ∷ 0 ∷ 0 ∷ 0 ∷ []
     ++ 8 ∷ 0 ∷ 0 ∷ 0 ∷ 0 ∷ 0 ∷ 0 ∷ 0 ∷ []
 
--- soft level 0: n = 4, k = 4, the same vectors, and the responses 3 3 0 8 of the state 3 3 0 8
+-- wired OR and soft level 0: n = 4, k = 4, the same vectors, and the responses 3 3 0 8 of the state 3 3 0 8
 abbrev pub pulled-down-file : List ℕ
 pulled-down-file =
-    66 ∷ 83 ∷ 74 ∷ 50 ∷ 3 ∷ []
-    ++ 1 ∷ 32 ∷ 0 ∷ 0 ∷ 0 ∷ 3 ∷ 0 ∷ 0 ∷ 0 ∷ []
-    ++ 2 ∷ 35 ∷ 0 ∷ 0 ∷ 0 ∷ 32 ∷ 0 ∷ 0 ∷ 0 ∷ []
-    ++ 3 ∷ 67 ∷ 0 ∷ 0 ∷ 0 ∷ 32 ∷ 0 ∷ 0 ∷ 0 ∷ []
-    ++ 4 ∷ 4 ∷ 0 ∷ []
+    66 ∷ 83 ∷ 74 ∷ 51 ∷ 3 ∷ []
+    ++ 1 ∷ 32 ∷ 0 ∷ 0 ∷ 0 ∷ 4 ∷ 0 ∷ 0 ∷ 0 ∷ []
+    ++ 2 ∷ 36 ∷ 0 ∷ 0 ∷ 0 ∷ 32 ∷ 0 ∷ 0 ∷ 0 ∷ []
+    ++ 3 ∷ 68 ∷ 0 ∷ 0 ∷ 0 ∷ 32 ∷ 0 ∷ 0 ∷ 0 ∷ []
+    ++ 4 ∷ 4 ∷ 0 ∷ 0 ∷ []
     ++ 1 ∷ 0 ∷ 0 ∷ 0 ∷ 0 ∷ 0 ∷ 0 ∷ 0 ∷ []
     ++ 2 ∷ 0 ∷ 0 ∷ 0 ∷ 0 ∷ 0 ∷ 0 ∷ 0 ∷ []
     ++ 4 ∷ 0 ∷ 0 ∷ 0 ∷ 0 ∷ 0 ∷ 0 ∷ 0 ∷ []
@@ -85,21 +85,41 @@ pulled-down-file =
     ++ 0 ∷ 0 ∷ 0 ∷ 0 ∷ 0 ∷ 0 ∷ 0 ∷ 0 ∷ []
     ++ 8 ∷ 0 ∷ 0 ∷ 0 ∷ 0 ∷ 0 ∷ 0 ∷ 0 ∷ []
 
+-- a board of an old shelf, wired AND and soft level 0: n = 4, k = 4, all ones and the four vectors with a single 0, and
+-- the responses 11 8 8 11 3 of the same state
+abbrev pub old-shelf-file : List ℕ
+old-shelf-file =
+    66 ∷ 83 ∷ 74 ∷ 51 ∷ 3 ∷ []
+    ++ 1 ∷ 32 ∷ 0 ∷ 0 ∷ 0 ∷ 4 ∷ 0 ∷ 0 ∷ 0 ∷ []
+    ++ 2 ∷ 36 ∷ 0 ∷ 0 ∷ 0 ∷ 40 ∷ 0 ∷ 0 ∷ 0 ∷ []
+    ++ 3 ∷ 76 ∷ 0 ∷ 0 ∷ 0 ∷ 40 ∷ 0 ∷ 0 ∷ 0 ∷ []
+    ++ 4 ∷ 4 ∷ 0 ∷ 1 ∷ []
+    ++ 15 ∷ 0 ∷ 0 ∷ 0 ∷ 0 ∷ 0 ∷ 0 ∷ 0 ∷ []
+    ++ 14 ∷ 0 ∷ 0 ∷ 0 ∷ 0 ∷ 0 ∷ 0 ∷ 0 ∷ []
+    ++ 13 ∷ 0 ∷ 0 ∷ 0 ∷ 0 ∷ 0 ∷ 0 ∷ 0 ∷ []
+    ++ 11 ∷ 0 ∷ 0 ∷ 0 ∷ 0 ∷ 0 ∷ 0 ∷ 0 ∷ []
+    ++ 7 ∷ 0 ∷ 0 ∷ 0 ∷ 0 ∷ 0 ∷ 0 ∷ 0 ∷ []
+    ++ 11 ∷ 0 ∷ 0 ∷ 0 ∷ 0 ∷ 0 ∷ 0 ∷ 0 ∷ []
+    ++ 8 ∷ 0 ∷ 0 ∷ 0 ∷ 0 ∷ 0 ∷ 0 ∷ 0 ∷ []
+    ++ 8 ∷ 0 ∷ 0 ∷ 0 ∷ 0 ∷ 0 ∷ 0 ∷ 0 ∷ []
+    ++ 11 ∷ 0 ∷ 0 ∷ 0 ∷ 0 ∷ 0 ∷ 0 ∷ 0 ∷ []
+    ++ 3 ∷ 0 ∷ 0 ∷ 0 ∷ 0 ∷ 0 ∷ 0 ∷ 0 ∷ []
+
 -- ---- a short form for such files, whose bytes, words, offsets and lengths are below 256
 
 -- the mark and the number of entries
 abbrev pub start : ℕ → List ℕ
-start entries = text "BSJ2" ++ entries ∷ []
+start entries = text "BSJ3" ++ entries ∷ []
 
 abbrev pub entry : (kind offset size : ℕ) → List ℕ
 entry kind offset size = kind ∷ offset ∷ 0 ∷ 0 ∷ 0 ∷ size ∷ 0 ∷ 0 ∷ 0 ∷ []
 
 -- the nets body, and how many bytes it has
 abbrev pub nets-body : Network → ℕ → List ℕ
-nets-body net k = net .nets ∷ k ∷ net .level ∷ []
+nets-body net k = net .nets ∷ k ∷ net .level ∷ net .gate ∷ []
 
 abbrev pub nets-length : ℕ
-nets-length = 3
+nets-length = 4
 
 abbrev pub words : List ℕ → List ℕ
 words [] = []
@@ -127,7 +147,7 @@ abbrev pub set-file-of : Network → ℕ → List ℕ → List ℕ
 set-file-of net k vectors =
     start 2 ++ entry 1 23 nets-length ++ entry 2 after-two (8 * length vectors) ++ nets-body net k ++ words vectors
 
--- the same for n nets at soft level 1
+-- the same for n nets, wired OR and of soft level 1
 abbrev pub job-file : (n k : ℕ) → (vectors responses : List ℕ) → List ℕ
 job-file n k vectors responses = job-file-of (network-of n) k vectors responses
 
@@ -148,18 +168,29 @@ pub record FileExamples : Type 0 where
   -- without responses line one alone, here with a pair
   pub walking-bytes : file-of four 4 (1 ∷ 2 ∷ 4 ∷ 8 ∷ []) [] ≡ walking-file
   pub walking-report : report walking-file ≡ text "pair 4 4 4 0 15\n"
-  -- soft level 0: the set passes without vector 0, and a line says of each net what the example says of it
-  pub pulled-down-bytes : file-of four-at-0 4 (1 ∷ 2 ∷ 4 ∷ 8 ∷ []) (3 ∷ 3 ∷ 0 ∷ 8 ∷ []) ≡ pulled-down-file
+  -- wired OR and soft level 0: the set passes without vector 0, and a line says of each net what the example says of it
+  pub pulled-down-bytes : file-of (wired-or 4 0) 4 (1 ∷ 2 ∷ 4 ∷ 8 ∷ []) (3 ∷ 3 ∷ 0 ∷ 8 ∷ []) ≡ pulled-down-file
   pub pulled-down-report : report pulled-down-file ≡ text "pass 4 4 4\n0 2 3 2\n1 2 3 1\n2 1 0 0\n3 0 8 0\n"
+  -- wired AND and soft level 0: the set passes, and a line says of each net the same again
+  pub old-shelf-bytes : file-of (wired-and 4 0) 4 (15 ∷ 14 ∷ 13 ∷ 11 ∷ 7 ∷ []) (11 ∷ 8 ∷ 8 ∷ 11 ∷ 3 ∷ []) ≡ old-shelf-file
+  pub old-shelf-content : read-answer old-shelf-file 5 5
+      ≡ full
+      (record { network = wired-and 4 0; class = 4; vectors = 15 ∷ 14 ∷ 13 ∷ 11 ∷ 7 ∷ []; responses = 11 ∷ 8 ∷ 8 ∷ 11 ∷ 3 ∷ [] })
+  pub old-shelf-report : report old-shelf-file ≡ text "pass 4 4 5\n0 2 3 2\n1 2 3 1\n2 1 0 0\n3 0 8 0\n"
+  -- without all ones it does not pass there, and does at soft level 1
+  pub no-ones-report : report (set-file-of (wired-and 4 0) 4 (14 ∷ 13 ∷ 11 ∷ 7 ∷ [])) ≡ text "pair 4 4 4 0 15\n"
+  pub no-ones-needed-report : report (set-file-of (wired-and 4 1) 4 (14 ∷ 13 ∷ 11 ∷ 7 ∷ [])) ≡ text "pass 4 4 4\n"
   -- line one, then a refusal
   pub not-passed-report : report (job-file 4 4 (1 ∷ 2 ∷ 4 ∷ 8 ∷ []) (7 ∷ 7 ∷ 4 ∷ 12 ∷ [])) ≡ text "pair 4 4 4 0 15\nrefused 13\n"
   pub no-state-report : report (job-file 4 4 (0 ∷ 1 ∷ 2 ∷ 4 ∷ 8 ∷ []) (4 ∷ 7 ∷ 7 ∷ 4 ∷ 4 ∷ [])) ≡ text "pass 4 4 5\nrefused 14\n"
   -- a refusal alone
   pub empty-report : report [] ≡ text "refused 1\n"
   pub high-response-report : report (job-file 4 4 (0 ∷ []) (16 ∷ [])) ≡ text "refused 10\n"
+  pub no-gate-report : report (set-file-of (network-with 4 1 2) 4 (0 ∷ [])) ≡ text "refused 20\n"
   -- the short form gives the files above
   pub example-short : job-file 4 4 (0 ∷ 1 ∷ 2 ∷ 4 ∷ 8 ∷ []) (4 ∷ 7 ∷ 7 ∷ 4 ∷ 12 ∷ []) ≡ example-file
-  pub pulled-down-short : job-file-of four-at-0 4 (1 ∷ 2 ∷ 4 ∷ 8 ∷ []) (3 ∷ 3 ∷ 0 ∷ 8 ∷ []) ≡ pulled-down-file
+  pub pulled-down-short : job-file-of (wired-or 4 0) 4 (1 ∷ 2 ∷ 4 ∷ 8 ∷ []) (3 ∷ 3 ∷ 0 ∷ 8 ∷ []) ≡ pulled-down-file
+  pub old-shelf-short : job-file-of (wired-and 4 0) 4 (15 ∷ 14 ∷ 13 ∷ 11 ∷ 7 ∷ []) (11 ∷ 8 ∷ 8 ∷ 11 ∷ 3 ∷ []) ≡ old-shelf-file
   pub walking-short : set-file 4 4 (1 ∷ 2 ∷ 4 ∷ 8 ∷ []) ≡ walking-file
   -- and texts are bytes so
   pub text-bytes : text "pass 4 4 5\n" ≡ 112 ∷ 97 ∷ 115 ∷ 115 ∷ 32 ∷ 52 ∷ 32 ∷ 52 ∷ 32 ∷ 53 ∷ 10 ∷ []

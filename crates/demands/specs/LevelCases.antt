@@ -1,6 +1,6 @@
--- Document 02's soft level: cases of level 0 worked out from the paper, what the level changes and what it does not,
--- and both sides of each bound of row 17 in the calls that take a network. The reader's and the writer's are in
--- FileBounds.antt.
+-- Document 02's soft level: cases of level 0 worked out from the paper, at the gate OR, what the level changes and what
+-- it does not, and both sides of each bound of row 17 in the calls that take a network. The reader's and the writer's
+-- are in FileBounds.antt, and the gate's in GateCases.antt.
 use Prim.Native.Nat.{ℕ, _-_, _^_, _≤_}
 use mathlib.Core.Path.{_≡_}
 use mathlib.Core.Logic.{_≢_}
@@ -9,7 +9,7 @@ use mathlib.Core.List.{List, [], _∷_, _++_}
 use lib.ListN.{replicate}
 use Rattle.words.specs.Answers.{refused, full}
 use Rattle.network.specs.declared.Network.{Network}
-use Rattle.network.specs.Reading.{network-with, network-of, extra-vectors, reads}
+use Rattle.network.specs.Reading.{network-with, wired-or, network-of, extra-vectors, reads}
 use Rattle.network.specs.Rows.{Row17}
 use Rattle.network.specs.Respond.{response-answer}
 use Rattle.checker.specs.declared.Verdict.the-variants.{Pass, Pair}
@@ -26,10 +26,10 @@ use Rattle.demands.specs.Starred.{junk, answers-to}
 
 -- two nets and four nets that float to 0
 abbrev pub two-at-0 : Network
-two-at-0 = network-with 2 0
+two-at-0 = wired-or 2 0
 
 abbrev pub four-at-0 : Network
-four-at-0 = network-with 4 0
+four-at-0 = wired-or 4 0
 
 -- walking ones with vector 0, and the state of document 01's cases
 abbrev pub walking : List ℕ
@@ -41,8 +41,8 @@ broken = 3 ∷ 3 ∷ 0 ∷ 8 ∷ []
 -- a session at level 0 over that state, with refused calls before and between
 abbrev pub calls-at-0 : List Call
 calls-at-0 =
-    begin (network-with 49 2) (9 ∷ 9 ∷ 9 ∷ 9 ∷ [])
-    ∷ begin (network-with 4 2) (9 ∷ 9 ∷ 9 ∷ [])
+    begin (wired-or 49 2) (9 ∷ 9 ∷ 9 ∷ 9 ∷ [])
+    ∷ begin (wired-or 4 2) (9 ∷ 9 ∷ 9 ∷ [])
     ∷ begin four-at-0 (9 ∷ 9 ∷ 9 ∷ [])
     ∷ begin four-at-0 (9 ∷ 9 ∷ 9 ∷ 9 ∷ [])
     ∷ first (11 ∷ 3 ∷ 3 ∷ 8 ∷ []) (9 ∷ 9 ∷ [])
@@ -54,14 +54,14 @@ calls-at-0 =
 -- ---- what the level changes
 
 pub record LevelCases : Type 0 where
-  -- a floating receiver reads the level, whatever is driven; any other reads the same at each level
-  pub floats-to-0 : (n vector : ℕ) → reads (network-with n 0) 0 vector ≡ false
-  pub floats-to-1 : (n vector : ℕ) → reads (network-with n 1) 0 vector ≡ true
-  pub driven-alike : (n level other reach vector : ℕ) → reach ≢ 0
-      → reads (network-with n level) reach vector ≡ reads (network-with n other) reach vector
+  -- a floating receiver reads the level, whatever is driven and the gate; any other reads the same at each level
+  pub floats-to-0 : (n gate vector : ℕ) → reads (network-with n 0 gate) 0 vector ≡ false
+  pub floats-to-1 : (n gate vector : ℕ) → reads (network-with n 1 gate) 0 vector ≡ true
+  pub driven-alike : (n level other gate reach vector : ℕ) → reach ≢ 0
+      → reads (network-with n level gate) reach vector ≡ reads (network-with n other gate) reach vector
   -- the extra vector is vector 0, and level 0 has none
-  pub extra-at-1 : (n : ℕ) → extra-vectors (network-with n 1) ≡ 0 ∷ []
-  pub extra-at-0 : (n : ℕ) → extra-vectors (network-with n 0) ≡ []
+  pub extra-at-1 : (n : ℕ) → extra-vectors (wired-or n 1) ≡ 0 ∷ []
+  pub extra-at-0 : (n : ℕ) → extra-vectors (wired-or n 0) ≡ []
   -- walking ones: vector 0 is not asked for, and does no harm; the vector of net 3 is
   pub walking-alone : check-answer four-at-0 4 (1 ∷ 2 ∷ 4 ∷ 8 ∷ []) ≡ full Pass
   pub walking-with-0 : check-answer four-at-0 4 walking ≡ full Pass
@@ -100,37 +100,37 @@ pub record LevelCases : Type 0 where
   pub driven-at-0 : to-drive (awaiting-second two-at-0 (0 ∷ 0 ∷ [])) (7 ∷ []) (1 ∷ 2 ∷ 9 ∷ []) ≡ 1 ∷ 2 ∷ []
   pub driven-at-1 : to-drive (awaiting-second (network-of 2) (3 ∷ 3 ∷ [])) (7 ∷ []) (0 ∷ 1 ∷ 2 ∷ 9 ∷ []) ≡ 0 ∷ 1 ∷ 2 ∷ []
   -- row 17: 0 and 1 alone are levels
-  pub level-0 : (n : ℕ) → ¬ (Row17 (network-with n 0))
-  pub level-1 : (n : ℕ) → ¬ (Row17 (network-with n 1))
-  pub no-other-level : (n level : ℕ) → 2 ≤ level → Row17 (network-with n level)
+  pub level-0 : (n gate : ℕ) → ¬ (Row17 (network-with n 0 gate))
+  pub level-1 : (n gate : ℕ) → ¬ (Row17 (network-with n 1 gate))
+  pub no-other-level : (n level gate : ℕ) → 2 ≤ level → Row17 (network-with n level gate)
   -- in the calls: level 2, and the greatest number
-  pub check-2 : check-answer (network-with 4 2) 4 walking ≡ refused 17
-  pub check-greatest : check-answer (network-with 4 (2 ^ 64 - 1)) 4 walking ≡ refused 17
-  pub respond-2 : response-answer (network-with 4 2) 4 walking broken 5 ≡ refused 17
-  pub diagnose-2 : diagnosis-answer (network-with 4 2) 4 walking (0 ∷ 3 ∷ 3 ∷ 0 ∷ 8 ∷ []) 4 ≡ refused 17
+  pub check-2 : check-answer (wired-or 4 2) 4 walking ≡ refused 17
+  pub check-greatest : check-answer (wired-or 4 (2 ^ 64 - 1)) 4 walking ≡ refused 17
+  pub respond-2 : response-answer (wired-or 4 2) 4 walking broken 5 ≡ refused 17
+  pub diagnose-2 : diagnosis-answer (wired-or 4 2) 4 walking (0 ∷ 3 ∷ 3 ∷ 0 ∷ 8 ∷ []) 4 ≡ refused 17
   pub find-0 : findings-answer two-at-0 (1 ∷ 0 ∷ []) 2
       ≡ full (record { kind = 0; reach = 1; partners = 0 } ∷ record { kind = 1; reach = 0; partners = 0 } ∷ [])
   pub find-1 : findings-answer (network-of 2) (1 ∷ 0 ∷ []) 2 ≡ findings-answer two-at-0 (1 ∷ 0 ∷ []) 2
-  pub find-2 : findings-answer (network-with 2 2) (1 ∷ 0 ∷ []) 2 ≡ refused 17
+  pub find-2 : findings-answer (wired-or 2 2) (1 ∷ 0 ∷ []) 2 ≡ refused 17
   pub begin-0 : begin-answer two-at-0 2 ≡ full (1 ∷ 2 ∷ [])
-  pub begin-2 : begin-answer (network-with 2 2) 2 ≡ refused 17
+  pub begin-2 : begin-answer (wired-or 2 2) 2 ≡ refused 17
   -- its place: after 5 and 6, before 7, 11 and 12
-  pub five-first : check-answer (network-with 49 2) 49 walking ≡ refused 5
-  pub six-first : check-answer (network-with 5 2) 4 walking ≡ refused 6
-  pub before-7 : check-answer (network-with 4 2) 4 [] ≡ refused 17
-  pub find-five-first : findings-answer (network-with 49 2) [] 0 ≡ refused 5
-  pub find-before-11 : findings-answer (network-with 2 2) (3 ∷ 1 ∷ []) 0 ≡ refused 17
-  pub begin-five-first : begin-answer (network-with 49 2) 0 ≡ refused 5
-  pub begin-before-12 : begin-answer (network-with 2 2) 0 ≡ refused 17
+  pub five-first : check-answer (wired-or 49 2) 49 walking ≡ refused 5
+  pub six-first : check-answer (wired-or 5 2) 4 walking ≡ refused 6
+  pub before-7 : check-answer (wired-or 4 2) 4 [] ≡ refused 17
+  pub find-five-first : findings-answer (wired-or 49 2) [] 0 ≡ refused 5
+  pub find-before-11 : findings-answer (wired-or 2 2) (3 ∷ 1 ∷ []) 0 ≡ refused 17
+  pub begin-five-first : begin-answer (wired-or 49 2) 0 ≡ refused 5
+  pub begin-before-12 : begin-answer (wired-or 2 2) 0 ≡ refused 17
   -- row 4: no accepted calls leave a record of another level
   pub record-first-0 : first-answer (awaiting-first two-at-0) (0 ∷ 0 ∷ []) 2 ≡ full (1 ∷ 2 ∷ [])
-  pub record-first-2 : first-answer (awaiting-first (network-with 2 2)) (0 ∷ 0 ∷ []) 2 ≡ refused 4
+  pub record-first-2 : first-answer (awaiting-first (wired-or 2 2)) (0 ∷ 0 ∷ []) 2 ≡ refused 4
   pub record-second-0 : second-answer (awaiting-second two-at-0 (0 ∷ 0 ∷ [])) (0 ∷ 0 ∷ []) ≡ full []
-  pub record-second-2 : second-answer (awaiting-second (network-with 2 2) (0 ∷ 0 ∷ [])) (0 ∷ 0 ∷ []) ≡ refused 4
-  pub record-drive-2 : to-drive (awaiting-second (network-with 2 2) (0 ∷ 0 ∷ [])) (7 ∷ []) (1 ∷ 2 ∷ 9 ∷ []) ≡ []
-  -- through C: a session's words begin with step, nets and level, and a job's with nets, level and class
-  pub begun-words : session-words (awaiting-first (network-with 48 0)) ≡ 1 ∷ 48 ∷ 0 ∷ replicate 57 0
-  pub waiting-words : session-words (awaiting-second two-at-0 (3 ∷ 2 ∷ [])) ≡ 2 ∷ 2 ∷ 0 ∷ 3 ∷ 2 ∷ replicate 55 0
-  pub finished-words : session-words (finished four-at-0 broken 7) ≡ 3 ∷ 4 ∷ 0 ∷ replicate 8 0 ++ broken ++ replicate 44 0 ++ 7 ∷ []
+  pub record-second-2 : second-answer (awaiting-second (wired-or 2 2) (0 ∷ 0 ∷ [])) (0 ∷ 0 ∷ []) ≡ refused 4
+  pub record-drive-2 : to-drive (awaiting-second (wired-or 2 2) (0 ∷ 0 ∷ [])) (7 ∷ []) (1 ∷ 2 ∷ 9 ∷ []) ≡ []
+  -- through C: a session's words begin with step, nets, level and gate, and a job's with nets, level, gate and class
+  pub begun-words : session-words (awaiting-first (wired-or 48 0)) ≡ 1 ∷ 48 ∷ 0 ∷ 0 ∷ replicate 57 0
+  pub waiting-words : session-words (awaiting-second two-at-0 (3 ∷ 2 ∷ [])) ≡ 2 ∷ 2 ∷ 0 ∷ 0 ∷ 3 ∷ 2 ∷ replicate 55 0
+  pub finished-words : session-words (finished four-at-0 broken 7) ≡ 3 ∷ 4 ∷ 0 ∷ 0 ∷ replicate 8 0 ++ broken ++ replicate 44 0 ++ 7 ∷ []
   pub words-of-a-job : job-words (record { network = four-at-0; class = 2; vectors = walking; responses = 0 ∷ 3 ∷ 3 ∷ [] })
-      ≡ 4 ∷ 0 ∷ 2 ∷ 5 ∷ 3 ∷ []
+      ≡ 4 ∷ 0 ∷ 0 ∷ 2 ∷ 5 ∷ 3 ∷ []

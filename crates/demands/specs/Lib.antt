@@ -13,6 +13,7 @@ pub mod Refuted
 pub mod Starred
 pub mod Boundary
 pub mod LevelCases
+pub mod GateCases
 pub mod PartnerCases
 pub mod FileExamples
 pub mod FileBounds

@@ -13,22 +13,22 @@ use Rattle.words.specs.Bits.{has, at}
 use Rattle.words.proofs.Tests.{cases, contrary, or-false, or-cases, or-right, same-truth}
 use Rattle.words.proofs.Bits.{words-equal, has-zero, has-power, has-without, has-or}
 use Rattle.network.specs.declared.Network.{Network}
-use Rattle.network.specs.Reading.{walking-vector, extra-vector, needs-extra, reads}
-use Rattle.network.proofs.Reading.{active, active-soft, reads-floating, reads-walking, reads-walking-all, reads-extra, active-answers}
+use Rattle.network.specs.Reading.{active, walking-vector, extra-vector, needs-extra, reads}
+use Rattle.network.proofs.Reading.{active-soft, reads-floating, reads-walking, reads-walking-all, reads-extra, active-answers}
 use Rattle.network.proofs.Walking.{Names}
 use Rattle.checker.specs.declared.Verdict.the-variants.{Pass}
 use Rattle.checker.specs.Rule.{FullRule, Rule}
 use Rattle.checker.specs.Seen.{OnlyAnswer}
-use Rattle.diagnosis.specs.Walking.{Gathered, Walked}
+use Rattle.diagnosis.specs.Walking.{active-answer, Gathered, Walked}
 
-module _ (net : Network) (vectors : List ℕ) (answered : ℕ) where
-  -- what is gathered while the answers of 1 in `rest` are still to be looked at
+module _ (net : Network) (vectors : List ℕ) (bits : ℕ) where
+  -- what is gathered while the active answers in `rest` are still to be looked at; all of them are the bits
   pub record Gathering (rest reach : ℕ) : Type 0 where
     pub seen : ℕ
-    pub parts : (u : ℕ) → has answered u ≡ has seen u || has rest u
-    pub so-far : Gathered net vectors seen (length vectors) reach
+    pub parts : (u : ℕ) → has bits u ≡ has seen u || has rest u
+    pub so-far : Gathered net vectors (has seen) (length vectors) reach
 
-  pub gathering-first : Gathering answered 0
+  pub gathering-first : Gathering bits 0
   gathering-first = record {
     seen = 0;
     parts = λ u. rw (has-zero u);
@@ -66,7 +66,7 @@ module _ (net : Network) (vectors : List ℕ) (answered : ℕ) where
     };
   }
     where
-      g : Gathered net vectors (w .seen) (length vectors) reach
+      g : Gathered net vectors (has (w .seen)) (length vectors) reach
       g = w .so-far
 
       now-seen : (u : ℕ) → has (bitOr (w .seen) (2 ^ t)) u ≡ has (w .seen) u || eqb t u
@@ -82,34 +82,37 @@ module _ (net : Network) (vectors : List ℕ) (answered : ℕ) where
           (r .0, r .1, r .2, now-seen (r .0) ∙ ap (λ (b : Bool). b || eqb t (r .0)) (r .3))
       from j l (inr e) = (t, lt, names j l .0 e, now-seen t ∙ or-right (has (w .seen) t) (eqb t t) (eq-eqb t t refl))
 
-  -- no answer of 1 is left
-  pub gathering-last : (rest reach : ℕ) → Gathering rest reach → ((u : ℕ) → u < length vectors → has rest u ≡ false)
-      → Gathered net vectors answered (length vectors) reach
-  gathering-last rest reach w none = record {
+  -- none is left
+  pub gathering-last : (answered rest reach : ℕ) → ((u : ℕ) → u < length vectors → has bits u ≡ active-answer net answered u)
+      → Gathering rest reach → ((u : ℕ) → u < length vectors → has rest u ≡ false)
+      → Gathered net vectors (active-answer net answered) (length vectors) reach
+  gathering-last answered rest reach shown w none = record {
     inside = g .inside;
     driven = λ u l e. g .driven u l (sym (same u l) ∙ e);
     sound = λ j l e. let r = g .sound j l e in (r .0, r .1, r .2, same (r .0) (r .1) ∙ r .3);
     complete = λ j u l m v e. g .complete j u l m v (sym (same u m) ∙ e);
   }
     where
-      g : Gathered net vectors (w .seen) (length vectors) reach
+      g : Gathered net vectors (has (w .seen)) (length vectors) reach
       g = w .so-far
 
-      same : (u : ℕ) → u < length vectors → has answered u ≡ has (w .seen) u
-      same u l = w .parts u ∙ ap (λ (b : Bool). has (w .seen) u || b) (none u l) ∙ or-false (has (w .seen) u)
+      same : (u : ℕ) → u < length vectors → active-answer net answered u ≡ has (w .seen) u
+      same u l = sym (shown u l) ∙ w .parts u ∙ ap (λ (b : Bool). has (w .seen) u || b) (none u l) ∙ or-false (has (w .seen) u)
 
-  -- a set whose active readings are the answers of 1
+module _ (net : Network) (vectors : List ℕ) (answered : ℕ) where
+  -- a set whose active readings are the active answers
   abbrev pub ActiveAnswers : ℕ → Type 0
-  ActiveAnswers set = (t : ℕ) → t < length vectors → active net (reads net set (at vectors t)) ≡ has answered t
+  ActiveAnswers set = (t : ℕ) → t < length vectors → active net (reads net set (at vectors t)) ≡ active-answer net answered t
 
   -- is the one shown, if the extra vector, where there is one, and the walking vectors of its drivers are there
   module _ (set reach : ℕ) (answers : ActiveAnswers set) (inside : set < 2 ^ (net .nets))
       (extra : needs-extra net ≡ true → (t : ℕ) × (t < length vectors) × (at vectors t ≡ extra-vector net))
       (walking : (j : ℕ) → j < net .nets → has set j ≡ true → (t : ℕ) × (t < length vectors) × (at vectors t ≡ walking-vector net j)) where
-    answer-to : (t word : ℕ) → t < length vectors → at vectors t ≡ word → has answered t ≡ active net (reads net set word)
+    answer-to : (t word : ℕ) → t < length vectors → at vectors t ≡ word
+        → active-answer net answered t ≡ active net (reads net set word)
     answer-to t word l e = sym (answers t l) ∙ ap (λ (v : ℕ). active net (reads net set v)) e
 
-    gathered-is : Gathered net vectors answered (length vectors) reach → set ≡ reach
+    gathered-is : Gathered net vectors (active-answer net answered) (length vectors) reach → set ≡ reach
     gathered-is g =
         words-equal (net .nets) set reach inside (g .inside)
         (λ j l. same-truth (has set j) (has reach j) (λ e. to j l e (walking j l e)) (λ e. back j l (g .sound j l e)))
@@ -124,7 +127,8 @@ module _ (net : Network) (vectors : List ℕ) (answered : ℕ) where
         shown : (j : ℕ) → j < net .nets → active net (reads net set (walking-vector net j)) ≡ has set j
         shown j l = ⊎-elim (λ s. reads-walking net set j l (driven s)) (λ s. reads-walking-all net s set j l) (cases (needs-extra net))
 
-        at-walking : (j u : ℕ) → j < net .nets → u < length vectors → at vectors u ≡ walking-vector net j → has answered u ≡ has set j
+        at-walking : (j u : ℕ) → j < net .nets → u < length vectors → at vectors u ≡ walking-vector net j
+            → active-answer net answered u ≡ has set j
         at-walking j u l m w = answer-to u _ m w ∙ shown j l
 
         to : (j : ℕ) → j < net .nets → has set j ≡ true
@@ -132,7 +136,7 @@ module _ (net : Network) (vectors : List ℕ) (answered : ℕ) where
         to j l e (t, m, w) = g .complete j t l m w (at-walking j t l m w ∙ e)
 
         back : (j : ℕ) → j < net .nets
-            → (u : ℕ) × (u < length vectors) × (at vectors u ≡ walking-vector net j) × (has answered u ≡ true)
+            → (u : ℕ) × (u < length vectors) × (at vectors u ≡ walking-vector net j) × (active-answer net answered u ≡ true)
             → has set j ≡ true
         back j l (u, m, w, e) = sym (at-walking j u l m w) ∙ e
 

@@ -1,4 +1,4 @@
--- The call *diagnosis*: rows 5, 6, 17, 7, 8, 9, 10, 12, 13, 14, then the state.
+-- The call *diagnosis*: rows 5, 6, 17, 20, 7, 8, 9, 10, 12, 13, 14, then the state.
 use Prim.Native.Nat.{ℕ}
 use mathlib.Core.Bool.{Bool, true, false}
 use mathlib.Core.List.{List, [], _∷_, _++_}

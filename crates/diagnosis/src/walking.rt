@@ -11,15 +11,15 @@ ghost use Rattle.diagnosis.specs.Walking.{Walked};
 use network::Network;
 use words::Stv;
 
-// The drivers whose walking vectors the receiver answered with 1, or none if it answered so to the extra vector. Only
-// the answers of 1 are gone through.
+// The drivers whose walking vectors the receiver answered with the gate's active value, or none if it answered so to the
+// extra vector. Only such answers are gone through.
 pub fn walking_reach(net: Network, vectors: &[u64], answered: Stv) -> u64
     requires { ⌜ (net .nets ≤ 48) × (length (now vectors) ≤ 64) ⌝ }
     ensures { λ r. ⌜ Walked net (now (vectors .entry)) (answered .0) r ⌝ }
 {
     let count = vectors.len() as u64;
     let mut reach: u64 = 0;
-    let mut rest = answered.0;
+    let mut rest = network::drivers::active_bits(net, answered.0, count);
     let mut t = words::sets::lowest_net(rest);
     while t < count {
         let vector = vectors[t as usize];

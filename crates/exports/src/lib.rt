@@ -22,23 +22,25 @@ use network::Responded;
 use reader::ReadJob;
 use writer::Wrote;
 
-// The call *check*. The verdict's 3 words: 0 0 0 for pass, or 1 and the pair. Rows 5, 6, 17, 7, 8.
+// The call *check*. The verdict's 3 words: 0 0 0 for pass, or 1 and the pair. Rows 5, 6, 17, 20, 7, 8.
 #[no_mangle]
 pub extern "C" fn fontarelga_check(
     nets: u64,
     level: u64,
+    gate: u64,
     class: u64,
     vectors: &[u64],
     verdict: &mut [u64; 3],
 ) -> u64
-    ensures answer { λ r. ⌜ r ≡ code (check-answer (network-with nets level) class (now (vectors .entry))) ⌝ }
+    ensures answer { λ r. ⌜ r ≡ code (check-answer (network-with nets level gate) class (now (vectors .entry))) ⌝ }
     ensures verdict { λ r. ⌜ now (verdict .exit)
-        ≡ fixed-after (in-words verdict-words (check-answer (network-with nets level) class (now (vectors .entry))))
+        ≡ fixed-after (in-words verdict-words (check-answer (network-with nets level gate) class (now (vectors .entry))))
         (now (verdict .entry)) ⌝ }
 {
     let net = Network {
         nets: nets,
         level: level,
+        gate: gate,
     };
     match checker::check(net, class, vectors) {
         Checked::Pass => {
@@ -53,27 +55,29 @@ pub extern "C" fn fontarelga_check(
     }
 }
 
-// The call *response from a state*: one response word a vector into the front of `response`. Rows 5, 6, 17, 7, 8, 11,
-// 12.
+// The call *response from a state*: one response word a vector into the front of `response`. Rows 5, 6, 17, 20, 7, 8,
+// 11, 12.
 #[no_mangle]
 pub extern "C" fn fontarelga_respond(
     nets: u64,
     level: u64,
+    gate: u64,
     class: u64,
     vectors: &[u64],
     state: &[u64],
     response: &mut [u64],
 ) -> u64
     ensures answer { λ r. ⌜ r
-        ≡ code (response-answer (network-with nets level) class (now (vectors .entry)) (now (state .entry))
+        ≡ code (response-answer (network-with nets level gate) class (now (vectors .entry)) (now (state .entry))
         (length (now (response .entry)))) ⌝ }
     ensures response { λ r. ⌜ now (response .exit)
-        ≡ lent-after (response-answer (network-with nets level) class (now (vectors .entry)) (now (state .entry))
+        ≡ lent-after (response-answer (network-with nets level gate) class (now (vectors .entry)) (now (state .entry))
         (length (now (response .entry)))) (now (response .entry)) ⌝ }
 {
     let net = Network {
         nets: nets,
         level: level,
+        gate: gate,
     };
     match network::response_from_state(net, class, vectors, state, response) {
         Responded::Wrote(_) => 0,
@@ -81,27 +85,29 @@ pub extern "C" fn fontarelga_respond(
     }
 }
 
-// The call *diagnosis*: the state that gave the responses, into the front of `state`. Rows 5, 6, 17, 7, 8, 9, 10,
-// 12, 13, 14.
+// The call *diagnosis*: the state that gave the responses, into the front of `state`. Rows 5, 6, 17, 20, 7, 8, 9,
+// 10, 12, 13, 14.
 #[no_mangle]
 pub extern "C" fn fontarelga_diagnose(
     nets: u64,
     level: u64,
+    gate: u64,
     class: u64,
     vectors: &[u64],
     responses: &[u64],
     state: &mut [u64],
 ) -> u64
     ensures answer { λ r. ⌜ r
-        ≡ code (diagnosis-answer (network-with nets level) class (now (vectors .entry)) (now (responses .entry))
+        ≡ code (diagnosis-answer (network-with nets level gate) class (now (vectors .entry)) (now (responses .entry))
         (length (now (state .entry)))) ⌝ }
     ensures state { λ r. ⌜ now (state .exit)
-        ≡ lent-after (diagnosis-answer (network-with nets level) class (now (vectors .entry)) (now (responses .entry))
+        ≡ lent-after (diagnosis-answer (network-with nets level gate) class (now (vectors .entry)) (now (responses .entry))
         (length (now (state .entry)))) (now (state .entry)) ⌝ }
 {
     let net = Network {
         nets: nets,
         level: level,
+        gate: gate,
     };
     match diagnosis::diagnose(net, class, vectors, responses, state) {
         Diagnosed::Wrote(_) => 0,
@@ -109,23 +115,25 @@ pub extern "C" fn fontarelga_diagnose(
     }
 }
 
-// The call *findings*: kind, reach and partners of each net into the front of `table`. Rows 5, 17, 11 with k = n,
-// and 12.
+// The call *findings*: kind, reach and partners of each net into the front of `table`. Rows 5, 17, 20, 11 with
+// k = n, and 12.
 #[no_mangle]
 pub extern "C" fn fontarelga_findings(
     nets: u64,
     level: u64,
+    gate: u64,
     state: &[u64],
     table: &mut [u64],
 ) -> u64
-    ensures answer { λ r. ⌜ r ≡ code (findings-exported (network-with nets level) (now (state .entry)) (length (now (table .entry)))) ⌝ }
+    ensures answer { λ r. ⌜ r ≡ code (findings-exported (network-with nets level gate) (now (state .entry)) (length (now (table .entry)))) ⌝ }
     ensures table { λ r. ⌜ now (table .exit)
         ≡ lent-after (in-words finding-words
-        (findings-exported (network-with nets level) (now (state .entry)) (length (now (table .entry))))) (now (table .entry)) ⌝ }
+        (findings-exported (network-with nets level gate) (now (state .entry)) (length (now (table .entry))))) (now (table .entry)) ⌝ }
 {
     let net = Network {
         nets: nets,
         level: level,
+        gate: gate,
     };
     let done = findings::by_value(net, state);
     if done.code != 0 {
@@ -140,25 +148,27 @@ pub extern "C" fn fontarelga_findings(
     0
 }
 
-// The call *begin*: the vectors of step one into the front of `first`. Rows 5, 17 and 12.
+// The call *begin*: the vectors of step one into the front of `first`. Rows 5, 17, 20 and 12.
 #[no_mangle]
 pub extern "C" fn fontarelga_begin(
-    session: &mut [u64; 60],
+    session: &mut [u64; 61],
     nets: u64,
     level: u64,
+    gate: u64,
     first: &mut [u64],
 ) -> u64
-    ensures answer { λ r. ⌜ r ≡ code (begin-answer (network-with nets level) (length (now (first .entry)))) ⌝ }
+    ensures answer { λ r. ⌜ r ≡ code (begin-answer (network-with nets level gate) (length (now (first .entry)))) ⌝ }
     ensures session { λ r. ⌜ now (session .exit)
-        ≡ fixed-after (session-begun (now (session .entry)) (network-with nets level) (length (now (first .entry))))
+        ≡ fixed-after (session-begun (now (session .entry)) (network-with nets level gate) (length (now (first .entry))))
         (now (session .entry)) ⌝ }
     ensures first { λ r. ⌜ now (first .exit)
-        ≡ lent-after (begin-answer (network-with nets level) (length (now (first .entry)))) (now (first .entry)) ⌝ }
+        ≡ lent-after (begin-answer (network-with nets level gate) (length (now (first .entry)))) (now (first .entry)) ⌝ }
 {
     let held = packing::record::session_of(session);
     let net = Network {
         nets: nets,
         level: level,
+        gate: gate,
     };
     let done = session::by_value::begin(held, net, first);
     let words = packing::record::words_of(done.session);
@@ -170,7 +180,7 @@ pub extern "C" fn fontarelga_begin(
 // 12.
 #[no_mangle]
 pub extern "C" fn fontarelga_first_answers(
-    session: &mut [u64; 60],
+    session: &mut [u64; 61],
     answers: &[u64],
     second: &mut [u64],
 ) -> u64
@@ -193,7 +203,7 @@ pub extern "C" fn fontarelga_first_answers(
 
 // The call *second answers*: the only state that fits both steps, into the session. Rows 4, 9, 10 and 14.
 #[no_mangle]
-pub extern "C" fn fontarelga_second_answers(session: &mut [u64; 60], answers: &[u64]) -> u64
+pub extern "C" fn fontarelga_second_answers(session: &mut [u64; 61], answers: &[u64]) -> u64
     ensures answer { λ r. ⌜ r ≡ code (second-answer (session-of (now (session .entry))) (now (answers .entry))) ⌝ }
     ensures session { λ r. ⌜ now (session .exit)
         ≡ fixed-after (session-second (now (session .entry)) (now (answers .entry))) (now (session .entry)) ⌝ }
@@ -208,7 +218,7 @@ pub extern "C" fn fontarelga_second_answers(session: &mut [u64; 60], answers: &[
 // How many words to drive next, from the start of `first` in step 1 or of `second` in step 2; 0 if none.
 #[no_mangle]
 pub extern "C" fn fontarelga_to_drive<'a>(
-    session: &[u64; 60],
+    session: &[u64; 61],
     first: &'a [u64],
     second: &'a [u64],
 ) -> u64
@@ -219,14 +229,14 @@ pub extern "C" fn fontarelga_to_drive<'a>(
     driven.len() as u64
 }
 
-// The call *read a job file*. The job's 5 words: nets, level, class, number of vectors, number of responses.
-// Rows 1, 2, 3, 5, 6, 17, 7, 8, 9, 10, 12.
+// The call *read a job file*. The job's 6 words: nets, level, gate, class, number of vectors, number of responses.
+// Rows 1, 2, 3, 5, 6, 17, 20, 7, 8, 9, 10, 12.
 #[no_mangle]
 pub extern "C" fn fontarelga_read_job(
     file: &[u8],
     vectors: &mut [u64],
     responses: &mut [u64],
-    job: &mut [u64; 5],
+    job: &mut [u64; 6],
 ) -> u64
     ensures answer { λ r. ⌜ r
         ≡ code (read-answer (now (file .entry)) (length (now (vectors .entry))) (length (now (responses .entry)))) ⌝ }
@@ -248,6 +258,7 @@ pub extern "C" fn fontarelga_read_job(
             *job = [
                 content.network.nets,
                 content.network.level,
+                content.network.gate,
                 content.class,
                 content.vectors as u64,
                 content.responses as u64,
@@ -258,12 +269,13 @@ pub extern "C" fn fontarelga_read_job(
     }
 }
 
-// The call *write a job file*. The size's only word: how many bytes were written. Rows 5, 6, 17, 7, 8, 9, 10 and 12; 9
-// and 10 only if there are responses.
+// The call *write a job file*. The size's only word: how many bytes were written. Rows 5, 6, 17, 20, 7, 8, 9, 10 and 12;
+// 9 and 10 only if there are responses.
 #[no_mangle]
 pub extern "C" fn fontarelga_write_job(
     nets: u64,
     level: u64,
+    gate: u64,
     class: u64,
     vectors: &[u64],
     responses: &[u64],
@@ -271,19 +283,20 @@ pub extern "C" fn fontarelga_write_job(
     size: &mut [u64; 1],
 ) -> u64
     ensures answer { λ r. ⌜ r
-        ≡ code (write-answer (network-with nets level) class (now (vectors .entry)) (now (responses .entry))
+        ≡ code (write-answer (network-with nets level gate) class (now (vectors .entry)) (now (responses .entry))
         (length (now (file .entry)))) ⌝ }
     ensures file { λ r. ⌜ now (file .exit)
-        ≡ lent-after (write-answer (network-with nets level) class (now (vectors .entry)) (now (responses .entry))
+        ≡ lent-after (write-answer (network-with nets level gate) class (now (vectors .entry)) (now (responses .entry))
         (length (now (file .entry)))) (now (file .entry)) ⌝ }
     ensures size { λ r. ⌜ now (size .exit)
         ≡ fixed-after (in-words size-words
-        (write-answer (network-with nets level) class (now (vectors .entry)) (now (responses .entry))
+        (write-answer (network-with nets level gate) class (now (vectors .entry)) (now (responses .entry))
         (length (now (file .entry))))) (now (size .entry)) ⌝ }
 {
     let net = Network {
         nets: nets,
         level: level,
+        gate: gate,
     };
     match writer::write_job(net, class, vectors, responses, file) {
         Wrote::Bytes(count) => {

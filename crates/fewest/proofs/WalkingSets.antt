@@ -17,9 +17,9 @@ use Rattle.words.proofs.Answers.{table-full, table-none-holds}
 use Rattle.words.proofs.Columns.{length-tabulate, tabulate-at}
 use Rattle.words.proofs.Places.{no-longer}
 use Rattle.network.specs.declared.Network.{Network}
-use Rattle.network.specs.Reading.{walking-vector, extra-vector, needs-extra, extra-vectors}
+use Rattle.network.specs.Reading.{active, walking-vector, extra-vector, needs-extra, extra-vectors}
 use Rattle.network.specs.Rows.{Row6, Row7, HighBit, SetRows, AdmittedNetwork}
-use Rattle.network.proofs.Reading.{active, active-walking, active-extra, walking-below, extra-below, extra-none, extra-most}
+use Rattle.network.proofs.Reading.{active-walking, active-extra, walking-below, extra-below, extra-none, extra-most}
 use Rattle.network.proofs.Rows.{nets-admitted, no-high-bit}
 use Rattle.checker.specs.declared.Verdict.{Verdict}
 use Rattle.checker.specs.declared.Verdict.the-variants.{Pass, Pair}
@@ -174,13 +174,25 @@ module _ (net : Network) (admitted : AdmittedNetwork net) where
       let rows = SetRows net (net .nets) vectors in
       let rule = Rule net (net .nets) vectors in
       let table = subst (ByTable rows rule) e (check-by-table net (net .nets) vectors) in
-      rule-separates vectors (table-none-holds rule rows Pass table .1 .1 .1 .1 .0) (table-full rule rows Pass table)
+      rule-separates vectors (table-none-holds rule rows Pass table .1 .1 .1 .1 .1 .0) (table-full rule rows Pass table)
 
   walking-passes : Passes net (walking-set net)
   walking-passes =
       check-determined net (net .nets) (walking-set net) (check-answer net (net .nets) (walking-set net)) (full Pass)
       (check-by-table net (net .nets) (walking-set net))
-      (inr (admitted .0, inr (class, inr (admitted .1 .0, inr (count, inr (walking-narrow, (Pass, refl, walking-passes-rule)))))))
+      (inr (
+        admitted .0,
+        inr (
+          class,
+          inr (
+            admitted .1 .0,
+            inr (
+              admitted .1 .1 .0,
+              inr (count, inr (walking-narrow, (Pass, refl, walking-passes-rule))),
+            ),
+          ),
+        ),
+      ))
     where
       class : ¬ (Row6 net (net .nets))
       class (inl n) = n (inr (inr (inr refl)))

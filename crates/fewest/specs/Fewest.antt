@@ -1,6 +1,6 @@
 -- Document 02, "No shorter first step": no list of sequential words, none of which covers another, takes fewer vectors
 -- than a session's first step, and no set that is passed for k = n has fewer than n + 1 where there is an extra vector
--- (soft level 1), and than n where there is none (soft level 0).
+-- (OR at soft level 1, AND at soft level 0), and than n where there is none.
 use Prim.Native.Nat.{ℕ, _+_, _^_, _<_, _≤_}
 use mathlib.Core.Path.{_≡_}
 use mathlib.Core.Logic.{_≢_}
@@ -71,7 +71,7 @@ Passes net vectors = check-answer net (net .nets) vectors ≡ full Pass
 unfoldable pub walking-set : Network → List ℕ
 walking-set net = settling-vectors net (tabulate (net .nets) (λ i. i))
 
--- how many these are: n + 1 at soft level 1, n at soft level 0
+-- how many these are: n + 1 for OR at soft level 1 and AND at soft level 0, n for the other two
 abbrev pub walking-count : Network → ℕ
 walking-count net = net .nets + length (extra-vectors net)
 

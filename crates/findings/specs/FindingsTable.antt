@@ -1,4 +1,4 @@
--- The call *findings*: rows 5, 17, 11 with k = n, and 12, then a record a net.
+-- The call *findings*: rows 5, 17, 20, 11 with k = n, and 12, then a record a net.
 use Prim.Native.Nat.{ℕ, zero, suc, _<_}
 use mathlib.Core.Path.{_≡_}
 use mathlib.Core.Bool.{Bool}

@@ -79,7 +79,7 @@ fn finding_of(net: Network, state: &[u64], i: usize) -> Finding
     }
 }
 
-// The first of rows 5, 17, 11 and 12 that holds, or 0.
+// The first of rows 5, 17, 20, 11 and 12 that holds, or 0.
 fn table_refusal(net: Network, state: &[u64], room: usize) -> u64
     ensures { λ r. ⌜ table-meaning net r ≡ count-of (findings-answer net (now (state .entry)) room) ⌝ }
 {
@@ -96,7 +96,7 @@ fn table_refusal(net: Network, state: &[u64], room: usize) -> u64
     0
 }
 
-// The call *findings*: a record a net into the front of `table`. Rows 5, 17, 11 with k = n, and 12; 0 is
+// The call *findings*: a record a net into the front of `table`. Rows 5, 17, 20, 11 with k = n, and 12; 0 is
 // accepted.
 pub fn findings(net: Network, state: &[u64], table: &mut [Finding]) -> u64
     ensures answer { λ r. ⌜ table-meaning net r

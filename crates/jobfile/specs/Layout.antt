@@ -12,9 +12,9 @@ use Rattle.network.specs.declared.Network.{Network}
 use Rattle.network.specs.Reading.{network-with}
 use Rattle.jobfile.specs.Bytes.{number-at, words-at}
 
--- `BSJ2`
+-- `BSJ3`
 abbrev pub mark : List ℕ
-mark = 66 ∷ 83 ∷ 74 ∷ 50 ∷ []
+mark = 66 ∷ 83 ∷ 74 ∷ 51 ∷ []
 
 -- the most bytes of a file
 abbrev pub most-bytes : ℕ
@@ -41,13 +41,13 @@ body-offset file i = number-at file (6 + 9 * i) 4
 unfoldable pub body-length : List ℕ → ℕ → ℕ
 body-length file i = number-at file (10 + 9 * i) 4
 
--- the nets body, a byte each: n, k and the soft level
+-- the nets body, a byte each: n, k, the soft level and the gate
 abbrev pub nets-bytes : Network → ℕ → List ℕ
-nets-bytes net k = net .nets ∷ k ∷ net .level ∷ []
+nets-bytes net k = net .nets ∷ k ∷ net .level ∷ net .gate ∷ []
 
 -- how many bytes it has
 abbrev pub nets-size : ℕ
-nets-size = 3
+nets-size = 4
 
 -- ---- rows 1, 2 and 3
 
@@ -70,7 +70,7 @@ pub record Layout (file : List ℕ) : Type 0 where
 abbrev pub Row2 : List ℕ → Type 0
 Row2 file = ¬ (Layout file)
 
--- file bodies: nets body not 3 bytes, or another not a multiple of 8
+-- file bodies: nets body not 4 bytes, or another not a multiple of 8
 abbrev pub Row3 : List ℕ → Type 0
 Row3 file = (body-length file 0 ≢ nets-size) ⊎ ((i : ℕ) × (0 < i) × (i < entry-count file) × (body-length file i % 8 ≢ 0))
 
@@ -111,7 +111,7 @@ abbrev pub nets-byte : List ℕ → ℕ → ℕ
 nets-byte file i = at file (body-offset file 0 + i)
 
 unfoldable pub file-network : List ℕ → Network
-file-network file = network-with (nets-byte file 0) (nets-byte file 2)
+file-network file = network-with (nets-byte file 0) (nets-byte file 2) (nets-byte file 3)
 
 unfoldable pub file-class : List ℕ → ℕ
 file-class file = nets-byte file 1

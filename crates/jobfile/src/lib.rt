@@ -7,10 +7,10 @@ ghost use Rattle.words.specs.Writing.{written};
 ghost use Rattle.jobfile.specs.Layout.{mark, «same-bytes», «bad-mark»};
 
 // The first bytes of every job file.
-const MARK: [u8; 4] = *b"BSJ2";
+const MARK: [u8; 4] = *b"BSJ3";
 
 // How many bytes the nets body has.
-pub const NETS_SIZE: usize = 3;
+pub const NETS_SIZE: usize = 4;
 
 // Whether two lists of bytes are the same.
 fn same_bytes(left: &[u8], right: &[u8]) -> bool

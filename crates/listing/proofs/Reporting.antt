@@ -31,8 +31,6 @@ use Rattle.decimal.specs.Decimal.{spaced, numbers-end}
 use Rattle.decimal.proofs.Numerals.{decimal-most}
 use Rattle.listing.specs.Report.{refused-line, verdict-line, diagnosis-text, responses-text, content-text, job-text, report}
 
--- ---- rows that do not hold
-
 -- ---- the diagnosis
 
 -- a state of any class is one of class n

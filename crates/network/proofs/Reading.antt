@@ -1,11 +1,11 @@
--- What the rest asks of `reads`: two laws of the definition, for each level, and what follows from them. A value is
--- *active* if one driver in the reach that drives it decides what is read: 1, at a wired OR.
+-- What the rest asks of `reads`: two laws of the definition, for each gate and level, and what follows from them. Both
+-- are said of the gate's active value, so that above this file no law knows which value that is.
 use mathlib.Core.Path.{_≡_, refl, sym, ap, _∙_, subst}
-use mathlib.Core.Bool.{Bool, true, false, not, _&&_, _||_, true≢false}
-use mathlib.Core.Logic.{inl, inr, ⊎-elim, _≢_, _↔_}
+use mathlib.Core.Bool.{Bool, true, false, not, _&&_, _||_, cond, true≢false}
+use mathlib.Core.Logic.{⊎-elim, _≢_, _↔_}
 use mathlib.Core.List.{List, [], _∷_, map}
 use Prim.Native.Nat.{ℕ, zero, suc, _^_, _≤_, _<_, zero-le}
-use native.Mathlib.Nat.{lt-of-le-of-lt, le-refl}
+use native.Mathlib.Nat.{lt-of-le-of-lt, lt-trans, le-refl}
 use native.Mathlib.Omega.{arith}
 use lib.Bits.{bitAnd, and-le-l}
 use lib.Dec.{eqb}
@@ -13,74 +13,57 @@ use lib.ListN.{length, length-map}
 use lib.Pow.{pow-pos, pow-lt}
 use lib.Seq.{ext-getD}
 use borrow.Author.Tests.{eq-eqb, ne-eqb, eqb-true, eqb-false, not-true}
-use Rattle.words.specs.Bits.{has, at}
+use Rattle.words.specs.Bits.{has, word, at}
 use Rattle.words.specs.Searching.{any}
 use Rattle.words.specs.Answers.{Decides}
-use Rattle.words.proofs.Tests.{cases, contrary, and-left, and-right, and-both, or-false, same-truth, test-passes}
-use Rattle.words.proofs.Searching.{any-at, any-some, any-false}
+use Rattle.words.proofs.Tests.{cases, contrary, not-not, not-equal, and-left, and-right, and-both, or-false, same-truth}
+use Rattle.words.proofs.Tests.{decides-itself, decides-off, decides-same, decides-equal, decides-not, decides-and, decides-cond}
+use Rattle.words.proofs.Tests.{test-passes}
+use Rattle.words.proofs.Searching.{any-at, any-some, any-false, decides-any}
 use Rattle.words.proofs.Bits.{words-equal, has-zero, has-power, has-own, has-only, has-not-zero, has-all, has-all-but, has-and, some-bit}
-use Rattle.words.proofs.Bits.{some-bit-differs}
+use Rattle.words.proofs.Bits.{some-bit-differs, has-inside}
 use Rattle.words.proofs.Making.{map-at, has-made, made-below, made-equal, made-bits}
 use Rattle.network.specs.declared.Network.{Network}
-use Rattle.network.specs.Reading.{soft-level, all-drivers, all-but, walking-vector, extra-vector, needs-extra, extra-vectors}
-use Rattle.network.specs.Reading.{meets, reads, Reads1}
+use Rattle.network.specs.Reading.{soft-level, is-and, active, all-drivers, all-but, walking-vector, extra-vector, needs-extra}
+use Rattle.network.specs.Reading.{extra-vectors, meets, some-at-0, driven, reads, Drives, Driven1, Reads1}
 use Rattle.network.specs.Reading.{ReadAlike, sequential-response, response-word, response, Response}
+use Rattle.network.specs.Joint.{ActiveBits}
 
 -- ---- active values
 
--- one driver that drives it decides
-unfoldable pub active : Network → Bool → Bool
-active net value = value
-
 module _ (net : Network) where
+  -- the active of two values
   pub active-equal : (a b : Bool) → active net a ≡ active net b → a ≡ b
   unfolding active
-  active-equal a b e = e
+  active-equal a b e = go (is-and net) e
+    where
+      go : (g : Bool) → cond g (not a) a ≡ cond g (not b) b → a ≡ b
+      go true q = not-equal a b q
+      go false q = q
 
   -- of two values that differ, one is active if the other is not
   active-other : (a b : Bool) → a ≢ b → active net b ≡ false → active net a ≡ true
-  unfolding active
-  active-other true b h e = refl
-  active-other false true h e = absurd (true≢false e)
-  active-other false false h e = absurd (h refl)
+  active-other a b h e =
+      ⊎-elim (λ q. q) (λ q. absurd (h (active-equal a b (q ∙ sym e)))) (cases (active net a))
 
   -- there is an extra vector where floating receivers read the active value
   pub active-soft : active net (soft-level net) ≡ needs-extra net
-  unfolding active needs-extra
+  unfolding needs-extra
   active-soft = refl
+
+  -- the value of one driver more, joined by the gate, is active if it is or the others' is
+  pub active-joined : (a b : Bool) → active net (cond (is-and net) (a && b) (a || b)) ≡ active net a || active net b
+  unfolding active
+  active-joined a b = go (is-and net) a
+    where
+      go : (g a : Bool) → cond g (not (cond g (a && b) (a || b))) (cond g (a && b) (a || b)) ≡ cond g (not a) a || cond g (not b) b
+      go true true = refl
+      go true false = refl
+      go false a = refl
 
 -- ---- driver sets and vectors by name
 
 module _ (net : Network) where
-  -- the drivers that are active on the walking vector of net i, and on the extra vector
-  pub active-walking : (i j : ℕ) → i < net .nets → j < net .nets → active net (has (walking-vector net i) j) ≡ eqb i j
-  unfolding active walking-vector
-  active-walking i j l m = has-power i j
-
-  pub active-extra : (j : ℕ) → j < net .nets → active net (has (extra-vector net) j) ≡ false
-  unfolding active extra-vector
-  active-extra j l = has-zero j
-
-  pub walking-below : (i : ℕ) → i < net .nets → walking-vector net i < 2 ^ (net .nets)
-  unfolding walking-vector
-  walking-below i l = pow-lt l
-
-  pub extra-below : extra-vector net < 2 ^ (net .nets)
-  unfolding extra-vector
-  extra-below = pow-pos (net .nets)
-
-  -- the extra vector alone, or none
-  pub extra-one : needs-extra net ≡ true → extra-vectors net ≡ extra-vector net ∷ []
-  unfolding extra-vectors
-  extra-one e = rw e
-
-  pub extra-none : needs-extra net ≡ false → extra-vectors net ≡ []
-  unfolding extra-vectors
-  extra-none e = rw e
-
-  pub extra-most : length (extra-vectors net) ≤ 1
-  extra-most = ⊎-elim (λ e. rw (extra-one e) (le-refl 1)) (λ e. rw (extra-none e) zero-le) (cases (needs-extra net))
-
   pub all-below : all-drivers net < 2 ^ (net .nets)
   unfolding all-drivers
   all-below = let h = pow-pos (net .nets) in omega arith
@@ -99,6 +82,51 @@ module _ (net : Network) where
 
   pub all-not-empty : 0 < net .nets → all-drivers net ≢ 0
   all-not-empty l = has-not-zero (all-drivers net) 0 (has-every 0 l)
+
+  -- the drivers that are active on the walking vector of net i, and on the extra vector
+  pub active-walking : (i j : ℕ) → i < net .nets → j < net .nets → active net (has (walking-vector net i) j) ≡ eqb i j
+  unfolding active walking-vector
+  active-walking i j l m = go (is-and net)
+    where
+      go : (g : Bool) → let bit = has (cond g (all-but net i) (2 ^ i)) j in cond g (not bit) bit ≡ eqb i j
+      go true = ap not (has-every-but i j l m) ∙ not-not (eqb i j)
+      go false = has-power i j
+
+  pub active-extra : (j : ℕ) → j < net .nets → active net (has (extra-vector net) j) ≡ false
+  unfolding active extra-vector
+  active-extra j l = go (is-and net)
+    where
+      go : (g : Bool) → let bit = has (cond g (all-drivers net) 0) j in cond g (not bit) bit ≡ false
+      go true = ap not (has-every j l)
+      go false = has-zero j
+
+  pub walking-below : (i : ℕ) → i < net .nets → walking-vector net i < 2 ^ (net .nets)
+  unfolding walking-vector
+  walking-below i l = go (is-and net)
+    where
+      go : (g : Bool) → cond g (all-but net i) (2 ^ i) < 2 ^ (net .nets)
+      go true = lt-trans (all-but-less i l) all-below
+      go false = pow-lt l
+
+  pub extra-below : extra-vector net < 2 ^ (net .nets)
+  unfolding extra-vector
+  extra-below = go (is-and net)
+    where
+      go : (g : Bool) → cond g (all-drivers net) 0 < 2 ^ (net .nets)
+      go true = all-below
+      go false = pow-pos (net .nets)
+
+  -- the extra vector alone, or none
+  pub extra-one : needs-extra net ≡ true → extra-vectors net ≡ extra-vector net ∷ []
+  unfolding extra-vectors
+  extra-one e = rw e
+
+  pub extra-none : needs-extra net ≡ false → extra-vectors net ≡ []
+  unfolding extra-vectors
+  extra-none e = rw e
+
+  pub extra-most : length (extra-vectors net) ≤ 1
+  extra-most = ⊎-elim (λ e. rw (extra-one e) (le-refl 1)) (λ e. rw (extra-none e) zero-le) (cases (needs-extra net))
 
   -- ---- two sets with a driver in common
 
@@ -127,6 +155,46 @@ module _ (net : Network) where
           let both : has a (r .0) && has b (r .0) ≡ true = sym (has-and a b (r .0)) ∙ r .2 in
           meets-at a b (r .0) (r .1) (and-left (has a (r .0)) (has b (r .0)) both) (and-right (has a (r .0)) (has b (r .0)) both)
 
+  -- ---- what drivers drive together
+
+  some-active : ℕ → ℕ → Bool
+  some-active reach vector = any (net .nets) (λ j. has reach j && active net (has vector j))
+
+  -- it is active if one of them is
+  active-driven : (reach vector : ℕ) → active net (driven net reach vector) ≡ some-active reach vector
+  unfolding active driven meets some-at-0 some-active
+  active-driven reach vector = go (is-and net)
+    where
+      at-0 : Bool
+      at-0 = any (net .nets) (λ j. has reach j && not (has vector j))
+
+      at-1 : Bool
+      at-1 = any (net .nets) (λ j. has reach j && has vector j)
+
+      go : (g : Bool) → cond g (not (cond g (not at-0) at-1)) (cond g (not at-0) at-1)
+          ≡ any (net .nets) (λ j. has reach j && cond g (not (has vector j)) (has vector j))
+      go true = not-not at-0
+      go false = refl
+
+  pub driven-at : (reach vector j : ℕ) → j < net .nets → has reach j ≡ true → active net (has vector j) ≡ true
+      → active net (driven net reach vector) ≡ true
+  unfolding some-active
+  driven-at reach vector j l p q =
+      active-driven reach vector ∙ any-at (λ i. has reach i && active net (has vector i)) (net .nets) j l (and-both p q)
+
+  pub driven-some : (reach vector : ℕ) → active net (driven net reach vector) ≡ true
+      → (j : ℕ) × (j < net .nets) × (has reach j ≡ true) × (active net (has vector j) ≡ true)
+  unfolding some-active
+  driven-some reach vector e =
+      let r = any-some (λ i. has reach i && active net (has vector i)) (net .nets) (sym (active-driven reach vector) ∙ e) in
+      (r .0, r .1, and-left (has reach (r .0)) _ (r .2), and-right (has reach (r .0)) _ (r .2))
+
+  -- no driver is in the empty set
+  pub driven-none : (vector : ℕ) → active net (driven net 0 vector) ≡ false
+  driven-none vector =
+      ⊎-elim (λ e. let r = driven-some 0 vector e in contrary (r .2) (has-zero (r .0))) (λ e. e)
+      (cases (active net (driven net 0 vector)))
+
   -- ---- the definition's own laws
 
   -- a floating receiver reads the soft level
@@ -135,50 +203,69 @@ module _ (net : Network) where
   reads-floating vector = refl
 
   -- any other reads what its drivers drive together
-  pub one-drives : (reach vector : ℕ) → reach ≢ 0 → reads net reach vector ≡ meets net reach vector
+  pub reads-driven : (reach vector : ℕ) → reach ≢ 0 → reads net reach vector ≡ driven net reach vector
   unfolding reads
-  one-drives reach vector h = rw (ne-eqb reach 0 h)
-
-  -- no driver is in the empty set
-  pub meets-none : (vector : ℕ) → meets net 0 vector ≡ false
-  meets-none vector =
-      ⊎-elim (λ e. let r = meets-some 0 vector e in contrary (r .2) (has-zero (r .0))) (λ e. e) (cases (meets net 0 vector))
-
-  -- as the code tests it
-  pub reads-or : (reach vector : ℕ) → reads net reach vector ≡ (eqb reach 0 && soft-level net) || meets net reach vector
-  reads-or reach vector = go (eqb reach 0) refl
-    where
-      go : (t : Bool) → eqb reach 0 ≡ t → reads net reach vector ≡ (t && soft-level net) || meets net reach vector
-      go true e =
-          subst (λ (x : ℕ). reads net x vector ≡ soft-level net || meets net x vector) (sym (eqb-true reach 0 e))
-          (reads-floating vector ∙ sym (or-false (soft-level net)) ∙ ap (λ (b : Bool). soft-level net || b) (sym (meets-none vector)))
-      go false e = one-drives reach vector (eqb-false reach 0 e)
+  reads-driven reach vector h = rw (ne-eqb reach 0 h)
 
   -- a receiver with an active driver in its reach reads the active value
   pub reads-active : (reach vector j : ℕ) → j < net .nets → has reach j ≡ true → active net (has vector j) ≡ true
       → active net (reads net reach vector) ≡ true
-  unfolding active
-  reads-active reach vector j l p q = one-drives reach vector (has-not-zero reach j p) ∙ meets-at reach vector j l p q
+  reads-active reach vector j l p q =
+      ap (active net) (reads-driven reach vector (has-not-zero reach j p)) ∙ driven-at reach vector j l p q
 
   -- and no other that does not float
   pub active-only : (reach vector : ℕ) → reach ≢ 0 → active net (reads net reach vector) ≡ true
       → (j : ℕ) × (j < net .nets) × (has reach j ≡ true) × (active net (has vector j) ≡ true)
-  unfolding active
-  active-only reach vector h e = meets-some reach vector (sym (one-drives reach vector h) ∙ e)
+  active-only reach vector h e = driven-some reach vector (ap (active net) (sym (reads-driven reach vector h)) ∙ e)
+
+  -- ---- as the drivers say it
+
+  decides-at-0 : (reach vector : ℕ) → Decides (some-at-0 net reach vector) (Drives net reach vector false)
+  unfolding some-at-0
+  decides-at-0 reach vector =
+      decides-same (λ w. (w .0, w .1, w .2 .0, w .2 .1)) (λ w. (w .0, w .1, (w .2, w .3)))
+      (decides-any (λ j. has reach j && not (has vector j)) (λ j. (has reach j ≡ true) × (has vector j ≡ false)) (net .nets)
+      (λ j. decides-and (decides-itself (has reach j)) (decides-off (has vector j))))
+
+  decides-at-1 : (reach vector : ℕ) → Decides (meets net reach vector) (Drives net reach vector true)
+  unfolding meets
+  decides-at-1 reach vector =
+      decides-same (λ w. (w .0, w .1, w .2 .0, w .2 .1)) (λ w. (w .0, w .1, (w .2, w .3)))
+      (decides-any (λ j. has reach j && has vector j) (λ j. (has reach j ≡ true) × (has vector j ≡ true)) (net .nets)
+      (λ j. decides-and (decides-itself (has reach j)) (decides-itself (has vector j))))
+
+  decides-driven : (reach vector : ℕ) → Decides (driven net reach vector) (Driven1 net reach vector)
+  unfolding driven
+  decides-driven reach vector =
+      decides-cond (is-and net) (decides-equal (net .gate) 1) (decides-not (decides-at-0 reach vector)) (decides-at-1 reach vector)
 
   pub decides-reads : (reach vector : ℕ) → Decides (reads net reach vector) (Reads1 net reach vector)
-  decides-reads reach vector = (there, back)
-    where
-      there : reads net reach vector ≡ true → Reads1 net reach vector
-      there e =
-          ⊎-elim
-          (λ q. let z : reach ≡ 0 = eqb-true reach 0 q in
-          inl (z, eqb-true (net .level) 1 (sym (reads-floating vector) ∙ ap (λ (x : ℕ). reads net x vector) (sym z) ∙ e)))
-          (λ q. inr (meets-some reach vector (sym (one-drives reach vector (eqb-false reach 0 q)) ∙ e))) (cases (eqb reach 0))
+  unfolding reads
+  decides-reads reach vector =
+      decides-cond (eqb reach 0) (decides-equal reach 0) (decides-equal (net .level) 1) (decides-driven reach vector)
 
-      back : reads net reach vector ≡ false → ¬ (Reads1 net reach vector)
-      back e (inl (z, one)) = contrary (ap (λ (x : ℕ). reads net x vector) z ∙ reads-floating vector ∙ eq-eqb (net .level) 1 one) e
-      back e (inr (j, l, p, q)) = contrary (one-drives reach vector (has-not-zero reach j p) ∙ meets-at reach vector j l p q) e
+  -- ---- as the code tests it, by the active bits of the vector
+
+  pub active-reads : (reach vector bits : ℕ) → ActiveBits net 64 vector bits → reach < 2 ^ 64
+      → active net (reads net reach vector) ≡ (eqb reach 0 && needs-extra net) || meets net reach bits
+  active-reads reach vector bits shown l = go (eqb reach 0) refl
+    where
+      bit-at : (j : ℕ) → has reach j ≡ true → has bits j ≡ active net (has vector j)
+      bit-at j p = shown j (has-inside 64 reach j l p)
+
+      meets-active : meets net reach bits ≡ active net (driven net reach vector)
+      meets-active =
+          same-truth _ _
+          (λ e. let r = meets-some reach bits e in driven-at reach vector (r .0) (r .1) (r .2) (sym (bit-at (r .0) (r .2)) ∙ r .3))
+          (λ e. let r = driven-some reach vector e in meets-at reach bits (r .0) (r .1) (r .2) (bit-at (r .0) (r .2) ∙ r .3))
+
+      go : (t : Bool) → eqb reach 0 ≡ t → active net (reads net reach vector) ≡ (t && needs-extra net) || meets net reach bits
+      go true e =
+          let none : active net (driven net reach vector) ≡ false =
+          ap (λ (x : ℕ). active net (driven net x vector)) (eqb-true reach 0 e) ∙ driven-none vector in
+          ap (λ (x : ℕ). active net (reads net x vector)) (eqb-true reach 0 e) ∙ ap (active net) (reads-floating vector)
+          ∙ active-soft net ∙ sym (or-false (needs-extra net)) ∙ ap (λ (b : Bool). needs-extra net || b) (sym (meets-active ∙ none))
+      go false e = ap (active net) (reads-driven reach vector (eqb-false reach 0 e)) ∙ sym meets-active
 
   -- ---- what follows from them
 
@@ -334,16 +421,32 @@ module _ (net : Network) where
 
   -- ---- sequential words, and the response by its bits
 
+  active-twice : (value : Bool) → active net (active net value) ≡ value
+  unfolding active
+  active-twice value = go (is-and net) value
+    where
+      go : (g v : Bool) → cond g (not (cond g (not v) v)) (cond g (not v) v) ≡ v
+      go true v = not-not v
+      go false v = refl
+
+  -- a word of active readings, turned, is the word of the readings
+  pub readings-turned : (f : ℕ → Bool) (xs : List ℕ) (w r : ℕ) → w ≡ word (map (λ x. active net (f x)) xs)
+      → ActiveBits net (length xs) w r × (w < 2 ^ length xs → r < 2 ^ length xs) → r ≡ word (map f xs)
+  readings-turned f xs w r e (bits, below) =
+      words-equal (length xs) r (word (map f xs)) (below (rw e (made-below (λ x. active net (f x)) xs))) (made-below f xs)
+      (λ i l. bits i l ∙ ap (λ (x : ℕ). active net (has x i)) e ∙ ap (active net) (has-made (λ x. active net (f x)) xs i l)
+      ∙ active-twice (f (at xs i)) ∙ sym (has-made f xs i l))
+
   pub has-sequential : (vectors : List ℕ) (set t : ℕ) → t < length vectors
       → has (sequential-response net vectors set) t ≡ reads net set (at vectors t)
   unfolding sequential-response
   has-sequential vectors set t l = has-made (reads net set) vectors t l
 
-  -- the bits of 1 in a sequential word are the active readings
+  -- the active bits of a sequential word are the active readings
   pub active-answers : (vectors : List ℕ) (set answered : ℕ) → sequential-response net vectors set ≡ answered
-      → (t : ℕ) → t < length vectors → active net (reads net set (at vectors t)) ≡ has answered t
-  unfolding active
-  active-answers vectors set answered e t l = sym (has-sequential vectors set t l) ∙ ap (λ (w : ℕ). has w t) e
+      → (t : ℕ) → t < length vectors → active net (reads net set (at vectors t)) ≡ active net (has answered t)
+  active-answers vectors set answered e t l =
+      ap (active net) (sym (has-sequential vectors set t l) ∙ ap (λ (w : ℕ). has w t) e)
 
   pub sequential-below : (vectors : List ℕ) (set : ℕ) → sequential-response net vectors set < 2 ^ length vectors
   unfolding sequential-response

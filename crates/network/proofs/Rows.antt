@@ -4,8 +4,9 @@ use mathlib.Core.Bool.{Bool, _||_}
 use mathlib.Core.Logic.{_⊎_, inl, inr, ⊎-elim, _≢_}
 use mathlib.Core.List.{List, [], _++_}
 use Prim.Native.Nat.{ℕ, _^_, _≤_, _<_}
-use native.Mathlib.Nat.{lt-of-not-le}
+use native.Mathlib.Nat.{lt-of-not-le, eq-or-lt-of-le}
 use native.Mathlib.Omega.{arith}
+use lib.Arith.{lt-one}
 use lib.Dec.{leb, eqb}
 use lib.ListN.{length}
 use Rattle.words.specs.Bits.{at}
@@ -14,8 +15,8 @@ use Rattle.words.proofs.Tests.{cases, decides-less, decides-at-most, decides-eq
 use Rattle.words.proofs.Searching.{decides-any}
 use Rattle.words.proofs.Answers.{let-through, first-refuses, first-passes, shared-refuse, shared-pass}
 use Rattle.network.specs.declared.Network.{Network}
-use Rattle.network.specs.Rows.{Row5, Row6, Row17, Row7, HighBit, Row9, Row12, bad-net-count, bad-class, bad-level, bad-vector-count}
-use Rattle.network.specs.Rows.{has-high-bit, bad-response-count, no-room, NetworkRows, network-tests, network-refusal}
+use Rattle.network.specs.Rows.{NoBit, no-bit, Row5, Row6, Row17, Row20, Row7, HighBit, Row9, Row12, bad-net-count, bad-class, bad-level, bad-gate}
+use Rattle.network.specs.Rows.{bad-vector-count, has-high-bit, bad-response-count, no-room, NetworkRows, network-tests, network-refusal}
 use Rattle.network.specs.Rows.{AdmittedNetwork, SetRows, set-tests, set-admission}
 
 pub decides-row-5 : (net : Network) → Decides (bad-net-count net) (Row5 net)
@@ -29,8 +30,14 @@ decides-class net k = decides-or (decides-equal k 1)
 decides-row-6 : (net : Network) (k : ℕ) → Decides (bad-class net k) (Row6 net k)
 decides-row-6 net k = decides-or (decides-not (decides-class net k)) (decides-less (net .nets) k)
 
+decides-no-bit : (x : ℕ) → Decides (no-bit x) (NoBit x)
+decides-no-bit x = decides-not (decides-or (decides-equal x 0) (decides-equal x 1))
+
 pub decides-row-17 : (net : Network) → Decides (bad-level net) (Row17 net)
-decides-row-17 net = decides-not (decides-or (decides-equal (net .level) 0) (decides-equal (net .level) 1))
+decides-row-17 net = decides-no-bit (net .level)
+
+pub decides-row-20 : (net : Network) → Decides (bad-gate net) (Row20 net)
+decides-row-20 net = decides-no-bit (net .gate)
 
 pub decides-row-7 : (vectors : List ℕ) → Decides (bad-vector-count vectors) (Row7 vectors)
 decides-row-7 vectors = decides-or (decides-less (length vectors) 1) (decides-less 64 (length vectors))
@@ -53,8 +60,15 @@ pub nets-admitted : (net : Network) → ¬ (Row5 net) → (2 ≤ net .nets) × (
 nets-admitted net h = let low : net .nets < 2 → ⊥ = λ l. h (inl l) in let high : 48 < net .nets → ⊥ = λ l. h (inr l) in
     (omega (arith, low), omega (arith, high))
 
-level-admitted : (net : Network) → ¬ (Row17 net) → net .level ≤ 1
-level-admitted net h = let high : 1 < net .level → ⊥ = λ l. h (λ r. ⊎-elim (λ e. omega arith) (λ e. omega arith) r) in omega (arith, high)
+-- a level and a gate that are not refused, and what is one
+bit-admitted : (x : ℕ) → ¬ (NoBit x) → x ≤ 1
+bit-admitted x h = let high : 1 < x → ⊥ = λ l. h (λ r. ⊎-elim (λ e. omega arith) (λ e. omega arith) r) in omega (arith, high)
+
+pub is-bit : (x : ℕ) → x ≤ 1 → ¬ (NoBit x)
+is-bit x l other = other (⊎-elim inr (λ m. inl (lt-one m)) (eq-or-lt-of-le l))
+
+pub above-bits : (x : ℕ) → 2 ≤ x → NoBit x
+above-bits x high = ⊎-elim (λ e. omega (arith, e, high)) (λ e. omega (arith, e, high))
 
 pub vectors-admitted : (vectors : List ℕ) → ¬ (Row7 vectors) → length vectors ≤ 64
 vectors-admitted vectors h = let high : 64 < length vectors → ⊥ = λ l. h (inr l) in omega (arith, high)
@@ -65,7 +79,7 @@ no-high-bit net words h t l = lt-of-not-le (λ e. h (t, l, e))
 -- ---- the rows of a network alone
 
 pub decides-network : (net : Network) → Decided (NetworkRows net) (network-tests net)
-decides-network net = (refl, decides-row-5 net, λ _. (refl, decides-row-17 net, λ _. tt))
+decides-network net = (refl, decides-row-5 net, λ _. (refl, decides-row-17 net, λ _. (refl, decides-row-20 net, λ _. tt)))
 
 -- a call that begins with them, where one holds and where none does
 module _ (net : Network) {A : Type 0} (more : List (ℕ × Bool)) (x : A) where
@@ -73,7 +87,7 @@ module _ (net : Network) {A : Type 0} (more : List (ℕ × Bool)) (x : A) where
   network-refuses some = first-refuses more x (network-tests net) some
 
   pub network-admits : network-refusal net ≡ 0 → by-tests (network-tests net ++ more) x ≡ by-tests more x
-  network-admits none = first-passes more x (network-tests net) (λ q. omega (arith, q), (λ q. omega (arith, q), tt)) none
+  network-admits none = first-passes more x (network-tests net) (λ q. omega (arith, q), (λ q. omega (arith, q), (λ q. omega (arith, q), tt))) none
 
 module _ (net : Network) where
   pub network-admitted : network-refusal net ≡ 0 → AdmittedNetwork net
@@ -82,9 +96,10 @@ module _ (net : Network) where
       let-through {A = Unit {0}} (NetworkRows net) (network-tests net) tt tt (decides-network net) (network-admits net [] tt e)
 
   pub admitted-refusal : AdmittedNetwork net → network-refusal net ≡ 0
-  admitted-refusal (five, (level, _)) = rw (test-fails (decides-row-5 net) five, test-fails (decides-row-17 net) level)
+  admitted-refusal (five, (level, (gate, _))) =
+      rw (test-fails (decides-row-5 net) five, test-fails (decides-row-17 net) level, test-fails (decides-row-20 net) gate)
 
--- ---- rows 5, 6, 17, 7 and 8
+-- ---- rows 5, 6, 17, 20, 7 and 8
 
 pub decides-set : (net : Network) (k : ℕ) (vectors : List ℕ) → Decided (SetRows net k vectors) (set-tests net k vectors)
 decides-set net k vectors = (
@@ -93,8 +108,11 @@ decides-set net k vectors = (
   λ _. (
     refl,
     decides-row-6 net k,
-    λ _.
-        (refl, decides-row-17 net, λ _. (refl, decides-row-7 vectors, λ _. (refl, decides-high-bit net vectors, λ _. tt))),
+    λ _. (
+      refl,
+      decides-row-17 net,
+      λ _. (refl, decides-row-20 net, λ _. (refl, decides-row-7 vectors, λ _. (refl, decides-high-bit net vectors, λ _. tt))),
+    ),
   ),
 )
 
@@ -105,6 +123,7 @@ pub record AdmittedSet (net : Network) (k : ℕ) (vectors : List ℕ) : Type 0 w
   pub class : (k ≤ 3) ⊎ (k ≡ net .nets)
   pub class-positive : 0 < k
   pub level-byte : net .level ≤ 1
+  pub gate-byte : net .gate ≤ 1
   pub vectors-most : length vectors ≤ 64
   pub narrow : (t : ℕ) → t < length vectors → at vectors t < 2 ^ (net .nets)
 
@@ -116,16 +135,17 @@ admitted-class net k h =
 
 -- the network of a test set that is admitted
 pub network-of-set : (net : Network) (k : ℕ) (vectors : List ℕ) → NoneHolds (SetRows net k vectors) → AdmittedNetwork net
-network-of-set net k vectors (five, (_, (level, _))) = (five, (level, tt))
+network-of-set net k vectors (five, (_, (level, (gate, _)))) = (five, (level, (gate, tt)))
 
 pub admitted-set : (net : Network) (k : ℕ) (vectors : List ℕ) → NoneHolds (SetRows net k vectors) → AdmittedSet net k vectors
-admitted-set net k vectors (a, (b, (level, (c, (d, e))))) =
+admitted-set net k vectors (a, (b, (level, (gate, (c, (d, e)))))) =
     let nets = nets-admitted net a in record {
       two = nets .0;
       most = nets .1;
       class = small (admitted-class net k b);
       class-positive = positive (nets .0) (admitted-class net k b);
-      level-byte = level-admitted net level;
+      level-byte = bit-admitted (net .level) level;
+      gate-byte = bit-admitted (net .gate) gate;
       vectors-most = vectors-admitted vectors c;
       narrow = no-high-bit net vectors d;
     }

@@ -1,23 +1,37 @@
 -- The driver that a walking vector names.
-use mathlib.Core.Path.{_≡_, sym, ap, _∙_}
+use mathlib.Core.Path.{_≡_, refl, sym, ap, _∙_}
 use mathlib.Core.Bool.{true}
-use mathlib.Core.Logic.{_≢_, _↔_}
+use mathlib.Core.Logic.{⊎-elim, _≢_, _↔_}
 use Prim.Native.Nat.{ℕ, _^_, _≤_, _<_}
 use native.Mathlib.Omega.{arith}
 use lib.Count.{trailingZeros}
+use lib.Dec.{eqb}
 use lib.Pow.{pow-pos, pow-lt}
+use borrow.Author.Tests.{eq-eqb, ne-eqb}
 use Rattle.words.specs.Bits.{has}
-use Rattle.words.proofs.Tests.{contrary}
-use Rattle.words.proofs.Bits.{has-zero, has-own, has-only}
-use Rattle.words.proofs.Classes.{trailing-of-power}
+use Rattle.words.proofs.Tests.{contrary, three-ways}
+use Rattle.words.proofs.Bits.{has-zero, has-power, has-only}
+use Rattle.words.proofs.Classes.{has-where-zeros-end, none-below-lowest}
 use Rattle.network.specs.declared.Network.{Network}
-use Rattle.network.specs.Reading.{walking-vector}
+use Rattle.network.specs.Reading.{active, walking-vector}
+use Rattle.network.specs.Joint.{ActiveBits}
+use Rattle.network.proofs.Reading.{active-walking}
 
--- the trailing zeros of a walking vector are its net
-pub walking-names : (net : Network) (vector i : ℕ) → net .nets ≤ 48 → i < net .nets → vector ≡ walking-vector net i
-    → trailingZeros 64 vector ≡ i
-unfolding walking-vector
-walking-names net vector i most l e = ap (trailingZeros 64) e ∙ trailing-of-power 64 i (omega arith)
+-- the trailing zeros of the active bits of a walking vector are its net
+pub walking-names : (net : Network) (vector bits i : ℕ) → net .nets ≤ 48 → i < net .nets → ActiveBits net (net .nets) vector bits
+    → vector ≡ walking-vector net i → trailingZeros 64 bits ≡ i
+walking-names net vector bits i most l shown e = ⊎-elim low (λ w. ⊎-elim (λ q. q) high w) (three-ways (trailingZeros 64 bits) i)
+  where
+    bit-at : (j : ℕ) → j < net .nets → has bits j ≡ eqb i j
+    bit-at j m = shown j m ∙ ap (λ (w : ℕ). active net (has w j)) e ∙ active-walking net i j l m
+
+    low : trailingZeros 64 bits < i → trailingZeros 64 bits ≡ i
+    low h =
+        contrary (has-where-zeros-end 64 bits (omega arith))
+        (bit-at (trailingZeros 64 bits) (omega arith) ∙ ne-eqb _ _ (λ (q : i ≡ trailingZeros 64 bits). omega arith))
+
+    high : i < trailingZeros 64 bits → trailingZeros 64 bits ≡ i
+    high h = contrary (bit-at i l ∙ eq-eqb i i refl) (none-below-lowest 64 bits i h)
 
 -- what the set says of the vectors that name its driver
 abbrev pub Names : Network → ℕ → ℕ → Type 0
@@ -26,13 +40,13 @@ Names net vector set = (set < 2 ^ (net .nets)) × ((i : ℕ) → i < net .nets �
 pub names-none : (net : Network) (vector : ℕ) → ((i : ℕ) → i < net .nets → vector ≢ walking-vector net i) → Names net vector 0
 names-none net vector h = (pow-pos (net .nets), λ i l. (λ e. contrary e (has-zero i), λ e. absurd (h i l e)))
 
--- a walking vector is its own driver as a set
-pub names-itself : (net : Network) (vector j : ℕ) → j < net .nets → vector ≡ walking-vector net j → Names net vector vector
-unfolding walking-vector
-names-itself net vector j l e = (
-  rw e (pow-lt l),
+-- a walking vector names one driver
+pub names-one : (net : Network) (vector j : ℕ) → j < net .nets → vector ≡ walking-vector net j → Names net vector (2 ^ j)
+names-one net vector j l e = (
+  pow-lt l,
   λ i m. (
-    λ h. e ∙ ap (λ (x : ℕ). 2 ^ x) (has-only j i (ap (λ (x : ℕ). has x i) (sym e) ∙ h)),
-    λ q. ap (λ (x : ℕ). has x i) q ∙ has-own i,
+    λ h. e ∙ ap (walking-vector net) (has-only j i h),
+    λ q. has-power j i ∙ sym (active-walking net j i l m) ∙ ap (λ (w : ℕ). active net (has w i)) (sym e ∙ q)
+        ∙ active-walking net i i m m ∙ eq-eqb i i refl,
   ),
 )

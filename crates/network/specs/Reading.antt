@@ -1,8 +1,9 @@
--- What receivers read: wired OR, and the soft level where nothing is driven (source document 000, sections 2 and 3).
+-- What receivers read: a wired OR or a wired AND of what their drivers drive, and the soft level where nothing is driven
+-- (source document 000, sections 2 and 3; document 02's gate).
 use Prim.Native.Nat.{ℕ, _-_, _^_, _<_}
 use mathlib.Core.Path.{_≡_}
-use mathlib.Core.Logic.{_⊎_, _↔_}
-use mathlib.Core.Bool.{Bool, true, _&&_, cond}
+use mathlib.Core.Logic.{_⊎_, _↔_, _≢_}
+use mathlib.Core.Bool.{Bool, true, false, not, _&&_, cond}
 use mathlib.Core.List.{List, [], _∷_, map}
 use lib.Dec.{eqb}
 use lib.ListN.{length}
@@ -12,17 +13,33 @@ use Rattle.network.specs.declared.Network.{Network}
 
 -- ---- networks by name
 
--- n nets, and the level that their receivers float to
-abbrev pub network-with : (nets level : ℕ) → Network
-network-with nets level = record { nets = nets; level = level }
+-- n nets, the level that their receivers float to, and the gate: 0 for OR, 1 for AND
+abbrev pub network-with : (nets level gate : ℕ) → Network
+network-with nets level gate = record { nets = nets; level = level; gate = gate }
 
--- document 01's networks: floating receivers read 1
+-- the same, by the gate
+abbrev pub wired-or : (nets level : ℕ) → Network
+wired-or nets level = network-with nets level 0
+
+abbrev pub wired-and : (nets level : ℕ) → Network
+wired-and nets level = network-with nets level 1
+
+-- document 01's networks: wired OR, and floating receivers read 1
 abbrev pub network-of : ℕ → Network
-network-of nets = network-with nets 1
+network-of nets = wired-or nets 1
 
 -- the soft level, what a floating receiver reads; row 17 refuses every number but 0 and 1
 abbrev pub soft-level : Network → Bool
 soft-level net = eqb (net .level) 1
+
+-- whether the gate is AND; row 20 refuses every number but 0 and 1
+abbrev pub is-and : Network → Bool
+is-and net = eqb (net .gate) 1
+
+-- whether a value is the gate's active one: of drivers tied together, one that drives it decides. 1 at a wired OR, 0 at
+-- a wired AND
+unfoldable pub active : Network → Bool → Bool
+active net value = cond (is-and net) (not value) value
 
 -- ---- driver sets and vectors by name
 
@@ -33,17 +50,17 @@ all-drivers net = 2 ^ (net .nets) - 1
 unfoldable pub all-but : Network → ℕ → ℕ
 all-but net i = all-drivers net - 2 ^ i
 
--- the walking vector of net i: its driver alone drives 1
+-- the walking vector of net i: the single 1 at i, or at a wired AND the single 0 among n bits
 unfoldable pub walking-vector : Network → ℕ → ℕ
-walking-vector net i = 2 ^ i
+walking-vector net i = cond (is-and net) (all-but net i) (2 ^ i)
 
--- the vector that tells a floating receiver from one that is driven: no driver drives 1
+-- the vector that tells a floating receiver from one that is driven: vector 0, or at a wired AND all n ones
 unfoldable pub extra-vector : Network → ℕ
-extra-vector net = 0
+extra-vector net = cond (is-and net) (all-drivers net) 0
 
--- whether there is one: only where a floating receiver reads 1, as one does that a driver at 1 reaches
+-- whether there is one: only where a floating receiver reads the active value, as one does that an active driver reaches
 unfoldable pub needs-extra : Network → Bool
-needs-extra net = soft-level net
+needs-extra net = active net (soft-level net)
 
 -- the extra vector, if there is one
 unfoldable pub extra-vectors : Network → List ℕ
@@ -51,18 +68,35 @@ extra-vectors net = cond (needs-extra net) (extra-vector net ∷ []) []
 
 -- ---- reading
 
--- some driver is in both sets
+-- some driver is in both sets; of a reach and a vector: some driver in the reach drives 1
 unfoldable pub meets : Network → ℕ → ℕ → Bool
 meets net a b = any (net .nets) (λ j. has a j && has b j)
 
+-- some driver in the reach drives 0
+unfoldable pub some-at-0 : Network → ℕ → ℕ → Bool
+some-at-0 net reach vector = any (net .nets) (λ j. has reach j && not (has vector j))
+
+-- what the drivers in a reach drive together. Wired OR: 1 if one of them drives 1, else 0. Wired AND: 0 if one of them
+-- drives 0, else 1.
+unfoldable pub driven : Network → ℕ → ℕ → Bool
+driven net reach vector = cond (is-and net) (not (some-at-0 net reach vector)) (meets net reach vector)
+
 -- what a receiver of this reach reads on a vector
 unfoldable pub reads : Network → ℕ → ℕ → Bool
-reads net reach vector = let driven = meets net reach vector in cond (eqb reach 0) (soft-level net) driven
+reads net reach vector = let together = driven net reach vector in cond (eqb reach 0) (soft-level net) together
 
--- the same, said of the drivers: the reach is empty and the level is 1, or some driver in the reach drives 1
+-- some driver in the reach drives this value
+abbrev pub Drives : Network → ℕ → ℕ → Bool → Type 0
+Drives net reach vector value = (j : ℕ) × (j < net .nets) × (has reach j ≡ true) × (has vector j ≡ value)
+
+-- the drivers in the reach drive 1 together: none of them drives 0 (AND), or one drives 1 (OR)
+abbrev pub Driven1 : Network → ℕ → ℕ → Type 0
+Driven1 net reach vector =
+    ((net .gate ≡ 1) × (¬ (Drives net reach vector false))) ⊎ ((net .gate ≢ 1) × Drives net reach vector true)
+
+-- `reads`, said of the drivers: the reach is empty and the level is 1, or it is not empty and its drivers drive 1
 abbrev pub Reads1 : Network → ℕ → ℕ → Type 0
-Reads1 net reach vector =
-    ((reach ≡ 0) × (net .level ≡ 1)) ⊎ ((j : ℕ) × (j < net .nets) × (has reach j ≡ true) × (has vector j ≡ true))
+Reads1 net reach vector = ((reach ≡ 0) × (net .level ≡ 1)) ⊎ ((reach ≢ 0) × Driven1 net reach vector)
 
 -- the sequential word (SRV) of a receiver of this reach: bit t is what it reads on vector t
 unfoldable pub sequential-response : Network → List ℕ → ℕ → ℕ

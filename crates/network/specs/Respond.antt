@@ -11,7 +11,7 @@ use Rattle.network.specs.Reading.{response}
 use Rattle.network.specs.States.{not-a-state}
 use Rattle.network.specs.Rows.{SetRows, Row11, Row12, set-tests, no-room}
 
--- rows 5, 6, 17, 7, 8, then its own: 11 and 12
+-- rows 5, 6, 17, 20, 7, 8, then its own: 11 and 12
 abbrev pub OwnRows : Network → ℕ → (vectors state : List ℕ) → ℕ → List (ℕ × Type 0)
 OwnRows net k vectors state room = (11, Row11 net k state) ∷ (12, Row12 (length vectors) room) ∷ []
 

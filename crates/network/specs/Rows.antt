@@ -24,9 +24,17 @@ Row5 net = (net .nets < 2) ⊎ (48 < net .nets)
 abbrev pub Row6 : Network → ℕ → Type 0
 Row6 net k = (¬ ((k ≡ 1) ⊎ ((k ≡ 2) ⊎ ((k ≡ 3) ⊎ (k ≡ net .nets))))) ⊎ (net .nets < k)
 
+-- neither 0 nor 1
+abbrev pub NoBit : ℕ → Type 0
+NoBit x = ¬ ((x ≡ 0) ⊎ (x ≡ 1))
+
 -- soft level: neither 0 nor 1
 abbrev pub Row17 : Network → Type 0
-Row17 net = ¬ ((net .level ≡ 0) ⊎ (net .level ≡ 1))
+Row17 net = NoBit (net .level)
+
+-- gate: neither OR (0) nor AND (1)
+abbrev pub Row20 : Network → Type 0
+Row20 net = NoBit (net .gate)
 
 -- vectors: fewer than 1 or more than 64
 abbrev pub Row7 : List ℕ → Type 0
@@ -56,8 +64,14 @@ bad-net-count net = ltb (net .nets) 2 || ltb 48 (net .nets)
 abbrev pub bad-class : Network → ℕ → Bool
 bad-class net k = not (eqb k 1 || (eqb k 2 || (eqb k 3 || eqb k (net .nets)))) || ltb (net .nets) k
 
+abbrev pub no-bit : ℕ → Bool
+no-bit x = not (eqb x 0 || eqb x 1)
+
 abbrev pub bad-level : Network → Bool
-bad-level net = not (eqb (net .level) 0 || eqb (net .level) 1)
+bad-level net = no-bit (net .level)
+
+abbrev pub bad-gate : Network → Bool
+bad-gate net = no-bit (net .gate)
 
 abbrev pub bad-vector-count : List ℕ → Bool
 bad-vector-count vectors = ltb (length vectors) 1 || ltb 64 (length vectors)
@@ -74,10 +88,10 @@ no-room result room = ltb room result
 -- ---- the rows of a network alone: a call that takes no class begins with them, and a session's record keeps to them
 
 abbrev pub NetworkRows : Network → List (ℕ × Type 0)
-NetworkRows net = (5, Row5 net) ∷ (17, Row17 net) ∷ []
+NetworkRows net = (5, Row5 net) ∷ (17, Row17 net) ∷ (20, Row20 net) ∷ []
 
 abbrev pub network-tests : Network → List (ℕ × Bool)
-network-tests net = (5, bad-net-count net) ∷ (17, bad-level net) ∷ []
+network-tests net = (5, bad-net-count net) ∷ (17, bad-level net) ∷ (20, bad-gate net) ∷ []
 
 -- the number of the first that holds, or 0
 abbrev pub network-refusal : Network → ℕ
@@ -87,14 +101,16 @@ network-refusal net = first-number (network-tests net)
 abbrev pub AdmittedNetwork : Network → Type 0
 AdmittedNetwork net = NoneHolds (NetworkRows net)
 
--- ---- rows 5, 6, 17, 7 and 8, with which every call on a test set begins
+-- ---- rows 5, 6, 17, 20, 7 and 8, with which every call on a test set begins
 
 abbrev pub SetRows : Network → ℕ → List ℕ → List (ℕ × Type 0)
-SetRows net k vectors = (5, Row5 net) ∷ (6, Row6 net k) ∷ (17, Row17 net) ∷ (7, Row7 vectors) ∷ (8, HighBit net vectors) ∷ []
+SetRows net k vectors =
+    (5, Row5 net) ∷ (6, Row6 net k) ∷ (17, Row17 net) ∷ (20, Row20 net) ∷ (7, Row7 vectors) ∷ (8, HighBit net vectors) ∷ []
 
 abbrev pub set-tests : Network → ℕ → List ℕ → List (ℕ × Bool)
 set-tests net k vectors =
-    (5, bad-net-count net) ∷ (6, bad-class net k) ∷ (17, bad-level net) ∷ (7, bad-vector-count vectors) ∷ (8, has-high-bit net vectors) ∷ []
+    (5, bad-net-count net) ∷ (6, bad-class net k) ∷ (17, bad-level net) ∷ (20, bad-gate net)
+    ∷ (7, bad-vector-count vectors) ∷ (8, has-high-bit net vectors) ∷ []
 
 -- what they say alone, computed, and as the code's enum means it
 abbrev pub set-admission : Network → ℕ → List ℕ → Answer (Unit {0})

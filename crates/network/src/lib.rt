@@ -9,10 +9,11 @@ pub mod receivers;
 pub mod refusals;
 
 // The nets of a network, n in document 01: each has one driver and one receiver. The soft level is what a receiver
-// reads that floats, 0 or 1.
+// reads that floats, 0 or 1. The gate joins what several drivers drive: OR, 0, or AND, 1.
 pub struct Network {
     pub nets: u64,
     pub level: u64,
+    pub gate: u64,
 }
 
 // What the rows of a network, a class and a test set say.
@@ -27,7 +28,8 @@ pub enum Responded {
     Refused(u64),
 }
 
-// The call *response from a state*: one response word a vector into the front of `out`. Rows 5, 6, 17, 7, 8, 11, 12.
+// The call *response from a state*: one response word a vector into the front of `out`. Rows 5, 6, 17, 20, 7, 8, 11,
+// 12.
 pub fn response_from_state(
     net: Network,
     class: u64,

@@ -5,8 +5,9 @@ ghost use Prim.Native.Nat.{ℕ, _<_, _≤_, _^_};
 ghost use lib.ListN.{length};
 ghost use Rattle.words.specs.Bits.{at};
 ghost use Rattle.network.specs.States.{«few-drivers», «has-wrong-reach», «has-conflict», «not-a-state»};
-ghost use Rattle.network.specs.Rows.{«bad-net-count», «bad-class», «bad-level», «bad-vector-count», «has-high-bit»};
-ghost use Rattle.network.specs.Rows.{«bad-response-count», «no-room», «network-refusal», «set-admission», admission};
+ghost use Rattle.network.specs.Rows.{«bad-net-count», «bad-class», «bad-level», «bad-gate», «bad-vector-count»};
+ghost use Rattle.network.specs.Rows.{«has-high-bit», «bad-response-count», «no-room», «network-refusal», «set-admission»};
+ghost use Rattle.network.specs.Rows.{admission};
 use crate::Admission;
 use crate::Network;
 
@@ -34,6 +35,14 @@ fn bad_level(net: Network) -> bool
     !((level == 0) | (level == 1))
 }
 
+// Row 20: the gate neither OR, 0, nor AND, 1.
+fn bad_gate(net: Network) -> bool
+    ensures { λ r. ⌜ r ≡ bad-gate net ⌝ }
+{
+    let gate = net.gate;
+    !((gate == 0) | (gate == 1))
+}
+
 // Row 7: fewer than 1 vector or more than 64.
 fn bad_vector_count(vectors: &[u64]) -> bool
     ensures { λ r. ⌜ r ≡ bad-vector-count (now (vectors .entry)) ⌝ }
@@ -58,7 +67,7 @@ pub fn has_high_bit(net: Network, words: &[u64]) -> bool
     false
 }
 
-// The first of a network's own rows, 5 and 17, that holds, or 0.
+// The first of a network's own rows, 5, 17 and 20, that holds, or 0.
 pub fn network_refusal(net: Network) -> u64
     ensures { λ r. ⌜ r ≡ network-refusal net ⌝ }
 {
@@ -68,10 +77,13 @@ pub fn network_refusal(net: Network) -> u64
     if bad_level(net) {
         return 17;
     }
+    if bad_gate(net) {
+        return 20;
+    }
     0
 }
 
-// Rows 5, 6, 17, 7 and 8, with which every call on a test set begins.
+// Rows 5, 6, 17, 20, 7 and 8, with which every call on a test set begins.
 pub fn admit_set(net: Network, class: u64, vectors: &[u64]) -> Admission
     ensures { λ r. ⌜ admission r ≡ set-admission net class (now (vectors .entry)) ⌝ }
 {
@@ -83,6 +95,9 @@ pub fn admit_set(net: Network, class: u64, vectors: &[u64]) -> Admission
     }
     if bad_level(net) {
         return Admission::Refused(17);
+    }
+    if bad_gate(net) {
+        return Admission::Refused(20);
     }
     if bad_vector_count(vectors) {
         return Admission::Refused(7);

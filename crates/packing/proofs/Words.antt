@@ -60,10 +60,11 @@ unfolding session-words session-of
 session-there words e =
     let answers = take 8 (drop first-place words) in
     let states = take 48 (drop reaches-place words) in
-    let front : words ≡ at words 0 ∷ at words 1 ∷ at words 2 ∷ drop first-place words =
+    let front : words ≡ at words 0 ∷ at words 1 ∷ at words 2 ∷ at words 3 ∷ drop first-place words =
     drop-cons words 0 0 (omega arith)
     ∙ ap (λ (rest : List ℕ). at words 0 ∷ rest)
-    (drop-cons words 1 0 (omega arith) ∙ ap (λ (rest : List ℕ). at words 1 ∷ rest) (drop-cons words 2 0 (omega arith))) in
+    (drop-cons words 1 0 (omega arith) ∙ ap (λ (rest : List ℕ). at words 1 ∷ rest)
+    (drop-cons words 2 0 (omega arith) ∙ ap (λ (rest : List ℕ). at words 2 ∷ rest) (drop-cons words 3 0 (omega arith)))) in
     let first : answers ++ drop reaches-place words ≡ drop first-place words =
     ap (λ (rest : List ℕ). answers ++ rest) (sym (drop-drop 8 first-place words)) ∙ take-append-drop 8 (drop first-place words) in
     let reaches : states ++ drop spent-place words ≡ drop reaches-place words =
@@ -74,7 +75,7 @@ session-there words e =
     let tail : answers ++ states ++ at words spent-place ∷ [] ≡ drop first-place words =
     append-assoc answers states (at words spent-place ∷ []) ∙ ap (λ (rest : List ℕ). answers ++ (states ++ rest)) (sym spent)
     ∙ ap (λ (rest : List ℕ). answers ++ rest) reaches ∙ first in
-    ap (λ (rest : List ℕ). at words 0 ∷ at words 1 ∷ at words 2 ∷ rest) tail ∙ sym front
+    ap (λ (rest : List ℕ). at words 0 ∷ at words 1 ∷ at words 2 ∷ at words 3 ∷ rest) tail ∙ sym front
 
 -- ---- a record with arrays of 8 and 48 words
 

@@ -20,9 +20,10 @@ unfoldable pub finding-words : List Finding → List ℕ
 finding-words [] = []
 finding-words (found ∷ table) = found .kind ∷ found .reach ∷ found .partners ∷ finding-words table
 
--- nets, level, class, number of vectors, number of responses
+-- nets, level, gate, class, number of vectors, number of responses
 unfoldable pub job-words : JobContent → List ℕ
-job-words job = job .network .nets ∷ job .network .level ∷ job .class ∷ length (job .vectors) ∷ length (job .responses) ∷ []
+job-words job =
+    job .network .nets ∷ job .network .level ∷ job .network .gate ∷ job .class ∷ length (job .vectors) ∷ length (job .responses) ∷ []
 
 -- how many bytes a file has
 abbrev pub size-words : List ℕ → List ℕ
@@ -30,7 +31,7 @@ size-words file = length file ∷ []
 
 -- where the parts of a session's record stand among its words, and how many words it has
 abbrev pub first-place : ℕ
-first-place = 3
+first-place = 4
 
 abbrev pub reaches-place : ℕ
 reaches-place = first-place + 8
@@ -41,9 +42,9 @@ spent-place = reaches-place + 48
 abbrev pub session-size : ℕ
 session-size = spent-place + 1
 
--- step, nets, level
+-- step, nets, level, gate
 abbrev pub session-head : Session → List ℕ
-session-head session = session .step ∷ session .network .nets ∷ session .network .level ∷ []
+session-head session = session .step ∷ session .network .nets ∷ session .network .level ∷ session .network .gate ∷ []
 
 -- then 8 words of first answers, 48 reaches, vectors spent
 unfoldable pub session-words : Session → List ℕ
@@ -54,7 +55,7 @@ unfoldable pub session-of : List ℕ → Session
 session-of words =
     record {
       step = at words 0;
-      network = network-with (at words 1) (at words 2);
+      network = network-with (at words 1) (at words 2) (at words 3);
       first = take 8 (drop first-place words);
       reaches = take 48 (drop reaches-place words);
       spent = at words spent-place;

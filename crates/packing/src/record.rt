@@ -1,29 +1,31 @@
-// A session's record as 60 words.
+// A session's record as 61 words.
 ghost use mathlib.Core.Path.{_≡_};
 ghost use lib.ListN.{length};
 ghost use Rattle.packing.specs.Packed.{«session-size», «session-words», «session-of»};
 use network::Network;
 use session::Session;
 
-// The record that the words are. That they are 60 is said by their type, and for a caller's proof also here.
-pub fn session_of(words: &[u64; 60]) -> Session
+// The record that the words are. That they are 61 is said by their type, and for a caller's proof also here.
+pub fn session_of(words: &[u64; 61]) -> Session
     ensures record { λ r. ⌜ r ≡ session-of (now (words .entry)) ⌝ }
     ensures size { λ r. ⌜ length (now (words .entry)) ≡ session-size ⌝ }
 {
     let all = &words[..];
     let mut first = [0u64; 8];
-    words::lists::copy_words(&all[3..11], &mut first);
+    words::lists::copy_words(&all[4..12], &mut first);
     let mut reaches = [0u64; 48];
-    words::lists::copy_words(&all[11..59], &mut reaches);
+    words::lists::copy_words(&all[12..60], &mut reaches);
     let step = words[0];
     let nets = words[1];
     let level = words[2];
-    let spent = words[59];
+    let gate = words[3];
+    let spent = words[60];
     Session {
         step: step,
         network: Network {
             nets: nets,
             level: level,
+            gate: gate,
         },
         first: first,
         reaches: reaches,
@@ -32,17 +34,22 @@ pub fn session_of(words: &[u64; 60]) -> Session
 }
 
 // The record's words.
-pub fn words_of(session: Session) -> [u64; 60]
+pub fn words_of(session: Session) -> [u64; 61]
     ensures { λ r. ⌜ r ≡ session-words session ⌝ }
 {
-    let mut words = [0u64; 60];
-    let head = [session.step, session.network.nets, session.network.level];
+    let mut words = [0u64; 61];
+    let head = [
+        session.step,
+        session.network.nets,
+        session.network.level,
+        session.network.gate,
+    ];
     let first = session.first;
     let reaches = session.reaches;
     let tail = [session.spent];
     crate::lists::put_at(&mut words, 0, &head);
-    crate::lists::put_at(&mut words, 3, &first);
-    crate::lists::put_at(&mut words, 11, &reaches);
-    crate::lists::put_at(&mut words, 59, &tail);
+    crate::lists::put_at(&mut words, 4, &first);
+    crate::lists::put_at(&mut words, 12, &reaches);
+    crate::lists::put_at(&mut words, 60, &tail);
     words
 }

@@ -1,4 +1,4 @@
--- The call *read a job file*: rows 1, 2, 3, 5, 6, 17, 7, 8, 9, 10, 12.
+-- The call *read a job file*: rows 1, 2, 3, 5, 6, 17, 20, 7, 8, 9, 10, 12.
 use Prim.Native.Nat.{ℕ}
 use mathlib.Core.Path.{_≡_}
 use mathlib.Core.Logic.{_⊎_}

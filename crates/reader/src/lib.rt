@@ -71,7 +71,7 @@ fn read_content(file: &[u8], vectors: &mut [u64], responses: &mut [u64]) -> Read
 }
 
 // The call *read a job file*: the vectors into the front of `vectors`, the responses into the front of `responses`.
-// Rows 1, 2, 3, 5, 6, 17, 7, 8, 9, 10, 12.
+// Rows 1, 2, 3, 5, 6, 17, 20, 7, 8, 9, 10, 12.
 pub fn read_job(file: &[u8], vectors: &mut [u64], responses: &mut [u64]) -> ReadJob
     ensures answer { λ r. ⌜ meaning r
         ≡ counted (read-answer (now (file .entry)) (length (now (vectors .entry)))

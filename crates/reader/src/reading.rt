@@ -100,7 +100,7 @@ pub fn bad_layout(file: &[u8]) -> bool
     false
 }
 
-// Row 3: nets body not 3 bytes, or another not a multiple of 8.
+// Row 3: nets body not 4 bytes, or another not a multiple of 8.
 pub fn bad_bodies(file: &[u8]) -> bool
     requires { ⌜ bad-layout (now file) ≡ false ⌝ }
     ensures { λ r. ⌜ r ≡ bad-bodies (now (file .entry)) ⌝ }
@@ -128,7 +128,7 @@ fn nets_byte(file: &[u8], i: usize) -> u64
     file[at + i] as u64
 }
 
-// The network: the first and the third byte of the nets body.
+// The network: the first, the third and the fourth byte of the nets body.
 pub fn file_network(file: &[u8]) -> Network
     requires { ⌜ (bad-layout (now file) ≡ false) × (bad-bodies (now file) ≡ false) ⌝ }
     ensures { λ r. ⌜ r ≡ file-network (now (file .entry)) ⌝ }
@@ -136,6 +136,7 @@ pub fn file_network(file: &[u8]) -> Network
     Network {
         nets: nets_byte(file, 0),
         level: nets_byte(file, 2),
+        gate: nets_byte(file, 3),
     }
 }
 

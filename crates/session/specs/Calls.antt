@@ -19,7 +19,7 @@ unfoldable pub stepped : Answer (List ℕ) → (new old : Session) → Stepped
 stepped (refused number) new old = record { code = number; session = old }
 stepped (full words) new old = record { code = 0; session = new }
 
--- ---- begin: rows 5, 17 and 12
+-- ---- begin: rows 5, 17, 20 and 12
 
 -- the call's answer, computed
 unfoldable pub begin-answer : Network → ℕ → Answer (List ℕ)

@@ -38,7 +38,7 @@ fn refused(number: u64, session: Session) -> Stepped
     }
 }
 
-// The step of *begin*, by value: the vectors of step one into the front of `list`. Rows 5, 17 and 12.
+// The step of *begin*, by value: the vectors of step one into the front of `list`. Rows 5, 17, 20 and 12.
 fn begin_step(session: Session, net: Network, list: &mut [u64]) -> Stepped
     ensures session { λ r. ⌜ r .session ≡ begun session net (length (now (list .entry))) .session ⌝ }
     ensures code { λ r. ⌜ r .code ≡ begun session net (length (now (list .entry))) .code ⌝ }

@@ -1,9 +1,10 @@
 // The calls on a session's record. A line is one of these:
-//     1 n room                    begin, at the soft level set; `room` is the length of the list lent, at most 64
+//     1 n room                    begin, at the soft level and with the gate set; `room` is the length of the list
+//                                 lent, at most 64
 //     2 room: answers             first answers
 //     3: answers                  second answers
 //     4: words; words             the vectors to drive next, of these two lists
-//     5 step n first reach spent  no call: the record is filled with these numbers, and with the soft level set
+//     5 step n first reach spent  no call: the record is filled with these numbers, and with the level and gate set
 ghost use mathlib.Core.Path.{_≡_};
 ghost use Prim.Native.Nat.{_≤_};
 ghost use lib.ListN.{length};
@@ -31,7 +32,12 @@ fn filled(step: u64, net: Network, first: u64, reach: u64, spent: u64) -> Sessio
 
 // A record that is no call's.
 pub fn junk() -> Session {
-    filled(7, Network { nets: 9, level: 6 }, 5, 3, 4)
+    let net = Network {
+        nets: 9,
+        level: 6,
+        gate: 8,
+    };
+    filled(7, net, 5, 3, 4)
 }
 
 // The record, shown and filled.

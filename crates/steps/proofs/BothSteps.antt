@@ -1,6 +1,6 @@
 -- The two steps together: at most one state fits the answers to both, and it is the one that is read back.
 use mathlib.Core.Path.{_≡_, refl, sym, ap, ap₂, _∙_, subst}
-use mathlib.Core.Bool.{Bool, true, false, not, _&&_}
+use mathlib.Core.Bool.{Bool, true, false, not, _&&_, cond}
 use mathlib.Core.Logic.{⊎-elim, _≢_}
 use mathlib.Core.List.{List, [], _∷_, _++_, map, map-append}
 use Prim.Native.Nat.{ℕ, _+_, _-_, _^_, _≤_, _<_, zero-le}
@@ -23,10 +23,10 @@ use Rattle.words.proofs.Passing.{count-most, count-grows-past, larger-by-count,
 use Rattle.words.proofs.Searching.{any-at, any-none}
 use Rattle.words.proofs.Tests.{cases, contrary, and-left, and-right, and-both, same-truth, less-or-not, test-fails}
 use Rattle.network.specs.declared.Network.{Network}
-use Rattle.network.specs.Reading.{soft-level, walking-vector, extra-vector, needs-extra, extra-vectors, reads, ReadAlike}
-use Rattle.network.specs.Reading.{sequential-response, response-word, response}
+use Rattle.network.specs.Reading.{soft-level, is-and, active, walking-vector, extra-vector, needs-extra, extra-vectors, reads}
+use Rattle.network.specs.Reading.{ReadAlike, sequential-response, response-word, response}
 use Rattle.network.specs.States.{DriverSet, State, Fits}
-use Rattle.network.proofs.Reading.{active, extra-one, extra-most, reads-floating, reads-active, reads-alone, reads-walking}
+use Rattle.network.proofs.Reading.{extra-one, extra-most, reads-floating, reads-active, reads-alone, reads-walking}
 use Rattle.network.proofs.Reading.{reads-walking-all, reads-extra, has-sequential, active-answers, sequential-below}
 use Rattle.network.proofs.Reading.{alike-sequential, response-is}
 use Rattle.diagnosis.specs.ReadBack.{read-back, no-state-fits}
@@ -113,7 +113,15 @@ module _ (net : Network) (apart : WordsApart net) where
       → (t : ℕ) × (t < word-length net) × (active net (has (at (sequential-words net) j) t) ≡ true)
       × (active net (has (at (sequential-words net) i) t) ≡ false)
   unfolding active
-  uncovered-active i j l m d = apart .uncovered i j l m d
+  uncovered-active i j l m d = go (is-and net)
+    where
+      bit : ℕ → ℕ → Bool
+      bit x t = has (at (sequential-words net) x) t
+
+      go : (g : Bool)
+          → (t : ℕ) × (t < word-length net) × (cond g (not (bit j t)) (bit j t) ≡ true) × (cond g (not (bit i t)) (bit i t) ≡ false)
+      go true = let o = apart .uncovered j i m l (λ q. d (sym q)) in (o .0, o .1, ap not (o .3), ap not (o .2))
+      go false = apart .uncovered i j l m d
 
   -- a reach that returns net i's word is its driver alone
   own-word : (i a : ℕ) → i < net .nets → a < 2 ^ (net .nets)

@@ -31,6 +31,7 @@ pub fn only_at(word: u64, words: &[u64], i: usize) -> bool
 
 // The extra vector, if there is one, and no other yet.
 fn extra_alone(net: Network) -> SecondVectors
+    requires { ⌜ net .nets ≤ 48 ⌝ }
     ensures { λ r. ⌜ (length (r .words) ≡ 49) × (r .count ≡ length (extra-vectors net))
         × (take (r .count) (r .words) ≡ extra-vectors net) ⌝ }
 {

@@ -15,9 +15,9 @@ pub enum Line {
     Call,
 }
 
-// Empty lines and lines that begin with `#` are skipped. A line that begins with `level` gives the soft level of the
-// calls on the lines after it (setting.rt). Any other that begins with a letter names those calls, or starts a record
-// for them.
+// Empty lines and lines that begin with `#` are skipped. A line that begins with `level` or `gate` gives the soft level
+// or the gate of the calls on the lines after it (setting.rt). Any other that begins with a letter names those calls,
+// or starts a record for them.
 pub fn kind_of(line: &[u8]) -> Line {
     if line.len() == 0 {
         return Line::Skipped;

@@ -8,14 +8,15 @@ use crate::read::MOST;
 use crate::show;
 use network::Network;
 
-// All of a network but the number of its nets: the soft level.
+// All of a network but the number of its nets: the soft level and the gate.
 pub struct Setting {
     pub level: u64,
+    pub gate: u64,
 }
 
-// The setting where no line says another.
+// The setting where no line says another: level 1, and OR.
 pub fn usual() -> Setting {
-    Setting { level: 1 }
+    Setting { level: 1, gate: 0 }
 }
 
 // The network of n nets in a setting.
@@ -23,6 +24,7 @@ pub fn network_in(setting: Setting, nets: u64) -> Network {
     Network {
         nets: nets,
         level: setting.level,
+        gate: setting.gate,
     }
 }
 
@@ -43,39 +45,51 @@ fn past(line: &[u8], name: &[u8]) -> usize
     i
 }
 
-// The index past `level`; 0 if a line does not begin so.
-fn past_level(line: &[u8]) -> usize
-    ensures { λ r. ⌜ r ≤ length (now (line .entry)) ⌝ }
-{
-    past(line, b"level")
-}
-
-// Whether a line is of those that this file reads.
+// Whether a line is of those that this file reads: it begins with the name of a part of the setting.
 pub fn is_setting(line: &[u8]) -> bool {
-    past_level(line) != 0
+    (past(line, b"level") != 0) | (past(line, b"gate") != 0)
 }
 
-// Shows a line that gives the soft level, `level` and one number, and returns the setting with that level. If it has
-// not one number, it is shown as unreadable and changes nothing.
-fn changed(before: Setting, line: &[u8]) -> Setting {
-    let mut words = [0u64; MOST];
-    let from = past_level(line);
-    let list = read::list_at(line, from, &mut words);
-    if (list.count != 1) | (list.mark != END) {
-        show::unreadable();
-        show::end_line();
+// Whether a line has a space at an index.
+fn has_space(line: &[u8], at: usize) -> bool {
+    if line.len() <= at {
+        return false;
+    }
+    line[at] == b' '
+}
+
+// What a line makes of the part of a setting that has this name. A line that begins with the name is shown, and gives
+// the part if after the name stand a space and one number; if not, it is shown as unreadable and changes nothing.
+fn changed(before: u64, line: &[u8], name: &[u8]) -> u64 {
+    let from = past(line, name);
+    if from == 0 {
         return before;
     }
-    show::entry(b"level", words[0]);
+    let mut words = [0u64; MOST];
+    let list = read::list_at(line, from, &mut words);
+    if has_space(line, from) & (list.count == 1) & (list.mark == END) {
+        show::entry(name, words[0]);
+        show::end_line();
+        return words[0];
+    }
+    show::unreadable();
     show::end_line();
-    Setting { level: words[0] }
+    before
+}
+
+// The setting after a line that is of those that this file reads. It gives one part, and the other stays.
+fn changed_by(before: Setting, line: &[u8]) -> Setting {
+    Setting {
+        level: changed(before.level, line, b"level"),
+        gate: changed(before.gate, line, b"gate"),
+    }
 }
 
 // The setting of the calls after a line: one that names them, or starts a record for them, goes back to the usual one.
 pub fn after(before: Setting, line: &[u8]) -> Setting {
     match crate::kind_of(line) {
         Line::Skipped => before,
-        Line::Setting => changed(before, line),
+        Line::Setting => changed_by(before, line),
         Line::Name => usual(),
         Line::Call => before,
     }

@@ -1,6 +1,6 @@
 -- Laws of a word's bits. What stands above goes by `has` and these laws, and not by `/` and `%`.
 use mathlib.Core.Path.{_≡_, refl, sym, ap, ap₂, _∙_}
-use mathlib.Core.Bool.{Bool, true, false, not, _&&_, _||_, true≢false, false≢true}
+use mathlib.Core.Bool.{Bool, true, false, not, _&&_, _||_, cond, true≢false, false≢true}
 use mathlib.Core.Logic.{_≢_}
 use Prim.Native.Nat.{ℕ, zero, suc, _+_, _-_, _*_, _/_, _%_, _^_, _≤_, _<_, zero-le, min, max}
 use native.Mathlib.Nat.{mod-lt, zero-div, zero-lt-suc, div-one, le-of-suc-le-suc, lt-of-not-le, not-suc-le-zero}
@@ -8,7 +8,7 @@ use native.Mathlib.Numerals.{one-add}
 use native.Mathlib.Omega.{arith}
 use lib.Dec.{eqb, eqb·zero-suc, eqb·suc-zero, eqb·suc-suc}
 use lib.Arith.{digits-mod, lt-one}
-use lib.Bits.{bitAnd, bitOr, and-step, or-step, and-shr, or-shr, or-shifted}
+use lib.Bits.{bitAnd, bitOr, bitXor, differ, and-step, or-step, xor-step, and-shr, or-shr, xor-shr, or-shifted}
 use lib.Pow.{pow-pos, pow-lt, pow-mono, shr-shr, split}
 use borrow.Author.Tests.{eq-eqb, ne-eqb, eqb-true}
 use mir.Val.{boolByte}
@@ -274,6 +274,38 @@ unfolding has
 has-or a b i =
     ap (λ (x : ℕ). eqb (x % 2) 1) (or-shr a b i) ∙ ap (λ (x : ℕ). eqb x 1) (or-low (a / 2 ^ i) (b / 2 ^ i))
     ∙ max-or (bit a i) (bit b i) (bit-below-two a i) (bit-below-two b i)
+
+-- ---- `^`
+
+differ-below : (x y : ℕ) → x < 2 → y < 2 → differ x y < 2
+differ-below zero y h k = k
+differ-below (suc x) zero h k = h
+differ-below (suc zero) (suc y) h k = omega arith
+differ-below (suc (suc x)) (suc y) h k = absurd (not-suc-le-zero {n = 0} (omega arith))
+
+xor-low : (a b : ℕ) → bitXor a b % 2 ≡ differ (a % 2) (b % 2)
+xor-low a b =
+    ap (λ (x : ℕ). x % 2) (xor-step a b)
+    ∙ digits-mod (bitXor (a / 2) (b / 2)) (differ-below _ _ (mod-lt a two-positive) (mod-lt b two-positive))
+
+differ-flips : (x y : ℕ) → x < 2 → y < 2 → eqb (differ x y) 1 ≡ cond (eqb y 1) (not (eqb x 1)) (eqb x 1)
+differ-flips zero zero h k = refl
+differ-flips zero (suc zero) h k = refl
+differ-flips zero (suc (suc y)) h k = absurd (not-suc-le-zero {n = 0} (omega arith))
+differ-flips (suc zero) zero h k = refl
+differ-flips (suc zero) (suc zero) h k = refl
+differ-flips (suc zero) (suc (suc y)) h k = absurd (not-suc-le-zero {n = 0} (omega arith))
+differ-flips (suc (suc x)) y h k = absurd (not-suc-le-zero {n = 0} (omega arith))
+
+has-xor : (a b i : ℕ) → has (bitXor a b) i ≡ cond (has b i) (not (has a i)) (has a i)
+unfolding has
+has-xor a b i =
+    ap (λ (x : ℕ). eqb (x % 2) 1) (xor-shr a b i) ∙ ap (λ (x : ℕ). eqb x 1) (xor-low (a / 2 ^ i) (b / 2 ^ i))
+    ∙ differ-flips (bit a i) (bit b i) (bit-below-two a i) (bit-below-two b i)
+
+-- `^` with the lowest ones gives the other value of each of the lowest bits
+pub has-others : (n w i : ℕ) → i < n → has (bitXor w (2 ^ n - 1)) i ≡ not (has w i)
+has-others n w i l = rw (has-xor w (2 ^ n - 1) i, has-all n i l)
 
 -- a bit below all bits of a word, put into it
 pub has-with : (limit c s j : ℕ) → c < limit → s % 2 ^ limit ≡ 0 → has (s + 2 ^ c) j ≡ has s j || eqb c j

@@ -114,17 +114,6 @@ lowest-one-out (suc k) n p h = and-step n (n - 1) ∙ go (n % 2) refl (lowest-on
         let rest : bitAnd (n / 2) ((n - 1) / 2) ≡ n / 2 = ap (bitAnd (n / 2)) half ∙ and-self (n / 2) in
         omega arith
 
--- the trailing zeros of a walking vector name its net
-pub trailing-of-power : (k i : ℕ) → i < k → trailingZeros k (2 ^ i) ≡ i
-unfolding trailingZeros
-trailing-of-power zero i h = absurd (not-suc-le-zero h)
-trailing-of-power (suc k) zero h = refl
-trailing-of-power (suc k) (suc i) h = go (2 ^ suc i % 2) (2 ^ suc i / 2) (omega arith) (omega arith) (trailing-of-power k i (omega arith))
-  where
-    go : (d x : ℕ) → d ≡ 0 → x ≡ 2 ^ i → trailingZeros k (2 ^ i) ≡ i → under d (trailingZeros k x) ≡ suc i
-    go zero x e f ih = ap suc (ap (trailingZeros k) f ∙ ih)
-    go (suc d) x e f ih = absurd (not-suc-le-zero {n = 0} (omega arith))
-
 -- ---- ones of a sum
 
 -- r on top of a multiple of 2 ^ t, r below 2 ^ t: their ones add up

@@ -1,6 +1,6 @@
 -- Laws of Boolean tests.
-use mathlib.Core.Path.{_≡_, refl, sym, _∙_}
-use mathlib.Core.Bool.{Bool, true, false, not, _&&_, _||_, true≢false, false≢true}
+use mathlib.Core.Path.{_≡_, refl, sym, ap, _∙_}
+use mathlib.Core.Bool.{Bool, true, false, not, _&&_, _||_, cond, true≢false, false≢true}
 use mathlib.Core.Logic.{_⊎_, _≢_, inl, inr, ⊎-elim}
 use Prim.Native.Nat.{ℕ, _≤_, _<_}
 use native.Mathlib.Nat.{eq-or-lt-of-le}
@@ -15,6 +15,13 @@ cases false = inr refl
 -- a test that both passes and fails
 pub contrary : {A : Type 0} {b : Bool} → b ≡ true → b ≡ false → A
 contrary p q = absurd (true≢false (sym p ∙ q))
+
+pub not-not : (b : Bool) → not (not b) ≡ b
+not-not true = refl
+not-not false = refl
+
+pub not-equal : (a b : Bool) → not a ≡ not b → a ≡ b
+not-equal a b e = sym (not-not a) ∙ ap not e ∙ not-not b
 
 pub and-left : (a b : Bool) → a && b ≡ true → a ≡ true
 and-left true b e = refl
@@ -75,6 +82,9 @@ three-ways a b = ⊎-elim inl (λ l. inr (⊎-elim (λ q. inl (sym q)) inr (eq-o
 pub decides-itself : (b : Bool) → Decides b (b ≡ true)
 decides-itself b = (λ e. e, λ e f. contrary f e)
 
+pub decides-off : (b : Bool) → Decides (not b) (b ≡ false)
+decides-off b = (borrow.Author.Tests.not-true b, λ e f. contrary (ap not f) e)
+
 -- the same said otherwise
 pub decides-same : {a : Bool} {A B : Type 0} → (A → B) → (B → A) → Decides a A → Decides a B
 decides-same there back d = (λ e. there (d .0 e), λ e h. d .1 e (back h))
@@ -109,6 +119,12 @@ test-fails {a} f n = ⊎-elim (λ e. absurd (n (f .0 e))) (λ e. e) (cases a)
 pub decides-and : {a b : Bool} {A B : Type 0} → Decides a A → Decides b B → Decides (a && b) (A × B)
 decides-and {a} {b} f g =
     (λ e. (f .0 (and-left a b e), g .0 (and-right a b e)), λ e w. contrary (and-both (test-passes f (w .0)) (test-passes g (w .1))) e)
+
+-- one test or another, by a third
+pub decides-cond : (g : Bool) {a b : Bool} {G A B : Type 0} → Decides g G → Decides a A → Decides b B
+    → Decides (cond g a b) ((G × A) ⊎ ((¬ G) × B))
+decides-cond true d f h = (λ e. inl (d .0 refl, f .0 e), λ e w. ⊎-elim (λ p. f .1 e (p .1)) (λ p. p .0 (d .0 refl)) w)
+decides-cond false d f h = (λ e. inr (d .1 refl, h .0 e), λ e w. ⊎-elim (λ p. d .1 refl (p .0)) (λ p. h .1 e (p .1)) w)
 
 -- numbers that do not differ are equal
 pub equal-if-not-unequal : (a b : ℕ) → ¬ (a ≢ b) → a ≡ b

@@ -1,4 +1,4 @@
--- The call *write a job file*: rows 5, 6, 17, 7, 8, 9, 10, 12.
+-- The call *write a job file*: rows 5, 6, 17, 20, 7, 8, 9, 10, 12.
 use Prim.Native.Nat.{ℕ, _+_, _*_}
 use mathlib.Core.Bool.{Bool, true, false, _&&_}
 use mathlib.Core.Logic.{_≢_}

@@ -15,8 +15,8 @@ pub enum Wrote {
     Refused(u64),
 }
 
-// The call *write a job file*: its bytes into the front of `file`. Rows 5, 6, 17, 7, 8, 9, 10, 12; 9 and 10 only if
-// there are responses.
+// The call *write a job file*: its bytes into the front of `file`. Rows 5, 6, 17, 20, 7, 8, 9, 10, 12; 9 and 10 only
+// if there are responses.
 pub fn write_job(
     net: Network,
     class: u64,

@@ -116,6 +116,7 @@ fn put_nets(file: &mut [u8], offset: usize, net: Network, class: u64)
     put_byte(file, offset, net.nets as u8);
     put_byte(file, offset + 1, class as u8);
     put_byte(file, offset + 2, net.level as u8);
+    put_byte(file, offset + 3, net.gate as u8);
 }
 
 // The nets body, then the words.

@@ -1,6 +1,6 @@
 //! The checker, by the rule as it stands.
 
-use crate::network::{extra_vector, read_along, Network};
+use crate::network::{all_drivers, extra_vector, read_along, walking_vector, Network};
 use crate::rows::{rows_of_set, Rows};
 
 #[derive(Clone, Copy, Debug, PartialEq, Eq)]
@@ -55,11 +55,11 @@ pub fn search(net: Network, k: u64, vectors: &[u64]) -> Verdict {
 
 /// k = n: the extra vector, if there is one, and a walking vector for each net.
 fn walking_rule(net: Network, vectors: &[u64]) -> Verdict {
-    let all: u64 = (0..net.nets).map(|i| 1u64 << i).sum();
+    let all = all_drivers(net.nets);
     if extra_vector(net).is_some_and(|extra| !vectors.contains(&extra)) {
         return Verdict::Pair(0, all);
     }
-    match (0..net.nets).find(|i| !vectors.contains(&(1u64 << i))) {
+    match (0..net.nets).find(|i| !vectors.contains(&walking_vector(net, *i))) {
         Some(i) => Verdict::Pair(all - (1u64 << i), all),
         None => Verdict::Pass,
     }
@@ -87,15 +87,19 @@ pub fn check(net: Network, k: u64, vectors: &[u64]) -> Result<Verdict, u64> {
 #[cfg(test)]
 mod tests {
     use super::*;
-    use crate::network::{all_lists, all_states, response};
+    use crate::network::{all_lists, all_states, each_combination, response, AND, OR};
     use std::collections::HashSet;
+
+    /// Source document 004, table II.
+    const TABLE_TWO: [u64; 7] = [34, 9, 49, 6, 76, 86, 96];
 
     /// Nets, class and vectors, and the verdict on them.
     type Case = (u64, u64, &'static [u64], Verdict);
 
-    fn assert_verdicts(level: u64, cases: &[Case]) {
+    fn assert_verdicts(gate: u64, level: u64, cases: &[Case]) {
         for (nets, k, vectors, expected) in cases {
-            assert_eq!(check(Network { nets: *nets, level }, *k, vectors), Ok(*expected), "{nets} {k} {vectors:?}");
+            let net = Network { nets: *nets, level, gate };
+            assert_eq!(check(net, *k, vectors), Ok(*expected), "{net:?} {k} {vectors:?}");
         }
     }
 
@@ -109,11 +113,11 @@ mod tests {
             (4, 2, &[8, 6, 5], Verdict::Pair(3, 4)),
             (4, 1, &[3, 5, 12, 10], Verdict::Pass),
             (4, 2, &[3, 5, 12, 10], Verdict::Pair(0, 6)),
-            (7, 2, &[34, 9, 49, 6, 76, 86, 96], Verdict::Pass),
+            (7, 2, &TABLE_TWO, Verdict::Pass),
             (2, 2, &[1, 2, 0], Verdict::Pass),
         ];
-        assert_verdicts(1, &cases);
-        assert_ne!(check(Network { nets: 7, level: 1 }, 3, &[34, 9, 49, 6, 76, 86, 96]), Ok(Verdict::Pass));
+        assert_verdicts(OR, 1, &cases);
+        assert_ne!(check(Network { nets: 7, level: 1, gate: OR }, 3, &TABLE_TWO), Ok(Verdict::Pass));
     }
 
     #[test]
@@ -124,7 +128,30 @@ mod tests {
             (4, 2, &[3, 5, 12, 10], Verdict::Pair(6, 9)),
             (2, 1, &[1], Verdict::Pair(0, 2)),
         ];
-        assert_verdicts(0, &cases);
+        assert_verdicts(OR, 0, &cases);
+    }
+
+    #[test]
+    fn verdicts_on_a_wired_and() {
+        let at_level_0: [Case; 7] = [
+            (7, 1, &TABLE_TWO, Verdict::Pass),
+            (7, 2, &TABLE_TWO, Verdict::Pair(0, 3)),
+            (7, 3, &TABLE_TWO, Verdict::Pair(0, 3)),
+            (4, 4, &[15, 14, 13, 11, 7], Verdict::Pass),
+            (4, 4, &[14, 13, 11, 7], Verdict::Pair(0, 15)),
+            (4, 4, &[15, 14, 11, 7], Verdict::Pair(13, 15)),
+            (2, 1, &[2], Verdict::Pair(0, 1)),
+        ];
+        assert_verdicts(AND, 0, &at_level_0);
+        let at_level_1: [Case; 6] = [
+            (7, 1, &TABLE_TWO, Verdict::Pass),
+            (7, 2, &TABLE_TWO, Verdict::Pair(3, 5)),
+            (7, 3, &TABLE_TWO, Verdict::Pair(3, 5)),
+            (4, 4, &[14, 13, 11, 7], Verdict::Pass),
+            (4, 4, &[15, 14, 13, 11], Verdict::Pair(7, 15)),
+            (2, 1, &[2], Verdict::Pair(0, 2)),
+        ];
+        assert_verdicts(AND, 1, &at_level_1);
     }
 
     #[test]
@@ -153,18 +180,23 @@ mod tests {
     /// Demand 3: pass exactly when no two states of the class answer alike.
     #[test]
     fn pass_means_that_no_two_states_answer_alike() {
-        for (nets, level, longest) in [(2, 0, 4), (2, 1, 4), (3, 0, 3), (3, 1, 3)] {
-            (1..=nets).for_each(|k| _ = passing(Network { nets, level }, k, longest));
+        for (nets, longest) in [(2, 4), (3, 3)] {
+            for net in each_combination(nets) {
+                (1..=nets).for_each(|k| _ = passing(net, k, longest));
+            }
         }
     }
 
-    /// A set that passes for class n has at least n + 1 vectors at soft level 1, and n at 0. With that many it is the
-    /// extra vector and the walking ones, in any of their orders.
+    /// A set that passes for class n has at least n + 1 vectors with OR at soft level 1 and with AND at 0, else n. With
+    /// that many it is the extra vector, if there is one, and the walking ones, in any of their orders.
     #[test]
     fn the_fewest_vectors_of_class_n() {
-        for (nets, level, fewest, orders) in [(2, 0, 2, 2), (2, 1, 3, 6), (3, 0, 3, 6), (3, 1, 4, 24)] {
-            let net = Network { nets, level };
-            assert_eq!((passing(net, nets, fewest - 1), passing(net, nets, fewest)), (0, orders));
+        let fewest_of_two = [(2, 2), (3, 6), (3, 6), (2, 2)];
+        let fewest_of_three = [(3, 6), (4, 24), (4, 24), (3, 6)];
+        for (nets, expected) in [(2, fewest_of_two), (3, fewest_of_three)] {
+            for (net, (fewest, orders)) in each_combination(nets).into_iter().zip(expected) {
+                assert_eq!((passing(net, nets, fewest - 1), passing(net, nets, fewest)), (0, orders));
+            }
         }
     }
 }

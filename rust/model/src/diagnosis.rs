@@ -1,7 +1,10 @@
 //! Reading back: the state that fits a response, and the findings.
 
 use crate::checker::{check, sets_of_class, Verdict};
-use crate::network::{all_states, extended, extra_vector, is_state, meet_and_differ, reads, response, Network};
+use crate::network::{
+    all_states, extended, extra_vector, is_state, meet_and_differ, reads, response, shows_driver, walking_vector,
+    Network,
+};
 use crate::rows::{bad_state, rows_of_network, rows_of_responses, rows_of_set, Rows};
 use crate::words::{bit, word_of};
 
@@ -55,10 +58,15 @@ fn joined(fronts: &[Vec<u64>], reaches: &[u64]) -> Vec<Vec<u64>> {
 pub fn fitting_by_walking(net: Network, vectors: &[u64], responses: &[u64]) -> Vec<Vec<u64>> {
     let n = net.nets;
     let answer_to = |vector: u64| responses[vectors.iter().position(|v| *v == vector).expect("a passed set")];
-    let floats = |receiver: u64| extra_vector(net).is_some_and(|extra| bit(answer_to(extra), receiver));
+    let reads_level = |answer: u64, receiver: u64| bit(answer, receiver) == (net.level == 1);
+    let floats = |receiver: u64| extra_vector(net).is_some_and(|extra| reads_level(answer_to(extra), receiver));
+    let reached = |driver: u64, receiver: u64| {
+        let answer = answer_to(walking_vector(net, driver));
+        shows_driver(net, bit(answer, receiver))
+    };
     let reach_of = |receiver: u64| match floats(receiver) {
         true => 0,
-        false => word_of((0..n).map(|driver| bit(answer_to(1 << driver), receiver))),
+        false => word_of((0..n).map(|driver| reached(driver, receiver))),
     };
     let state: Vec<u64> = (0..n).map(reach_of).collect();
     let fits = is_state(n, n, &state) && response(net, vectors, &state) == responses;
@@ -147,11 +155,11 @@ pub fn findings(net: Network, state: &[u64], room: usize) -> Result<Vec<Finding>
 #[cfg(test)]
 mod tests {
     use super::*;
-    use crate::network::all_lists;
+    use crate::network::{all_lists, each_combination, AND, OR};
 
     const WALKING: [u64; 5] = [0, 1, 2, 4, 8];
-    const PULL_UP: Network = Network { nets: 4, level: 1 };
-    const PULL_DOWN: Network = Network { nets: 4, level: 0 };
+    const PULL_UP: Network = Network { nets: 4, level: 1, gate: OR };
+    const PULL_DOWN: Network = Network { nets: 4, level: 0, gate: OR };
 
     #[test]
     fn the_papers_state_is_read_back() {
@@ -163,8 +171,18 @@ mod tests {
     }
 
     #[test]
+    fn a_wired_and_is_read_back() {
+        let [pull_up, pull_down] = [PULL_UP, PULL_DOWN].map(|net| Network { gate: AND, nets: 3, ..net });
+        assert_eq!(diagnose(pull_down, 3, &[7, 6, 5, 3], &[3, 3, 0, 0], 3), Ok(vec![6, 6, 0]));
+        assert_eq!(diagnose(pull_down, 3, &[7, 6, 5, 3], &[7, 3, 0, 0], 3), Err(14));
+        assert_eq!(diagnose(pull_down, 3, &[6, 5, 3], &[3, 0, 0], 3), Err(13));
+        assert_eq!(diagnose(pull_up, 3, &[6, 5, 3], &[7, 4, 4], 3), Ok(vec![6, 6, 0]));
+        assert_eq!(diagnose(pull_up, 3, &[6, 5, 3], &[5, 4, 4], 3), Err(14));
+    }
+
+    #[test]
     fn the_papers_findings() {
-        for net in [PULL_UP, PULL_DOWN] {
+        for net in each_combination(4) {
             let lines = findings(net, &[3, 3, 0, 8], 4).unwrap();
             let plain: Vec<_> = lines.iter().map(|line| (line.kind, line.reach, line.partners)).collect();
             assert_eq!(plain, [(2, 3, 2), (2, 3, 1), (1, 0, 0), (0, 8, 0)]);
@@ -199,13 +217,16 @@ mod tests {
 
     #[test]
     fn the_three_ways_to_find_a_state_agree() {
-        for net in [0, 1].map(|level| Network { nets: 3, level }) {
+        for net in each_combination(3) {
             for k in 1..=3 {
                 let states = all_states(3, k);
                 all_lists(8, 2).iter().for_each(|vectors| assert_receivers_agree(net, k, &states, vectors));
             }
-            assert_walking_agrees(net, &all_states(3, 3), &[0, 4, 1, 2]);
+            let vectors: &[u64] = if net.gate == AND { &[7, 3, 6, 5] } else { &[0, 4, 1, 2] };
+            assert_walking_agrees(net, &all_states(3, 3), vectors);
+            if extra_vector(net).is_none() {
+                assert_walking_agrees(net, &all_states(3, 3), &vectors[1..]);
+            }
         }
-        assert_walking_agrees(Network { nets: 3, level: 0 }, &all_states(3, 3), &[4, 1, 2]);
     }
 }

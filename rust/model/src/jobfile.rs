@@ -3,7 +3,7 @@
 use crate::network::Network;
 use crate::rows::{rows_of_responses, rows_of_set, Rows};
 
-const MARK: &[u8] = b"BSJ2";
+const MARK: &[u8] = b"BSJ3";
 const MOST_BYTES: usize = 2048;
 
 /// What a job file holds. No third entry and an empty list of responses are told apart by the reader's rows only.
@@ -67,14 +67,14 @@ fn bad_contents(file: &[u8]) -> bool {
 /// Row 3.
 fn bad_bodies(bodies: &Bodies) -> bool {
     let half_word = |body: &[u8]| !body.len().is_multiple_of(8);
-    bodies.nets.len() != 3 || half_word(bodies.vectors) || bodies.responses.is_some_and(half_word)
+    bodies.nets.len() != 4 || half_word(bodies.vectors) || bodies.responses.is_some_and(half_word)
 }
 
 /// What the file says, taken as far as its bodies go: missing numbers are 0, and half words are left out.
 fn content(bodies: &Bodies) -> Job {
-    let [nets, k, level] = [0, 1, 2].map(|place| bodies.nets.get(place).map_or(0, |byte| u64::from(*byte)));
+    let [nets, k, level, gate] = [0, 1, 2, 3].map(|place| bodies.nets.get(place).map_or(0, |byte| u64::from(*byte)));
     Job {
-        network: Network { nets, level },
+        network: Network { nets, level, gate },
         k,
         vectors: words(bodies.vectors),
         responses: words(bodies.responses.unwrap_or(&[])),
@@ -86,7 +86,8 @@ fn content(bodies: &Bodies) -> Job {
 fn with_rows<T>(file: &[u8], vector_room: usize, response_room: usize, then: impl Fn(&Rows, &Job) -> T) -> T {
     let rows = Rows::new().row(1, || bad_mark(file)).row(2, || bad_contents(file));
     let Some(bodies) = bodies(file) else {
-        return then(&rows, &Job { network: Network { nets: 0, level: 0 }, k: 0, vectors: vec![], responses: vec![] });
+        let network = Network { nets: 0, level: 0, gate: 0 };
+        return then(&rows, &Job { network, k: 0, vectors: vec![], responses: vec![] });
     };
     let job = content(&bodies);
     let rows = rows.row(3, || bad_bodies(&bodies)).then(rows_of_set(job.network, job.k, &job.vectors));
@@ -110,7 +111,7 @@ pub fn read_job(file: &[u8], vector_room: usize, response_room: usize) -> Result
 
 /// The bytes of a job, in the layout that documents 01 and 02 give. Of each number the low byte is taken.
 pub fn bytes_of(net: Network, k: u64, vectors: &[u64], responses: &[u64]) -> Vec<u8> {
-    let mut bodies = vec![vec![net.nets as u8, k as u8, net.level as u8], bytes(vectors)];
+    let mut bodies = vec![[net.nets, k, net.level, net.gate].map(|number| number as u8).to_vec(), bytes(vectors)];
     if !responses.is_empty() {
         bodies.push(bytes(responses));
     }
@@ -154,14 +155,15 @@ pub fn write_job(net: Network, k: u64, vectors: &[u64], responses: &[u64], room:
 #[cfg(test)]
 mod tests {
     use super::*;
+    use crate::network::{each_combination, AND, OR};
 
     #[test]
     fn a_written_job_is_read() {
-        for (level, responses) in [(0, vec![0, 3, 3, 0, 8]), (1, vec![4, 7, 7, 4, 12])] {
-            let network = Network { nets: 4, level };
-            let job = Job { network, k: 4, vectors: vec![0, 1, 2, 4, 8], responses };
+        let nets_bodies = [[4, 4, 0, 0], [4, 4, 1, 0], [4, 4, 0, 1], [4, 4, 1, 1]];
+        for (network, nets) in each_combination(4).into_iter().zip(nets_bodies) {
+            let job = Job { network, k: 4, vectors: vec![0, 1, 2, 4, 8], responses: vec![4, 7, 7, 4, 12] };
             let file = write_job(network, 4, &job.vectors, &job.responses, 2048).unwrap();
-            assert_eq!((file.len(), &file[32..35]), (5 + 27 + 3 + 80, &[4, 4, level as u8][..]));
+            assert_eq!((file.len(), &file[32..36]), (5 + 27 + 4 + 80, &nets[..]));
             assert_eq!(read_job(&file, 5, 5), Ok(job.clone()));
             assert_eq!(read_job(&file, 4, 5), Err(12));
             let shorter = write_job(network, 4, &job.vectors, &[], 2048).unwrap();
@@ -170,15 +172,17 @@ mod tests {
     }
 
     #[test]
-    fn a_nets_body_of_another_length_or_level() {
+    fn a_nets_body_of_another_length_level_or_gate() {
         let read = |nets: &[u8]| read_job(&laid_out(&[nets.to_vec(), bytes(&[1])]), 64, 64).map(|job| job.network);
-        assert_eq!(read(&[3, 1, 0]), Ok(Network { nets: 3, level: 0 }));
-        assert_eq!([read(&[3, 1]), read(&[3, 1, 1, 1]), read(&[3, 1, 2]), read(&[3, 4, 2])], [3, 3, 17, 6].map(Err));
+        assert_eq!(read(&[3, 1, 0, 0]), Ok(Network { nets: 3, level: 0, gate: OR }));
+        assert_eq!(read(&[3, 1, 0, 1]), Ok(Network { nets: 3, level: 0, gate: AND }));
+        assert_eq!([read(&[3, 1]), read(&[3, 1, 1]), read(&[3, 1, 1, 1, 1])], [Err(3); 3]);
+        assert_eq!([read(&[3, 4, 2, 2]), read(&[3, 1, 2, 2]), read(&[3, 1, 1, 2])], [6, 17, 20].map(Err));
     }
 
     #[test]
     fn a_third_entry_of_length_0_is_9() {
-        let file = laid_out(&[vec![2, 1, 1], bytes(&[1]), vec![]]);
+        let file = laid_out(&[vec![2, 1, 1, 0], bytes(&[1]), vec![]]);
         assert_eq!(read_job(&file, 64, 64), Err(9));
     }
 
@@ -186,7 +190,7 @@ mod tests {
     fn a_file_without_its_mark_is_1_at_any_length() {
         assert_eq!(read_job(b"BSJ", 0, 0), Err(1));
         assert_eq!(read_job(&[0; 5000], 0, 0), Err(1));
-        assert_eq!(read_job(b"BSJ1", 0, 0), Err(1));
-        assert_eq!(read_job(b"BSJ2", 0, 0), Err(2));
+        assert_eq!([b"BSJ1", b"BSJ2", b"BSJ4"].map(|mark| read_job(mark, 0, 0)), [1; 3].map(Err));
+        assert_eq!(read_job(b"BSJ3", 0, 0), Err(2));
     }
 }

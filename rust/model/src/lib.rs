@@ -20,6 +20,6 @@ pub mod words;
 pub use checker::{check, Verdict};
 pub use diagnosis::{diagnose, findings, Finding};
 pub use jobfile::{read_job, write_job, Job};
-pub use network::Network;
+pub use network::{Network, AND, OR};
 pub use responding::respond;
 pub use session::{begin, first_answers, second_answers, to_drive, Record};

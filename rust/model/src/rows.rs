@@ -1,6 +1,6 @@
 //! The table "Where a call is turned away": its rows, each a test of its own.
 
-use crate::network::{is_state, Network};
+use crate::network::{is_state, Network, AND, OR};
 use crate::words::bit;
 
 /// The rows of a call in the table's order: number, and whether it holds.
@@ -58,6 +58,11 @@ pub fn bad_level(level: u64) -> bool {
     level != 0 && level != 1
 }
 
+/// Row 20.
+pub fn bad_gate(gate: u64) -> bool {
+    gate != OR && gate != AND
+}
+
 /// Row 7.
 pub fn bad_vector_count(count: usize) -> bool {
     !(1..=64).contains(&count)
@@ -73,17 +78,21 @@ pub fn bad_state(n: u64, k: u64, state: &[u64]) -> bool {
     !is_state(n, k, state)
 }
 
-/// Rows 5 and 17, which begin the calls that take a network and no class.
+/// Rows 5, 17 and 20, which begin the calls that take a network and no class.
 pub fn rows_of_network<'a>(net: Network) -> Rows<'a> {
-    Rows::new().row(5, move || bad_net_count(net.nets)).row(17, move || bad_level(net.level))
+    Rows::new()
+        .row(5, move || bad_net_count(net.nets))
+        .row(17, move || bad_level(net.level))
+        .row(20, move || bad_gate(net.gate))
 }
 
-/// Rows 5, 6, 17, 7 and 8, which begin every call on a test set.
+/// Rows 5, 6, 17, 20, 7 and 8, which begin every call on a test set.
 pub fn rows_of_set<'a>(net: Network, k: u64, vectors: &'a [u64]) -> Rows<'a> {
     Rows::new()
         .row(5, move || bad_net_count(net.nets))
         .row(6, move || bad_class(net.nets, k))
         .row(17, move || bad_level(net.level))
+        .row(20, move || bad_gate(net.gate))
         .row(7, move || bad_vector_count(vectors.len()))
         .row(8, move || has_high_bit(net.nets, vectors))
 }

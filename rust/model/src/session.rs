@@ -1,7 +1,7 @@
 //! The two-step session.
 
 use crate::diagnosis::{fitting_by_receivers, fitting_states, only};
-use crate::network::{extra_vector, is_state, response, Network};
+use crate::network::{extra_vector, is_state, response, shows_driver, walking_vector, Network};
 use crate::rows::{bad_net_count, rows_of_network, rows_of_responses, Rows};
 use crate::words::{bit, word_of};
 
@@ -13,7 +13,7 @@ pub const SECOND: u64 = 2;
 pub const FINISHED: u64 = 3;
 
 /// How many words a record has.
-pub const WORDS: usize = 60;
+pub const WORDS: usize = 61;
 
 /// A session record. What a step does not use is 0.
 #[derive(Clone, Debug, PartialEq, Eq, Hash)]
@@ -35,17 +35,18 @@ impl Record {
         words[0] = self.step;
         words[1] = self.network.nets;
         words[2] = self.network.level;
-        words[3..11].copy_from_slice(&self.answers);
-        words[11..59].copy_from_slice(&self.reaches);
-        words[59] = self.spent;
+        words[3] = self.network.gate;
+        words[4..12].copy_from_slice(&self.answers);
+        words[12..60].copy_from_slice(&self.reaches);
+        words[60] = self.spent;
         words
     }
 
     pub fn from_words(words: &[u64; WORDS]) -> Record {
-        let mut record = Record::blank(words[0], Network { nets: words[1], level: words[2] });
-        record.answers.copy_from_slice(&words[3..11]);
-        record.reaches.copy_from_slice(&words[11..59]);
-        record.spent = words[59];
+        let mut record = Record::blank(words[0], Network { nets: words[1], level: words[2], gate: words[3] });
+        record.answers.copy_from_slice(&words[4..12]);
+        record.reaches.copy_from_slice(&words[12..60]);
+        record.spent = words[60];
         record
     }
 
@@ -95,7 +96,7 @@ pub fn second_vectors(net: Network, answers: &[u64]) -> Vec<u64> {
     if unclear.is_empty() {
         return vec![];
     }
-    extra_vector(net).into_iter().chain(unclear.iter().map(|i| 1 << i)).collect()
+    extra_vector(net).into_iter().chain(unclear.iter().map(|i| walking_vector(net, *i))).collect()
 }
 
 pub fn rows_of_begin<'a>(net: Network, room: usize) -> Rows<'a> {
@@ -182,10 +183,10 @@ fn fitting_by_steps(record: &Record, second_answers: &[u64]) -> Vec<Vec<u64>> {
     let unclear = unclear_nets(n, record.first_answers());
     let (to_extra, to_walking) = second_answers.split_at(extra_vector(net).iter().count());
     let drivers_read = |receiver: u64| {
-        let read = |(driver, answer): (&u64, &u64)| u64::from(bit(*answer, receiver)) << driver;
+        let read = |(driver, answer): (&u64, &u64)| u64::from(shows_driver(net, bit(*answer, receiver))) << driver;
         unclear.iter().zip(to_walking).map(read).sum()
     };
-    let floats = |receiver: u64| to_extra.iter().any(|answer| bit(*answer, receiver));
+    let floats = |receiver: u64| to_extra.iter().any(|answer| bit(*answer, receiver) == (net.level == 1));
     let reach_of = |receiver: u64| match (unclear.contains(&receiver), floats(receiver)) {
         (false, _) => 1 << receiver,
         (true, true) => 0,
@@ -251,31 +252,34 @@ pub fn to_drive(record: &Record, first_room: usize, second_room: usize) -> usize
 mod tests {
     use super::*;
     use crate::diagnosis::fitting_among;
-    use crate::network::{all_lists, all_states};
+    use crate::network::{all_lists, all_states, each_combination, AND, OR};
 
-    #[test]
-    fn the_papers_session_of_four_nets() {
-        let (record, first) = begin(Network { nets: 4, level: 1 }, 4).unwrap();
-        assert_eq!(first, [11, 5, 6, 8]);
-        let (record, second) = first_answers(&record, &[15, 7, 7, 12], 4).unwrap();
-        assert_eq!(second, [0, 1, 2, 4]);
-        let record = second_answers(&record, &[4, 7, 7, 4]).unwrap();
-        assert_eq!((&record.reaches[..4], record.spent), (&[3, 3, 0, 8][..], 8));
-    }
+    /// First answers, second vectors, second answers and count spent of a session on state `3 3 0 8`.
+    type Session = (&'static [u64], &'static [u64], &'static [u64], u64);
 
+    /// The paper's session is that of OR and soft level 1.
     #[test]
-    fn the_same_session_at_soft_level_0() {
-        let (record, first) = begin(Network { nets: 4, level: 0 }, 4).unwrap();
-        assert_eq!(first, [11, 5, 6, 8]);
-        let (record, second) = first_answers(&record, &[11, 3, 3, 8], 3).unwrap();
-        assert_eq!(second, [1, 2, 4]);
-        let record = second_answers(&record, &[3, 3, 0]).unwrap();
-        assert_eq!((&record.reaches[..4], record.spent), (&[3, 3, 0, 8][..], 7));
+    fn sessions_of_four_nets() {
+        let sessions: [Session; 4] = [
+            (&[11, 3, 3, 8], &[1, 2, 4], &[3, 3, 0], 7),
+            (&[15, 7, 7, 12], &[0, 1, 2, 4], &[4, 7, 7, 4], 8),
+            (&[11, 0, 0, 8], &[15, 14, 13, 11], &[11, 8, 8, 11], 8),
+            (&[15, 4, 4, 12], &[14, 13, 11], &[12, 12, 15], 7),
+        ];
+        for (net, (answers_1, second, answers_2, spent)) in each_combination(4).into_iter().zip(sessions) {
+            let (record, first) = begin(net, 4).unwrap();
+            assert_eq!(first, [11, 5, 6, 8]);
+            assert_eq!(first_answers(&record, answers_1, second.len() - 1), Err(12));
+            let (record, vectors) = first_answers(&record, answers_1, second.len()).unwrap();
+            assert_eq!(vectors, second);
+            let record = second_answers(&record, answers_2).unwrap();
+            assert_eq!((&record.reaches[..4], record.spent), (&[3, 3, 0, 8][..], spent));
+        }
     }
 
     #[test]
     fn the_papers_sessions_of_two_nets() {
-        let (begun, _) = begin(Network { nets: 2, level: 1 }, 2).unwrap();
+        let (begun, _) = begin(Network { nets: 2, level: 1, gate: OR }, 2).unwrap();
         let (sound, second) = first_answers(&begun, &[1, 2], 0).unwrap();
         assert_eq!((sound.step, sound.spent, second.len()), (FINISHED, 2, 0));
         let (floating, _) = first_answers(&begun, &[3, 3], 3).unwrap();
@@ -309,7 +313,7 @@ mod tests {
     #[test]
     fn the_ways_to_find_a_sessions_state_agree_on_all_answers_of_two_nets() {
         let states = all_states(2, 2);
-        for net in [0, 1].map(|level| Network { nets: 2, level }) {
+        for net in each_combination(2) {
             all_lists(4, 2).iter().for_each(|answers| assert_ways_agree_after(net, &states, answers));
         }
     }
@@ -333,19 +337,21 @@ mod tests {
     #[test]
     fn the_ways_to_find_a_sessions_state_agree_on_boards_of_three_nets() {
         let states = all_states(3, 3);
-        for net in [0, 1].map(|level| Network { nets: 3, level }) {
+        for net in each_combination(3) {
             states.iter().for_each(|board| assert_ways_agree_on(net, &states, board));
         }
     }
 
     #[test]
-    fn a_record_of_a_level_above_1_is_left_by_no_call() {
-        let (begun, _) = begin(Network { nets: 2, level: 1 }, 2).unwrap();
+    fn a_record_of_a_level_or_gate_above_1_is_left_by_no_call() {
+        let net = Network { nets: 2, level: 1, gate: AND };
+        let (begun, _) = begin(net, 2).unwrap();
         let (waiting, _) = first_answers(&begun, &[3, 3], 3).unwrap();
         for record in [begun, waiting] {
-            for (level, left) in [(0, true), (1, true), (2, false), (u64::MAX, false)] {
-                let network = Network { nets: 2, level };
-                assert_eq!(left_waiting(&Record { network, ..record.clone() }), left);
+            for (number, left) in [(0, true), (1, true), (2, false), (u64::MAX, false)] {
+                for network in [Network { level: number, ..net }, Network { gate: number, ..net }] {
+                    assert_eq!(left_waiting(&Record { network, ..record.clone() }), left);
+                }
             }
         }
     }

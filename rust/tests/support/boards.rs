@@ -1,8 +1,9 @@
 //! Random boards and test sets.
 
 use super::generator::Generator;
-use model::network::{extra_vector, is_state};
-use model::Network;
+use super::networks::extra_at_some_level;
+use model::network::{extra_vector, is_state, walking_vectors};
+use model::{Network, AND};
 
 /// A wiring state of class k: drivers in groups of at most k, and for each receiver a group, or none.
 pub fn state(g: &mut Generator, n: u64, k: u64) -> Vec<u64> {
@@ -34,17 +35,16 @@ fn groups(g: &mut Generator, n: u64, k: u64) -> Vec<u64> {
     groups
 }
 
-/// The walking vectors in any order, vector 0 among them where it is wanted and else on every second board, and a few
-/// more, some of them twice.
+/// The walking vectors in any order, the extra vector among them where it is wanted and else on every second board, and
+/// a few more, some of them twice.
 pub fn walking_set(g: &mut Generator, net: Network) -> Vec<u64> {
-    let n = net.nets;
-    let mut vectors: Vec<u64> = (0..n).map(|i| 1 << i).collect();
+    let mut vectors = walking_vectors(net);
     if extra_vector(net).is_some() || g.once_in(2) {
-        vectors.push(0);
+        vectors.push(extra_at_some_level(net));
     }
     for _ in 0..g.below(65 - vectors.len()) {
         let again = *g.pick(&vectors);
-        vectors.push(if g.once_in(2) { again } else { g.word() & low_bits(n) });
+        vectors.push(if g.once_in(2) { again } else { g.word() & low_bits(net.nets) });
     }
     g.shuffle(&mut vectors);
     vectors
@@ -53,6 +53,14 @@ pub fn walking_set(g: &mut Generator, net: Network) -> Vec<u64> {
 /// `length` vectors, each driver driving 1 once in `times`.
 pub fn sparse_set(g: &mut Generator, n: u64, length: usize, times: usize) -> Vec<u64> {
     (0..length).map(|_| (0..n).map(|i| u64::from(g.once_in(times)) << i).sum()).collect()
+}
+
+/// A set that tells much with OR, as it is for OR and with every bit turned for AND.
+pub fn for_gate(net: Network, vectors: &[u64]) -> Vec<u64> {
+    match net.gate {
+        AND => vectors.iter().map(|vector| !vector & low_bits(net.nets)).collect(),
+        _ => vectors.to_vec(),
+    }
 }
 
 /// The word of all n drivers.

@@ -85,7 +85,8 @@ pub fn findings_gives(net: Network, state: &[u64], room: usize, answer: &Answer<
 
 /// The words of a job.
 fn job_words(job: &Job) -> [u64; JOB_WORDS] {
-    [job.network.nets, job.network.level, job.k, job.vectors.len() as u64, job.responses.len() as u64]
+    let Network { nets, level, gate } = job.network;
+    [nets, level, gate, job.k, job.vectors.len() as u64, job.responses.len() as u64]
 }
 
 pub fn read_job_gives(file: &[u8], vector_room: usize, response_room: usize, answer: &Answer<Job>) {

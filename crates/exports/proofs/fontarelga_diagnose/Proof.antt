@@ -26,7 +26,7 @@ returns c =
     let k = c .before .before .before .before in
     let a = k .before .before .before .before .before .args in (
       sym (ap code (ap meaning (c .enum-told .given .1)))
-          ∙ code-counted (diagnosis-answer (network-with (a .nets) (a .level)) (a .class) (a .vectors .now) (a .responses .now)
+          ∙ code-counted (diagnosis-answer (network-with (a .nets) (a .level) (a .gate)) (a .class) (a .vectors .now) (a .responses .now)
           (length (a .state .now))) _ (k .diagnose .ensures .0),
       k .diagnose .ensures .1,
     )
@@ -40,7 +40,7 @@ returns-2 c =
     let k = c .before .before .before .before .before in
     let a = k .before .before .before .before .before .args in (
       sym (ap code (ap meaning (c .before .number .given .1)))
-          ∙ code-counted (diagnosis-answer (network-with (a .nets) (a .level)) (a .class) (a .vectors .now) (a .responses .now)
+          ∙ code-counted (diagnosis-answer (network-with (a .nets) (a .level) (a .gate)) (a .class) (a .vectors .now) (a .responses .now)
           (length (a .state .now))) _ (k .diagnose .ensures .0),
       k .diagnose .ensures .1,
     )

@@ -26,7 +26,7 @@ returns c =
     let k = c .before .before .before .before in
     let a = k .before .before .before .before .before .args in (
       sym (ap code (ap meaning (c .enum-told .given .1)))
-          ∙ code-counted (response-answer (network-with (a .nets) (a .level)) (a .class) (a .vectors .now) (a .state .now)
+          ∙ code-counted (response-answer (network-with (a .nets) (a .level) (a .gate)) (a .class) (a .vectors .now) (a .state .now)
           (length (a .response .now))) _ (k .response-from-state .ensures .0),
       k .response-from-state .ensures .1,
     )
@@ -40,7 +40,7 @@ returns-2 c =
     let k = c .before .before .before .before .before in
     let a = k .before .before .before .before .before .args in (
       sym (ap code (ap meaning (c .before .number .given .1)))
-          ∙ code-counted (response-answer (network-with (a .nets) (a .level)) (a .class) (a .vectors .now) (a .state .now)
+          ∙ code-counted (response-answer (network-with (a .nets) (a .level) (a .gate)) (a .class) (a .vectors .now) (a .state .now)
           (length (a .response .now))) _ (k .response-from-state .ensures .0),
       k .response-from-state .ensures .1,
     )

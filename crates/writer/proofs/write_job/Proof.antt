@@ -65,9 +65,11 @@ fit-bytes : (net : Network) (k : ℕ) (vectors : List ℕ) → AdmittedSet net k
 fit-bytes net k vectors s =
     let most = s .most in
     let level = s .level-byte in
+    let gate = s .gate-byte in
     let class : k ≤ 48 = ⊎-elim (λ l. omega arith) (λ e. omega arith) (s .class) in
-    bytes-more (net .nets) (k ∷ net .level ∷ []) (omega arith)
-    (bytes-more k (net .level ∷ []) (omega arith) (bytes-more (net .level) [] (omega arith) bytes-none))
+    bytes-more (net .nets) (k ∷ net .level ∷ net .gate ∷ []) (omega arith)
+    (bytes-more k (net .level ∷ net .gate ∷ []) (omega arith)
+    (bytes-more (net .level) (net .gate ∷ []) (omega arith) (bytes-more (net .gate) [] (omega arith) bytes-none)))
 
 admit-set-requires : tie.Need-admit-set-requires
 admit-set-requires c κs = search needs

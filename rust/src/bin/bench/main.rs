@@ -6,7 +6,8 @@ mod generator;
 mod plain;
 mod timing;
 
-use fontarelga::{raw, Job, Network, FINDING_WORDS, JOB_WORDS, MOST_FIRST_VECTORS, MOST_SECOND_VECTORS, RECORD_WORDS};
+use fontarelga::{raw, Job, Network, AND, OR};
+use fontarelga::{FINDING_WORDS, JOB_WORDS, MOST_FIRST_VECTORS, MOST_SECOND_VECTORS, RECORD_WORDS};
 use generator::Generator;
 use plain::checker::{hash, pairs};
 use plain::session::{Record, REACHES};
@@ -18,16 +19,18 @@ const FEW: u64 = 4;
 const SESSIONS: usize = 1000;
 const STATES: usize = 1000;
 
-/// The walking vectors, and vector 0 before them where class n wants it.
+/// The walking vectors, and the extra vector before them where class n wants it.
 fn walking(network: Network) -> Vec<u64> {
-    plain::extra_vector(network).into_iter().chain((0..network.nets()).map(|i| 1 << i)).collect()
+    let walking = (0..network.nets()).map(|i| plain::dominant(network, 1 << i));
+    plain::extra_vector(network).into_iter().chain(walking).collect()
 }
 
-/// A job's name, with what is not 48 nets and soft level 1.
+/// A job's name, with what is not 48 nets, OR and soft level 1.
 fn named(job: &str, network: Network) -> String {
+    let gate = if network.gate() == OR { "" } else { ", AND" };
     let level = if network.level() == 1 { String::new() } else { format!(", level {}", network.level()) };
     let nets = if network.nets() == N { String::new() } else { format!(", n = {}", network.nets()) };
-    format!("{job}{level}{nets}")
+    format!("{job}{gate}{level}{nets}")
 }
 
 /// Measures the check of one set for one class.
@@ -190,7 +193,7 @@ fn bench_reader(network: Network, g: &mut Generator) {
 
 fn bench_checks(network: Network, g: &mut Generator) {
     let walking = walking(network);
-    let random: Vec<u64> = (0..20).map(|_| g.sparse(N)).collect();
+    let random: Vec<u64> = (0..20).map(|_| plain::dominant(network, g.sparse(N))).collect();
     for k in [1, 2, 3, N] {
         bench_check(network, "walking", &walking, k);
         bench_check(network, "walking without the last", &walking[..walking.len() - 1], k);
@@ -198,20 +201,24 @@ fn bench_checks(network: Network, g: &mut Generator) {
     }
 }
 
-/// Every job at one soft level. The same sets and boards are drawn at each.
-fn bench_level(level: u64) {
+/// Every job of one gate and soft level. The same sets, for AND with every bit turned, and the same boards are drawn
+/// for each. The gate has no part in reading a file and in the findings, so these are measured once a level.
+fn bench_combination(gate: u64, level: u64) {
     let g = &mut Generator(2024);
-    let [network, few] = [N, FEW].map(|nets| Network::new(nets).with_level(level));
+    let [network, few] = [N, FEW].map(|nets| Network::new(nets).with_level(level).with_gate(gate));
     bench_checks(network, g);
     [1, 2, 3].iter().for_each(|k| bench_check(few, "walking", &walking(few), *k));
     [1, 2, 3, N].iter().for_each(|k| bench_diagnosis(network, *k, g));
     bench_sessions(network, g);
-    bench_reader(network, g);
-    bench_findings(network, g);
+    if gate == OR {
+        bench_reader(network, g);
+        bench_findings(network, g);
+    }
 }
 
 fn main() {
     print_head();
-    bench_level(1);
-    bench_level(0);
+    for gate in [OR, AND] {
+        [1, 0].iter().for_each(|level| bench_combination(gate, *level));
+    }
 }

@@ -17,22 +17,25 @@ use Rattle.diagnosis.proofs.Gathering.{Gathering, gathering-first, gath
 use Rattle.diagnosis.proofs.walking.walking_reach.Statement.{statement}
 use Rattle.diagnosis.proofs.walking.walking_reach.Tie as tie
 
--- t is the first answer of 1 that is still to be looked at
+-- t is the first active answer that is still to be looked at
 abbrev Inv-loop : tie.InvT-loop
 Inv-loop net vectors count reach₀ rest₀ t₀ reach rest t = (t ≡ trailingZeros 64 rest) × Gathering net vectors rest₀ rest reach
 
 abbrev μ-loop : tie.MeasureT-loop
 μ-loop net vectors count reach₀ rest₀ t₀ reach rest t = rest
 
+active-bits-requires : tie.Need-active-bits-requires Inv-loop μ-loop
+active-bits-requires c κs = search needs
+
 lowest-net-requires : tie.Need-lowest-net-requires Inv-loop μ-loop
 lowest-net-requires c κs = search needs
 
 loop-holds : tie.Need-loop-holds Inv-loop μ-loop
 loop-holds c =
-    let a = c .before .before .args in
-    (c .lowest-net .ensures, gathering-first (a .net) (a .vectors .now) (a .answered .0))
+    let a = c .before .before .before .args in
+    (c .lowest-net .ensures, gathering-first (a .net) (a .vectors .now) (c .before .active-bits .result))
 
--- in the loop, the answer to vector t is 1
+-- in the loop, the answer to vector t is active
 on : (c : tie.In-loop Inv-loop μ-loop) → has (c .before .loop .rest) (c .before .loop .t) ≡ true
 on c =
     let l = c .before .loop in
@@ -52,7 +55,7 @@ returns c =
     let i = c .before .before .before in
     let g = i .before in
     let l = g .loop in
-    let a = g .before .before .before .args in
+    let a = g .before .before .before .before .args in
     let needed = needs-extra (a .net) in
     let x = sym (c .before .is-extra .ensures) ∙ c .if1 .taken in
     inl (
@@ -60,7 +63,8 @@ returns c =
       i .loop-test .taken,
       and-left needed _ x,
       eqb-true _ _ (and-right needed _ x),
-      l .inv .1 .parts (l .t) ∙ or-right (has (l .inv .1 .seen) (l .t)) _ (on i),
+      sym (g .before .before .active-bits .ensures .0 (l .t) (i .loop-test .taken)) ∙ l .inv .1 .parts (l .t)
+          ∙ or-right (has (l .inv .1 .seen) (l .t)) _ (on i),
       refl,
     )
 
@@ -88,13 +92,14 @@ loop-again : tie.Need-loop-again Inv-loop μ-loop
 loop-again c =
     let i = c .before .before .before .before .before .before in
     let g = i .before in
-    let a = g .before .before .before .args in
+    let a = g .before .before .before .before .args in
     let l = g .loop in
+    let bits = g .before .before .active-bits .result in
     let w = c .before .before in (
       c .lowest-net2 .ensures,
-      subst (λ (x : ℕ). Gathering (a .net) (a .vectors .now) (a .answered .0) (l .rest - x) (bitOr (l .reach) (w .walked-driver .result)))
+      subst (λ (x : ℕ). Gathering (a .net) (a .vectors .now) bits (l .rest - x) (bitOr (l .reach) (w .walked-driver .result)))
           (sym (c .before .bit-word .ensures))
-          (gathering-next (a .net) (a .vectors .now) (a .answered .0) (l .t) (l .rest) (l .reach) (w .walked-driver .result) (l .inv .1)
+          (gathering-next (a .net) (a .vectors .now) bits (l .t) (l .rest) (l .reach) (w .walked-driver .result) (l .inv .1)
           (i .loop-test .taken) (on i)
           (λ s q. contrary (and-both s (eq-eqb _ _ q)) (sym (w .before .before .is-extra .ensures) ∙ w .before .if1 .left))
           (w .walked-driver .ensures)),
@@ -103,9 +108,10 @@ loop-again c =
 returns-2 : tie.Need-returns-2 Inv-loop μ-loop
 returns-2 c =
     let g = c .before in
-    let a = g .before .before .before .args in
+    let a = g .before .before .before .before .args in
     let l = g .loop in
-    inr (gathering-last (a .net) (a .vectors .now) (a .answered .0) (l .rest) (l .reach) (l .inv .1)
+    let b = g .before .before .active-bits in
+    inr (gathering-last (a .net) (a .vectors .now) (b .result) (a .answered .0) (l .rest) (l .reach) (b .ensures .0) (l .inv .1)
     (λ u m. none-below-lowest 64 (l .rest) u (omega (arith, l .inv .0))))
 
 pub walking-reach-spec : {M : Type 1} → statement M
@@ -114,6 +120,7 @@ walking-reach-spec =
     (tie.spec
     Inv-loop
     μ-loop
+    active-bits-requires
     lowest-net-requires
     loop-holds
     mul-vector

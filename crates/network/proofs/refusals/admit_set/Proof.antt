@@ -2,7 +2,7 @@ use borrow.Author.Needs.{needs}
 use mathlib.Core.Path.{_≡_, sym, _∙_}
 use mathlib.Core.Bool.{false}
 use Rattle.words.specs.Answers.{by-tests}
-use Rattle.network.specs.Rows.{bad-net-count, bad-class, bad-level, bad-vector-count}
+use Rattle.network.specs.Rows.{bad-net-count, bad-class, bad-level, bad-gate, bad-vector-count}
 use Rattle.network.proofs.Rows.{decides-row-5, nets-admitted}
 use Rattle.network.proofs.refusals.admit_set.Statement.{statement}
 use Rattle.network.proofs.refusals.admit_set.Tie as tie
@@ -19,9 +19,14 @@ row-6-passed c = sym (c .before .bad-class .ensures) ∙ c .if2 .left
 row-17-passed : (c : tie.Else3) → bad-level (c .before .before .before .before .before .before .before .args .net) ≡ false
 row-17-passed c = sym (c .before .bad-level .ensures) ∙ c .if3 .left
 
-row-7-passed : (c : tie.Else4)
-    → bad-vector-count (c .before .before .before .before .before .before .before .before .before .args .vectors .now) ≡ false
-row-7-passed c = sym (c .before .bad-vector-count .ensures) ∙ c .if4 .left
+row-20-passed : (c : tie.Else4)
+    → bad-gate (c .before .before .before .before .before .before .before .before .before .args .net) ≡ false
+row-20-passed c = sym (c .before .bad-gate .ensures) ∙ c .if4 .left
+
+row-7-passed : (c : tie.Else5)
+    → bad-vector-count (c .before .before .before .before .before .before .before .before .before .before .before .args .vectors .now)
+    ≡ false
+row-7-passed c = sym (c .before .bad-vector-count .ensures) ∙ c .if5 .left
 
 bad-net-count-requires : tie.Need-bad-net-count-requires
 bad-net-count-requires c κs = search needs
@@ -49,8 +54,8 @@ returns-3 c =
       sym (c .before .bad-level .ensures) ∙ c .if3 .taken,
     )
 
-bad-vector-count-requires : tie.Need-bad-vector-count-requires
-bad-vector-count-requires c κs = search needs
+bad-gate-requires : tie.Need-bad-gate-requires
+bad-gate-requires c κs = search needs
 
 returns-4 : tie.Need-returns-4
 unfolding by-tests
@@ -59,13 +64,11 @@ returns-4 c =
       row-5-passed (c .before .before .before .before .before .before),
       row-6-passed (c .before .before .before .before),
       row-17-passed (c .before .before),
-      sym (c .before .bad-vector-count .ensures) ∙ c .if4 .taken,
+      sym (c .before .bad-gate .ensures) ∙ c .if4 .taken,
     )
 
-has-high-bit-requires : tie.Need-has-high-bit-requires
-has-high-bit-requires c κs =
-    let net = c .before .before .before .before .before .before .before .before .before .args .net in
-    nets-admitted net (decides-row-5 net .1 (row-5-passed (c .before .before .before .before .before .before))) .1
+bad-vector-count-requires : tie.Need-bad-vector-count-requires
+bad-vector-count-requires c κs = search needs
 
 returns-5 : tie.Need-returns-5
 unfolding by-tests
@@ -74,19 +77,37 @@ returns-5 c =
       row-5-passed (c .before .before .before .before .before .before .before .before),
       row-6-passed (c .before .before .before .before .before .before),
       row-17-passed (c .before .before .before .before),
-      row-7-passed (c .before .before),
-      sym (c .before .has-high-bit .ensures) ∙ c .if5 .taken,
+      row-20-passed (c .before .before),
+      sym (c .before .bad-vector-count .ensures) ∙ c .if5 .taken,
     )
+
+has-high-bit-requires : tie.Need-has-high-bit-requires
+has-high-bit-requires c κs =
+    let net = c .before .before .before .before .before .before .before .before .before .before .before .args .net in
+    nets-admitted net (decides-row-5 net .1 (row-5-passed (c .before .before .before .before .before .before .before .before))) .1
 
 returns-6 : tie.Need-returns-6
 unfolding by-tests
 returns-6 c =
     rw (
-      row-5-passed (c .before .before .before .before .before .before .before .before),
-      row-6-passed (c .before .before .before .before .before .before),
-      row-17-passed (c .before .before .before .before),
+      row-5-passed (c .before .before .before .before .before .before .before .before .before .before),
+      row-6-passed (c .before .before .before .before .before .before .before .before),
+      row-17-passed (c .before .before .before .before .before .before),
+      row-20-passed (c .before .before .before .before),
       row-7-passed (c .before .before),
-      sym (c .before .has-high-bit .ensures) ∙ c .if5 .left,
+      sym (c .before .has-high-bit .ensures) ∙ c .if6 .taken,
+    )
+
+returns-7 : tie.Need-returns-7
+unfolding by-tests
+returns-7 c =
+    rw (
+      row-5-passed (c .before .before .before .before .before .before .before .before .before .before),
+      row-6-passed (c .before .before .before .before .before .before .before .before),
+      row-17-passed (c .before .before .before .before .before .before),
+      row-20-passed (c .before .before .before .before),
+      row-7-passed (c .before .before),
+      sym (c .before .has-high-bit .ensures) ∙ c .if6 .left,
     )
 
 pub admit-set-spec : {M : Type 1} → statement M
@@ -99,8 +120,10 @@ admit-set-spec =
     returns-2
     bad-level-requires
     returns-3
-    bad-vector-count-requires
+    bad-gate-requires
     returns-4
-    has-high-bit-requires
+    bad-vector-count-requires
     returns-5
-    returns-6)
+    has-high-bit-requires
+    returns-6
+    returns-7)

@@ -50,20 +50,23 @@ element-copy-out-nets c = search needs
 element-copy-out-level : tie.Need-element-copy-out-level
 element-copy-out-level c = search needs
 
+element-copy-out-gate : tie.Need-element-copy-out-gate
+element-copy-out-gate c = search needs
+
 element-copy-out-spent : tie.Need-element-copy-out-spent
 element-copy-out-spent c = search needs
 
 returns : tie.Need-returns
 unfolding session-of
 returns c =
-    let a = c .before .before .before .before .before .before .before .before .before .before .before .before .before .args in
+    let a = c .before .before .before .before .before .before .before .before .before .before .before .before .before .before .args in
     let first : _ ≡ take 8 (drop first-place (a .words .now)) =
-    c .before .before .before .before .before .before .before .before .before .copy-words .ensures ∙ all-written _ _ (search needs) in
+    c .before .before .before .before .before .before .before .before .before .before .copy-words .ensures ∙ all-written _ _ (search needs) in
     let reaches : _ ≡ take 48 (drop reaches-place (a .words .now)) =
-    c .before .before .before .before .before .copy-words2 .ensures ∙ all-written _ _ (search needs) in
+    c .before .before .before .before .before .before .copy-words2 .ensures ∙ all-written _ _ (search needs) in
     let of : List ℕ → List ℕ → Session = λ first reaches. record {
       step = at (a .words .now) 0;
-      network = network-with (at (a .words .now) 1) (at (a .words .now) 2);
+      network = network-with (at (a .words .now) 1) (at (a .words .now) 2) (at (a .words .now) 3);
       first = first;
       reaches = reaches;
       spent = at (a .words .now) spent-place;
@@ -87,5 +90,6 @@ session-of-spec =
     element-copy-out-step
     element-copy-out-nets
     element-copy-out-level
+    element-copy-out-gate
     element-copy-out-spent
     returns)

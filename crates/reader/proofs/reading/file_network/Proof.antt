@@ -1,6 +1,4 @@
 use borrow.Author.Needs.{needs}
-use mathlib.Core.Path.{ap₂}
-use Rattle.network.specs.Reading.{network-with}
 use Rattle.jobfile.specs.Layout.{file-network}
 use Rattle.reader.proofs.reading.file_network.Statement.{statement}
 use Rattle.reader.proofs.reading.file_network.Tie as tie
@@ -11,9 +9,12 @@ nets-byte-requires c κs = search needs
 nets-byte-requires-2 : tie.Need-nets-byte-requires-2
 nets-byte-requires-2 c κs = search needs
 
+nets-byte-requires-3 : tie.Need-nets-byte-requires-3
+nets-byte-requires-3 c κs = search needs
+
 returns : tie.Need-returns
 unfolding file-network
-returns c = ap₂ network-with (c .before .nets-byte .ensures) (c .nets-byte2 .ensures)
+returns c = rw (c .before .before .nets-byte .ensures, c .before .nets-byte2 .ensures, c .nets-byte3 .ensures)
 
 pub file-network-spec : {M : Type 1} → statement M
-file-network-spec = tie.close (tie.spec nets-byte-requires nets-byte-requires-2 returns)
+file-network-spec = tie.close (tie.spec nets-byte-requires nets-byte-requires-2 nets-byte-requires-3 returns)

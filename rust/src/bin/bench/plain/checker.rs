@@ -1,7 +1,7 @@
 //! The checker, with two ways to look for sets that read alike.
 
-use super::{admit_set, code, extra_vector, turned};
-use fontarelga::Network;
+use super::{admit_set, all_drivers, code, dominant, extra_vector, turned};
+use fontarelga::{Network, OR};
 use std::collections::HashMap;
 
 /// The sets of at most k of n drivers, ascending.
@@ -25,25 +25,31 @@ pub fn floating(network: Network, vectors: usize) -> u64 {
     }
 }
 
-/// What a set reads along all vectors, from what each driver drives along them.
-pub fn reading(set: u64, driven: &[u64], floating: u64) -> u64 {
-    if set == 0 {
-        return floating;
-    }
+/// The words of a set's drivers put together.
+fn together(set: u64, driven: &[u64], none: u64, join: impl Fn(u64, u64) -> u64) -> u64 {
     let mut left = set;
-    let mut word = 0;
+    let mut word = none;
     while left != 0 {
-        word |= driven[left.trailing_zeros() as usize];
+        word = join(word, driven[left.trailing_zeros() as usize]);
         left &= left - 1;
     }
     word
+}
+
+/// What a set reads along all vectors, from what each driver drives along them.
+pub fn reading(gate: u64, set: u64, driven: &[u64], floating: u64) -> u64 {
+    match (set, gate) {
+        (0, _) => floating,
+        (_, OR) => together(set, driven, 0, |word, driver| word | driver),
+        _ => together(set, driven, u64::MAX, |word, driver| word & driver),
+    }
 }
 
 /// The readings of all sets of the class, worked out once.
 fn readings(network: Network, k: u64, vectors: &[u64]) -> (Vec<u64>, Vec<u64>) {
     let sets = sets_of_class(network.nets(), k);
     let (driven, floating) = (turned(network.nets(), vectors), floating(network, vectors.len()));
-    let readings = sets.iter().map(|set| reading(*set, &driven, floating)).collect();
+    let readings = sets.iter().map(|set| reading(network.gate(), *set, &driven, floating)).collect();
     (sets, readings)
 }
 
@@ -74,12 +80,12 @@ pub fn hash(network: Network, k: u64, vectors: &[u64]) -> Pair {
 
 /// The rule for k = n.
 pub fn walking(network: Network, vectors: &[u64]) -> Pair {
-    let all = u64::MAX >> (64 - network.nets());
+    let all = all_drivers(network);
     if extra_vector(network).is_some_and(|extra| !vectors.contains(&extra)) {
         return Some((0, all));
     }
-    let walked = vectors.iter().filter(|vector| vector.is_power_of_two()).fold(0, |walked, vector| walked | vector);
-    let missing = all & !walked;
+    let single = vectors.iter().map(|vector| dominant(network, *vector)).filter(|drivers| drivers.is_power_of_two());
+    let missing = all & !single.fold(0, |walked, driver| walked | driver);
     match missing {
         0 => None,
         _ => Some((all & !(missing & missing.wrapping_neg()), all)),

@@ -1,7 +1,7 @@
 //! The diagnosis: by the answers to walking vectors for k = n, by a hash map of readings for k below n.
 
 use super::checker::{floating, reading, sets_of_class, walking};
-use super::{admit_responses, admit_set, code, extra_vector, reaches_agree, read, turned};
+use super::{admit_responses, admit_set, code, dominant, extra_vector, reaches_agree, read, turned};
 use fontarelga::Network;
 use std::collections::HashMap;
 
@@ -14,14 +14,15 @@ fn by_walking(network: Network, vectors: &[u64], responses: &[u64]) -> Result<Ve
     let mut state = vec![0; network.nets() as usize];
     let mut floating = 0;
     for (vector, response) in vectors.iter().zip(responses) {
+        let (driver, receivers) = (dominant(network, *vector), dominant(network, *response));
         if extra_vector(network) == Some(*vector) {
-            floating = *response;
-        } else if vector.is_power_of_two() {
+            floating = receivers;
+        } else if driver.is_power_of_two() {
             state
                 .iter_mut()
                 .enumerate()
-                .filter(|(i, _)| response >> i & 1 == 1)
-                .for_each(|(_, reach)| *reach |= vector);
+                .filter(|(i, _)| receivers >> i & 1 == 1)
+                .for_each(|(_, reach)| *reach |= driver);
         }
     }
     state.iter_mut().enumerate().filter(|(i, _)| floating >> i & 1 == 1).for_each(|(_, reach)| *reach = 0);
@@ -40,7 +41,7 @@ fn by_readings(network: Network, k: u64, vectors: &[u64], responses: &[u64]) -> 
     let sets = sets_of_class(n, k);
     let mut set_of = HashMap::with_capacity(sets.len());
     for set in sets {
-        if set_of.insert(reading(set, &driven, floating), set).is_some() {
+        if set_of.insert(reading(network.gate(), set, &driven, floating), set).is_some() {
             return Err(13);
         }
     }

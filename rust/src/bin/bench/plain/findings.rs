@@ -3,7 +3,7 @@
 use super::{admit_network, code, has_high_bit, reaches_agree};
 use fontarelga::{Network, FINDING_WORDS};
 
-/// Rows 5, 17, 11 for class n, and 12.
+/// Rows 5, 17, 20, 11 for class n, and 12.
 fn admit(network: Network, state: &[u64], room: usize) -> Result<(), u64> {
     let n = network.nets();
     admit_network(network)?;

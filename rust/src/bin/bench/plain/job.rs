@@ -37,15 +37,15 @@ fn words(body: &[u8]) -> Result<Vec<u64>, u64> {
 }
 
 fn read(file: &[u8], vectors: &mut [u64], responses: &mut [u64], job: &mut [u64]) -> Result<(), u64> {
-    if !file.starts_with(b"BSJ2") {
+    if !file.starts_with(b"BSJ3") {
         return Err(1);
     }
     let bodies = bodies(file).ok_or(2u64)?;
-    let [n, k, level] = *bodies[0] else { return Err(3) };
-    let [n, k, level] = [n, k, level].map(u64::from);
+    let [n, k, level, gate] = *bodies[0] else { return Err(3) };
+    let [n, k, level, gate] = [n, k, level, gate].map(u64::from);
     let driven = words(bodies[1])?;
     let answered = bodies.get(2).map_or(Ok(vec![]), |body| words(body))?;
-    admit_set(Network::new(n).with_level(level), k, &driven)?;
+    admit_set(Network::new(n).with_level(level).with_gate(gate), k, &driven)?;
     if bodies.len() == 3 {
         admit_responses(n, driven.len(), &answered)?;
     }
@@ -54,7 +54,7 @@ fn read(file: &[u8], vectors: &mut [u64], responses: &mut [u64], job: &mut [u64]
     }
     vectors[..driven.len()].copy_from_slice(&driven);
     responses[..answered.len()].copy_from_slice(&answered);
-    job.copy_from_slice(&[n, level, k, driven.len() as u64, answered.len() as u64]);
+    job.copy_from_slice(&[n, level, gate, k, driven.len() as u64, answered.len() as u64]);
     Ok(())
 }
 

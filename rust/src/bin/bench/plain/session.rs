@@ -1,20 +1,21 @@
 //! The session, on the words of its record.
 
-use super::{admit_network, admit_responses, code, extra_vector, reaches_agree, read, turned};
+use super::{admit_network, admit_responses, code, dominant, extra_vector, reaches_agree, read, turned};
 use fontarelga::{Network, RECORD_WORDS};
 
-/// Step, nets, level, 8 first answers, 48 reaches, vectors spent.
+/// Step, nets, level, gate, 8 first answers, 48 reaches, vectors spent.
 pub type Record = [u64; RECORD_WORDS];
 
 const STEP: usize = 0;
 const NETS: usize = 1;
 const LEVEL: usize = 2;
-const ANSWERS: usize = 3;
-pub const REACHES: usize = 11;
-const SPENT: usize = 59;
+const GATE: usize = 3;
+const ANSWERS: usize = 4;
+pub const REACHES: usize = 12;
+const SPENT: usize = 60;
 
 fn network_of(session: &[u64]) -> Network {
-    Network::new(session[NETS]).with_level(session[LEVEL])
+    Network::new(session[NETS]).with_level(session[LEVEL]).with_gate(session[GATE])
 }
 
 /// C(p, p/2 rounded down).
@@ -42,7 +43,8 @@ fn unclear(n: u64, answers: &[u64]) -> u64 {
 
 /// The extra vector, if there is one, and the walking vector of each net of the word, ascending.
 fn second_vectors(network: Network, unclear: u64) -> impl Iterator<Item = u64> {
-    extra_vector(network).into_iter().chain((0..48).map(|i| 1 << i).filter(move |vector| unclear & vector != 0))
+    let drivers = (0..48).map(|i| 1 << i).filter(move |driver| unclear & driver != 0);
+    extra_vector(network).into_iter().chain(drivers.map(move |driver| dominant(network, driver)))
 }
 
 fn second_length(network: Network, unclear: u64) -> usize {
@@ -59,7 +61,7 @@ fn start(session: &mut Record, network: Network, first: &mut [u64]) -> Result<()
     let words = step_one_words(n);
     first[..p as usize].copy_from_slice(&turned(p, &words));
     session.fill(0);
-    (session[STEP], session[NETS], session[LEVEL]) = (1, n, network.level());
+    session[..ANSWERS].copy_from_slice(&[1, n, network.level(), network.gate()]);
     Ok(())
 }
 
@@ -114,10 +116,10 @@ fn awaits_second(session: &[u64]) -> Option<u64> {
 fn spelled(network: Network, unclear: u64, answers: &[u64]) -> Vec<u64> {
     let mut state: Vec<u64> = (0..network.nets()).map(|i| (1 << i) & !unclear).collect();
     for (vector, answer) in second_vectors(network, unclear).zip(answers) {
-        let read = answer & unclear;
-        state.iter_mut().enumerate().filter(|(i, _)| read >> i & 1 == 1).for_each(|(_, reach)| *reach |= vector);
+        let (driver, receivers) = (dominant(network, vector), dominant(network, *answer) & unclear);
+        state.iter_mut().enumerate().filter(|(i, _)| receivers >> i & 1 == 1).for_each(|(_, reach)| *reach |= driver);
     }
-    let floating = extra_vector(network).map_or(0, |_| answers[0] & unclear);
+    let floating = extra_vector(network).map_or(0, |_| dominant(network, answers[0]) & unclear);
     state.iter_mut().enumerate().filter(|(i, _)| floating >> i & 1 == 1).for_each(|(_, reach)| *reach = 0);
     state
 }
