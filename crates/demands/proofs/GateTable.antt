@@ -1,18 +1,23 @@
 -- The cases of the gate: reading by its laws, the rest by computation.
-use Prim.Native.Nat.{ℕ, _<_}
+use Prim.Native.Nat.{ℕ, _+_, _-_, _≤_, _<_}
 use mathlib.Core.Path.{_≡_, refl, sym, ap, _∙_, subst}
 use mathlib.Core.Bool.{true, false, not}
 use mathlib.Core.Logic.{⊎-elim, _≢_}
+use mathlib.Core.List.{List}
+use native.Mathlib.Nat.{not-suc-le-zero}
 use native.Mathlib.Omega.{arith}
 use lib.Dec.{eqb}
-use borrow.Author.Tests.{eqb-true, eqb-false, not-true, not-false}
-use Rattle.words.specs.Bits.{has}
-use Rattle.words.proofs.Tests.{cases, contrary, not-not, same-truth}
+use lib.ListN.{length}
+use borrow.Author.Tests.{eqb-true, eqb-false, ne-eqb, not-true, not-false}
+use Rattle.words.specs.Bits.{has, at}
+use Rattle.words.proofs.Tests.{cases, contrary, not-not, same-truth, less-or-not}
 use Rattle.network.specs.declared.Network.{Network}
-use Rattle.network.specs.Reading.{wired-or, wired-and, active, reads}
-use Rattle.network.proofs.Reading.{reads-floating, reads-active, active-only}
+use Rattle.network.specs.Reading.{wired-or, wired-and, active, needs-extra, extra-vectors, reads}
+use Rattle.network.proofs.Reading.{active-walking, active-extra, extra-none, extra-most, reads-floating, reads-active, active-only}
 use Rattle.network.proofs.Rows.{is-bit, above-bits}
 use Rattle.findings.specs.Open.{open-findings}
+use Rattle.steps.specs.SecondStep.{Clear, unclear, UnclearNets, settling-vectors, second-vectors}
+use Rattle.steps.proofs.BothSteps.{settling-size, settling-extra, settling-walking, unclear-nets, second-none}
 use Rattle.session.specs.Open.{open-session}
 use Rattle.packing.specs.Packed.{session-words, job-words}
 use Rattle.demands.specs.GateCases.{GateCases}
@@ -53,6 +58,40 @@ exchanged n level other reach vector opposite levels bits = ⊎-elim floats driv
       where
         some : reach ≢ 0
         some = eqb-false reach 0 e
+
+-- in step two the driver of a clear net is not active: the extra vector has no active driver, and the walking vector of
+-- an unclear net only that net's
+clear-not-active : (net : Network) (answers : List ℕ) (i t : ℕ) → i < net .nets → Clear net answers i
+    → t < length (second-vectors net answers) → active net (has (at (second-vectors net answers) t) i) ≡ false
+unfolding second-vectors
+clear-not-active net answers i t l clear lt = ⊎-elim first later (less-or-not t (length (extra-vectors net)))
+  where
+    nets : List ℕ
+    nets = unclear net answers
+
+    listed : UnclearNets net answers nets
+    listed = unclear-nets net answers
+
+    some : length nets ≢ 0
+    some none = absurd (not-suc-le-zero {n = t} (rw (ap length (second-none net answers none)) at lt))
+
+    first : t < length (extra-vectors net) → active net (has (at (settling-vectors net nets) t) i) ≡ false
+    first m =
+        ⊎-elim
+        (λ s. let z : t ≡ 0 = omega (arith, m, extra-most net) in
+        ap (λ (x : ℕ). active net (has (at (settling-vectors net nets) x) i)) z
+        ∙ ap (λ (w : ℕ). active net (has w i)) (settling-extra net s nets some) ∙ active-extra net i l)
+        (λ s. absurd (not-suc-le-zero {n = t} (rw (ap length (extra-none net s)) at m))) (cases (needs-extra net))
+
+    later : length (extra-vectors net) ≤ t → active net (has (at (settling-vectors net nets) t) i) ≡ false
+    later m =
+        let u = t - length (extra-vectors net) in
+        let lu : u < length nets = omega (arith, m, lt, settling-size net nets some) in
+        let place : t ≡ length (extra-vectors net) + u = omega (arith, m) in
+        ap (λ (x : ℕ). active net (has (at (settling-vectors net nets) x) i)) place
+        ∙ ap (λ (w : ℕ). active net (has w i)) (settling-walking net nets u lu)
+        ∙ active-walking net (at nets u) i (listed .below u lu) l
+        ∙ ne-eqb (at nets u) i (λ e. listed .not-clear i l .0 (u, lu, e) clear)
 
 pub gate-cases : GateCases
 unfolding open-session open-findings session-words job-words
@@ -98,6 +137,9 @@ gate-cases = record {
   session-record-0 = refl;
   session-answers-1 = refl;
   session-record-1 = refl;
+  clear-held = λ n level answers i t l clear lt.
+      not-false _ (clear-not-active (wired-and n level) answers i t l clear lt);
+  clear-held-or = λ n level answers i t l clear lt. clear-not-active (wired-or n level) answers i t l clear lt;
   sound-pair = refl;
   floating-pair-0 = refl;
   floating-pair-1 = refl;

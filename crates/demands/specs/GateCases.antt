@@ -7,9 +7,9 @@ use mathlib.Core.Logic.{_≢_}
 use mathlib.Core.Bool.{true, false, not}
 use mathlib.Core.List.{List, [], _∷_, _++_}
 use lib.Dec.{eqb}
-use lib.ListN.{replicate}
+use lib.ListN.{length, replicate}
 use Rattle.words.specs.Answers.{refused, full}
-use Rattle.words.specs.Bits.{has}
+use Rattle.words.specs.Bits.{has, at}
 use Rattle.words.specs.Turning.{tabulate}
 use Rattle.network.specs.declared.Network.{Network}
 use Rattle.network.specs.Reading.{network-with, wired-or, wired-and, walking-vector, extra-vectors, reads}
@@ -19,6 +19,7 @@ use Rattle.checker.specs.declared.Verdict.the-variants.{Pass, Pair}
 use Rattle.checker.specs.Check.{check-answer}
 use Rattle.diagnosis.specs.Diagnosis.{diagnosis-answer}
 use Rattle.findings.specs.FindingsTable.{findings-answer}
+use Rattle.steps.specs.SecondStep.{Clear, second-vectors}
 use Rattle.session.specs.Record.{awaiting-first, awaiting-second, finished}
 use Rattle.session.specs.Calls.{begin-answer, first-answer, second-answer}
 use Rattle.session.specs.Drive.{to-drive}
@@ -45,8 +46,8 @@ table-2 = 34 ∷ 9 ∷ 49 ∷ 6 ∷ 76 ∷ 86 ∷ 96 ∷ []
 
 -- a session over the state of document 01's cases, with refused calls before and between: at soft level 0 the second
 -- list needs room for 4 vectors, at soft level 1 for 3
-abbrev pub calls-at-0 : List Call
-calls-at-0 =
+abbrev pub and-calls-0 : List Call
+and-calls-0 =
     begin (network-with 49 2 2) (9 ∷ 9 ∷ 9 ∷ 9 ∷ [])
     ∷ begin (network-with 4 2 2) (9 ∷ 9 ∷ 9 ∷ [])
     ∷ begin (network-with 4 0 2) (9 ∷ 9 ∷ 9 ∷ [])
@@ -58,8 +59,8 @@ calls-at-0 =
     ∷ second (11 ∷ 8 ∷ 8 ∷ 11 ∷ [])
     ∷ []
 
-abbrev pub calls-at-1 : List Call
-calls-at-1 =
+abbrev pub and-calls-1 : List Call
+and-calls-1 =
     begin shelf-at-1 (9 ∷ 9 ∷ 9 ∷ 9 ∷ [])
     ∷ first (15 ∷ 4 ∷ 4 ∷ 12 ∷ []) (9 ∷ 9 ∷ [])
     ∷ first (15 ∷ 4 ∷ 4 ∷ 12 ∷ []) (9 ∷ 9 ∷ 9 ∷ 9 ∷ [])
@@ -127,7 +128,7 @@ pub record GateCases : Type 0 where
   pub first-answers-1 : response-answer shelf-at-1 4 (11 ∷ 5 ∷ 6 ∷ 8 ∷ []) broken 4 ≡ full (15 ∷ 4 ∷ 4 ∷ 12 ∷ [])
   pub second-answers-1 : response-answer shelf-at-1 4 (14 ∷ 13 ∷ 11 ∷ []) broken 3 ≡ full (12 ∷ 12 ∷ 15 ∷ [])
   -- p = 4 and F = 3, and net 3, which is clear, is held at 1: 8 are spent at soft level 0, 7 at soft level 1
-  pub session-answers-0 : answers-to junk calls-at-0
+  pub session-answers-0 : answers-to junk and-calls-0
       ≡ refused 5
       ∷ refused 17
       ∷ refused 20
@@ -138,15 +139,20 @@ pub record GateCases : Type 0 where
       ∷ refused 9
       ∷ full []
       ∷ []
-  pub session-record-0 : record-after our-sessions junk calls-at-0 ≡ finished shelf-at-0 broken 8
-  pub session-answers-1 : answers-to junk calls-at-1
+  pub session-record-0 : record-after our-sessions junk and-calls-0 ≡ finished shelf-at-0 broken 8
+  pub session-answers-1 : answers-to junk and-calls-1
       ≡ full (11 ∷ 5 ∷ 6 ∷ 8 ∷ [])
       ∷ refused 12
       ∷ full (14 ∷ 13 ∷ 11 ∷ [])
       ∷ refused 9
       ∷ full []
       ∷ []
-  pub session-record-1 : record-after our-sessions junk calls-at-1 ≡ finished shelf-at-1 broken 7
+  pub session-record-1 : record-after our-sessions junk and-calls-1 ≡ finished shelf-at-1 broken 7
+  -- whatever the first answers are, step two holds clear nets at 1, and with OR at 0
+  pub clear-held : (n level : ℕ) (answers : List ℕ) (i t : ℕ) → i < n → Clear (wired-and n level) answers i
+      → t < length (second-vectors (wired-and n level) answers) → has (at (second-vectors (wired-and n level) answers) t) i ≡ true
+  pub clear-held-or : (n level : ℕ) (answers : List ℕ) (i t : ℕ) → i < n → Clear (wired-or n level) answers i
+      → t < length (second-vectors (wired-or n level) answers) → has (at (second-vectors (wired-or n level) answers) t) i ≡ false
   -- two nets: sound; both floating, at each level
   pub sound-pair : record-after our-sessions junk (begin (wired-and 2 0) (9 ∷ 9 ∷ []) ∷ first (1 ∷ 2 ∷ []) [] ∷ [])
       ≡ finished (wired-and 2 0) (1 ∷ 2 ∷ []) 2

@@ -1,5 +1,5 @@
--- Document 01's starred cases, as one table of facts about the definitions that the contracts cite. They are of soft
--- level 1; LevelCases.antt has cases of level 0.
+-- Document 01's starred cases, as one table of facts about the definitions that the contracts cite. They are of the
+-- gate OR and soft level 1; LevelCases.antt has cases of level 0, and GateCases.antt of AND.
 use Prim.Native.Nat.{ℕ}
 use mathlib.Core.Path.{_≡_}
 use mathlib.Core.List.{List, [], _∷_, _++_}

@@ -1,5 +1,5 @@
 -- What the rest asks of `reads`: two laws of the definition, for each gate and level, and what follows from them. Both
--- are said of the gate's active value, so that above this file no law knows which value that is.
+-- are said of the gate's active value, and not of 0 or 1.
 use mathlib.Core.Path.{_≡_, refl, sym, ap, _∙_, subst}
 use mathlib.Core.Bool.{Bool, true, false, not, _&&_, _||_, cond, true≢false}
 use mathlib.Core.Logic.{⊎-elim, _≢_, _↔_}
@@ -32,7 +32,7 @@ use Rattle.network.specs.Joint.{ActiveBits}
 -- ---- active values
 
 module _ (net : Network) where
-  -- the active of two values
+  -- values are equal if both are active or neither is
   pub active-equal : (a b : Bool) → active net a ≡ active net b → a ≡ b
   unfolding active
   active-equal a b e = go (is-and net) e

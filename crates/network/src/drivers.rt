@@ -1,4 +1,5 @@
-// Driver sets and vectors by name. Helpers between crates: the nets are those that row 5 admits.
+// Driver sets and vectors by name, and active bits. Helpers between crates: the nets are those that row 5 admits, and a
+// word has at most 64 bits.
 ghost use mathlib.Core.Path.{_≡_};
 ghost use mathlib.Core.Logic.{_↔_};
 ghost use mathlib.Core.Bool.{true, _&&_};
@@ -68,8 +69,8 @@ pub fn is_extra(net: Network, vector: u64) -> bool
     needed & (vector == extra.0)
 }
 
-// Which of a word's lowest bits are active: its ones, or at a wired AND its zeros. The bits above are kept. Turned twice, a
-// word is what it was.
+// Which of a word's lowest bits are active: its ones, or at a wired AND its zeros. What the bits above are is left open,
+// but for a word that has none. Turned twice, the lowest bits are what they were.
 pub fn active_bits(net: Network, word: u64, lowest: u64) -> u64
     requires { ⌜ lowest ≤ 64 ⌝ }
     ensures { λ r. ⌜ ActiveBits net lowest word r × (word < 2 ^ lowest → r < 2 ^ lowest) ⌝ }

@@ -1,4 +1,5 @@
-// What receivers read. Helpers between crates: each requires that reaches are sets of the network's drivers.
+// What receivers read. Helpers between crates: each requires that reaches are sets of the network's drivers, and that
+// there are at most 64 receivers or vectors.
 ghost use mathlib.Core.Path.{_≡_};
 ghost use Prim.Native.Nat.{ℕ, _<_, _≤_, _^_};
 ghost use lib.ListN.{length};
