@@ -1,4 +1,4 @@
--- The cases of the gate: reading by its laws, the rest by computation.
+-- The cases of the gate: reading, clear nets and row 20 by laws, the rest by computation.
 use Prim.Native.Nat.{ℕ, _+_, _-_, _≤_, _<_}
 use mathlib.Core.Path.{_≡_, refl, sym, ap, _∙_, subst}
 use mathlib.Core.Bool.{true, false, not}

@@ -1,7 +1,7 @@
 -- Demand 2: a response worked out from a wiring state, and a wiring state read back from a response, both follow the
--- wired-OR model, or at the gate AND the wired-AND model, with floating receivers at the soft level, opens and shorts on
--- one net included. With a passed test set, the state read back is of the stated class and gives exactly that response,
--- and, if no earlier refusal applies, "no state fits" is said exactly when no state of the class gives it.
+-- wired-OR model, or at the gate AND the wired-AND model, with floating receivers at the soft level, opens and shorts
+-- on one net included. With a passed test set, the state read back is of the stated class and gives exactly that
+-- response, and, if no earlier refusal applies, "no state fits" is said exactly when no state of the class gives it.
 use Prim.Native.Nat.{ℕ}
 use mathlib.Core.Path.{_≡_}
 use mathlib.Core.Logic.{_↔_}

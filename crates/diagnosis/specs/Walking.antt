@@ -13,8 +13,8 @@ use Rattle.network.specs.Reading.{active, walking-vector, extra-vector, needs-e
 abbrev pub active-answer : Network → ℕ → ℕ → Bool
 active-answer net answered t = active net (has answered t)
 
--- the first t answers, by those that are active: none to the extra vector, if there is one, and the drivers whose walking
--- vectors have such an answer
+-- the first t answers, by those that are active: none to the extra vector, if there is one, and the drivers whose
+-- walking vectors have such an answer
 pub record Gathered (net : Network) (vectors : List ℕ) (on : ℕ → Bool) (t reach : ℕ) : Type 0 where
   pub inside : reach < 2 ^ (net .nets)
   pub driven : (u : ℕ) → u < t → on u ≡ true → needs-extra net ≡ true → at vectors u ≢ extra-vector net

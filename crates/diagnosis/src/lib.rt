@@ -64,8 +64,8 @@ fn read_back(
     Diagnosed::Wrote(net.nets)
 }
 
-// The call *diagnosis*: the state of the class that gave the response, into the front of `out`. Rows 5, 6, 17, 20, 7, 8,
-// 9, 10, 12, 13, 14.
+// The call *diagnosis*: the state of the class that gave the response, into the front of `out`. Rows 5, 6, 17, 20, 7,
+// 8, 9, 10, 12, 13, 14.
 pub fn diagnose(
     net: Network,
     class: u64,

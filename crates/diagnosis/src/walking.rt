@@ -11,8 +11,8 @@ ghost use Rattle.diagnosis.specs.Walking.{Walked};
 use network::Network;
 use words::Stv;
 
-// The drivers whose walking vectors the receiver answered with the gate's active value, or none if it answered so to the
-// extra vector. Only such answers are gone through.
+// The drivers whose walking vectors the receiver answered with the gate's active value, or none if it answered so to
+// the extra vector. Only such answers are gone through.
 pub fn walking_reach(net: Network, vectors: &[u64], answered: Stv) -> u64
     requires { ⌜ (net .nets ≤ 48) × (length (now vectors) ≤ 64) ⌝ }
     ensures { λ r. ⌜ Walked net (now (vectors .entry)) (answered .0) r ⌝ }

@@ -269,8 +269,8 @@ pub extern "C" fn fontarelga_read_job(
     }
 }
 
-// The call *write a job file*. The size's only word: how many bytes were written. Rows 5, 6, 17, 20, 7, 8, 9, 10 and 12;
-// 9 and 10 only if there are responses.
+// The call *write a job file*. The size's only word: how many bytes were written. Rows 5, 6, 17, 20, 7, 8, 9, 10 and
+// 12; 9 and 10 only if there are responses.
 #[no_mangle]
 pub extern "C" fn fontarelga_write_job(
     nets: u64,

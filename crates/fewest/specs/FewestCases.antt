@@ -127,7 +127,8 @@ pub record FalseClaims : Type 0 where
   -- p vectors, though words may cover one another, and even if they differ
   pub covering : ¬ (AtLeast AnyVectors word-length)
   pub differing : ¬ (AtLeast Different word-length)
-  -- k = n, of each soft level and gate alone: one vector more; as many for every n as for 3 nets, which 2 nets alone break
+  -- k = n, of each soft level and gate alone: one vector more; as many for every n as for 3 nets, which 2 nets alone
+  -- break
   pub larger-separating : (level gate : ℕ) → level ≤ 1 → gate ≤ 1
       → ¬ (AtLeast (Combined level gate Separates) (λ net. walking-count net + 1))
   pub larger-passed : (level gate : ℕ) → level ≤ 1 → gate ≤ 1

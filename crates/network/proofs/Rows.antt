@@ -60,7 +60,7 @@ pub nets-admitted : (net : Network) → ¬ (Row5 net) → (2 ≤ net .nets) × (
 nets-admitted net h = let low : net .nets < 2 → ⊥ = λ l. h (inl l) in let high : 48 < net .nets → ⊥ = λ l. h (inr l) in
     (omega (arith, low), omega (arith, high))
 
--- a level and a gate that are not refused, and what is one
+-- what rows 17 and 20 do not refuse is 0 or 1; these they do not refuse, and a greater number they do
 bit-admitted : (x : ℕ) → ¬ (NoBit x) → x ≤ 1
 bit-admitted x h = let high : 1 < x → ⊥ = λ l. h (λ r. ⊎-elim (λ e. omega arith) (λ e. omega arith) r) in omega (arith, high)
 

@@ -1,5 +1,5 @@
--- The active bits of a word, and what the drivers of a set drive together. Only the contracts of helpers use this: what a
--- receiver reads is said by `reads`.
+-- The active bits of a word, and what the drivers of a set drive together. Only the contracts of helpers use this: what
+-- a receiver reads is said by `reads`.
 use Prim.Native.Nat.{ℕ, _-_, _^_, _<_}
 use mathlib.Core.Path.{_≡_}
 use mathlib.Core.Bool.{cond}

@@ -1,5 +1,5 @@
--- What receivers read: a wired OR or a wired AND of what their drivers drive, and the soft level where nothing is driven
--- (source document 000, sections 2 and 3; document 02's gate).
+-- What receivers read: a wired OR or a wired AND of what their drivers drive, and the soft level where nothing is
+-- driven (source document 000, sections 2 and 3; document 02's gate).
 use Prim.Native.Nat.{ℕ, _-_, _^_, _<_}
 use mathlib.Core.Path.{_≡_}
 use mathlib.Core.Logic.{_⊎_, _↔_, _≢_}
@@ -58,7 +58,8 @@ walking-vector net i = cond (is-and net) (all-but net i) (2 ^ i)
 unfoldable pub extra-vector : Network → ℕ
 extra-vector net = cond (is-and net) (all-drivers net) 0
 
--- whether there is one: only where a floating receiver reads the active value, as one does that an active driver reaches
+-- whether there is one: only where a floating receiver reads the active value, as one does that an active driver
+-- reaches
 unfoldable pub needs-extra : Network → Bool
 needs-extra net = active net (soft-level net)
 

@@ -69,8 +69,8 @@ pub fn is_extra(net: Network, vector: u64) -> bool
     needed & (vector == extra.0)
 }
 
-// Which of a word's lowest bits are active: its ones, or at a wired AND its zeros. What the bits above are is left open,
-// but for a word that has none. Turned twice, the lowest bits are what they were.
+// Which of a word's lowest bits are active: its ones, or at a wired AND its zeros. What the bits above are is left
+// open, but for a word that has none. Turned twice, the lowest bits are what they were.
 pub fn active_bits(net: Network, word: u64, lowest: u64) -> u64
     requires { ⌜ lowest ≤ 64 ⌝ }
     ensures { λ r. ⌜ ActiveBits net lowest word r × (word < 2 ^ lowest → r < 2 ^ lowest) ⌝ }
@@ -81,8 +81,8 @@ pub fn active_bits(net: Network, word: u64, lowest: u64) -> u64
     word
 }
 
-// The driver that a walking vector names, as a set; the empty set for any other vector. The trailing zeros of the active
-// bits are the net.
+// The driver that a walking vector names, as a set; the empty set for any other vector. The trailing zeros of the
+// active bits are the net.
 pub fn walked_driver(net: Network, vector: u64) -> u64
     requires { ⌜ net .nets ≤ 48 ⌝ }
     ensures { λ r. ⌜ (r < 2 ^ (net .nets)) × ((i : ℕ) → i < net .nets → (has r i ≡ true) ↔ (vector ≡ walking-vector net i)) ⌝ }

@@ -1,5 +1,5 @@
-// What receivers read. Helpers between crates: each requires that reaches are sets of the network's drivers, and that
-// there are at most 64 receivers or vectors.
+// What receivers read. Helpers between crates: they require that reaches are sets of the network's drivers, and where
+// words are put together that these have at most 64 bits.
 ghost use mathlib.Core.Path.{_≡_};
 ghost use Prim.Native.Nat.{ℕ, _<_, _≤_, _^_};
 ghost use lib.ListN.{length};
@@ -19,9 +19,9 @@ pub fn meets(net: Network, a: u64, b: u64) -> bool
     a & b != 0
 }
 
-// Whether a receiver of this reach reads the active value, by the active bits of a vector: a driver with such a bit is in
-// its reach; or it floats, and the soft level is that value, as it is where there is an extra vector. There is no branch,
-// since this is the innermost loop of all that compares responses.
+// Whether a receiver of this reach reads the active value, by the active bits of a vector: a driver with such a bit is
+// in its reach; or it floats, and the soft level is that value, as it is where there is an extra vector. There is no
+// branch, since this is the innermost loop of all that compares responses.
 fn reads_active(net: Network, reach: u64, bits: u64, extra: bool) -> bool
     requires { ⌜ (reach < 2 ^ (net .nets)) × (extra ≡ needs-extra net) ⌝ }
     ensures { λ r. ⌜ ((vector : ℕ) → ActiveBits net 64 vector bits → r ≡ active net (reads net reach vector)) ⌝ }

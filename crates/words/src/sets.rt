@@ -1,5 +1,5 @@
-// Driver sets as words: single bits, lowest bits, counts of ones, trailing zeros. Helpers between crates: `bit_word` and
-// `low_ones` have a requires.
+// Driver sets as words: single bits, lowest bits, counts of ones, trailing zeros. Helpers between crates: `bit_word`
+// and `low_ones` have a requires.
 ghost use mathlib.Core.Path.{_≡_};
 ghost use Prim.Native.Nat.{_<_, _≤_, _-_, _^_};
 ghost use lib.Count.{ones, trailingZeros};
