@@ -81,10 +81,12 @@ pub fn find(nets: u64, level: u64, gate: u64, state: &[u64], table: &mut [u64]) 
 
 // *begin*
 pub fn begin(session: &mut [u64; 61], nets: u64, level: u64, gate: u64, list: &mut [u64]) -> u64
-    ensures returned { λ r. ⌜ r ≡ exported (now (session .entry)) (begin (network-with nets level gate) (now (list .entry))) .returned ⌝ }
+    ensures returned { λ r. ⌜ r
+        ≡ exported (now (session .entry)) (begin (network-with nets level gate) (now (list .entry))) .returned ⌝ }
     ensures session { λ r. ⌜ now (session .exit)
         ≡ exported (now (session .entry)) (begin (network-with nets level gate) (now (list .entry))) .session ⌝ }
-    ensures list { λ r. ⌜ now (list .exit) ≡ exported (now (session .entry)) (begin (network-with nets level gate) (now (list .entry))) .list ⌝ }
+    ensures list { λ r. ⌜ now (list .exit)
+        ≡ exported (now (session .entry)) (begin (network-with nets level gate) (now (list .entry))) .list ⌝ }
 {
     exports::fontarelga_begin(session, nets, level, gate, list)
 }

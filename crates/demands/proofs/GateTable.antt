@@ -10,10 +10,11 @@ use lib.Dec.{eqb}
 use lib.ListN.{length}
 use borrow.Author.Tests.{eqb-true, eqb-false, ne-eqb, not-true, not-false}
 use Rattle.words.specs.Bits.{has, at}
-use Rattle.words.proofs.Tests.{cases, contrary, not-not, same-truth, less-or-not}
+use Rattle.words.proofs.Tests.{cases, not-not, same-truth, less-or-not}
 use Rattle.network.specs.declared.Network.{Network}
 use Rattle.network.specs.Reading.{wired-or, wired-and, active, needs-extra, extra-vectors, reads}
 use Rattle.network.proofs.Reading.{active-walking, active-extra, extra-none, extra-most, reads-floating, reads-active, active-only}
+use Rattle.network.proofs.Reading.{reads-inactive}
 use Rattle.network.proofs.Rows.{is-bit, above-bits}
 use Rattle.findings.specs.Open.{open-findings}
 use Rattle.steps.specs.SecondStep.{Clear, unclear, UnclearNets, settling-vectors, second-vectors}
@@ -21,13 +22,6 @@ use Rattle.steps.proofs.BothSteps.{settling-size, settling-extra, settling-walk
 use Rattle.session.specs.Open.{open-session}
 use Rattle.packing.specs.Packed.{session-words, job-words}
 use Rattle.demands.specs.GateCases.{GateCases}
-
--- a receiver with no active driver in its reach, which is not empty, does not read the active value
-not-active : (net : Network) (reach vector : ℕ) → reach ≢ 0
-    → ((j : ℕ) → j < net .nets → has reach j ≡ true → active net (has vector j) ≡ false) → active net (reads net reach vector) ≡ false
-not-active net reach vector some none =
-    ⊎-elim (λ e. let r = active-only net reach vector some e in contrary (r .3) (none (r .0) (r .1) (r .2))) (λ e. e)
-    (cases (active net (reads net reach vector)))
 
 exchanged : (n level other reach vector opposite : ℕ) → eqb other 1 ≡ not (eqb level 1)
     → ((j : ℕ) → j < n → has opposite j ≡ not (has vector j))
@@ -98,10 +92,10 @@ unfolding open-session open-findings session-words job-words
 gate-cases = record {
   or-one = λ n level reach vector j l p q. reads-active (wired-or n level) reach vector j l p q;
   or-otherwise = λ n level reach vector some none.
-      not-active (wired-or n level) reach vector some (λ j l p. none j l p);
+      reads-inactive (wired-or n level) reach vector some none;
   and-one = λ n level reach vector j l p q. not-true _ (reads-active (wired-and n level) reach vector j l p (ap not q));
   and-else = λ n level reach vector some none.
-      not-false _ (not-active (wired-and n level) reach vector some (λ j l p. ap not (none j l p)));
+      not-false _ (reads-inactive (wired-and n level) reach vector some (λ j l p. ap not (none j l p)));
   exchanged = exchanged;
   zeros-of-4 = λ level. refl;
   zero-of-48 = λ level. refl;

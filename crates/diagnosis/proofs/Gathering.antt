@@ -14,6 +14,7 @@ use Rattle.words.proofs.Tests.{cases, contrary, or-false, or-cases, or-right, s
 use Rattle.words.proofs.Bits.{words-equal, has-zero, has-power, has-without, has-or}
 use Rattle.network.specs.declared.Network.{Network}
 use Rattle.network.specs.Reading.{active, walking-vector, extra-vector, needs-extra, reads}
+use Rattle.network.specs.Joint.{ActiveBits}
 use Rattle.network.proofs.Reading.{active-soft, reads-floating, reads-walking, reads-walking-all, reads-extra, active-answers}
 use Rattle.network.proofs.Walking.{Names}
 use Rattle.checker.specs.declared.Verdict.the-variants.{Pass}
@@ -83,8 +84,8 @@ module _ (net : Network) (vectors : List ℕ) (bits : ℕ) where
       from j l (inr e) = (t, lt, names j l .0 e, now-seen t ∙ or-right (has (w .seen) t) (eqb t t) (eq-eqb t t refl))
 
   -- none is left
-  pub gathering-last : (answered rest reach : ℕ) → ((u : ℕ) → u < length vectors → has bits u ≡ active-answer net answered u)
-      → Gathering rest reach → ((u : ℕ) → u < length vectors → has rest u ≡ false)
+  pub gathering-last : (answered rest reach : ℕ) → ActiveBits net (length vectors) answered bits → Gathering rest reach
+      → ((u : ℕ) → u < length vectors → has rest u ≡ false)
       → Gathered net vectors (active-answer net answered) (length vectors) reach
   gathering-last answered rest reach shown w none = record {
     inside = g .inside;

@@ -1,7 +1,7 @@
 -- What the rest asks of `reads`: two laws of the definition, for each gate and level, and what follows from them. Both
 -- are said of the gate's active value, and not of 0 or 1.
 use mathlib.Core.Path.{_≡_, refl, sym, ap, _∙_, subst}
-use mathlib.Core.Bool.{Bool, true, false, not, _&&_, _||_, cond, true≢false}
+use mathlib.Core.Bool.{Bool, true, false, not, _&&_, _||_, cond}
 use mathlib.Core.Logic.{⊎-elim, _≢_, _↔_}
 use mathlib.Core.List.{List, [], _∷_, map}
 use Prim.Native.Nat.{ℕ, zero, suc, _^_, _≤_, _<_, zero-le}
@@ -19,7 +19,7 @@ use Rattle.words.specs.Answers.{Decides}
 use Rattle.words.proofs.Tests.{cases, contrary, not-not, not-equal, and-left, and-right, and-both, or-false, same-truth}
 use Rattle.words.proofs.Tests.{decides-itself, decides-off, decides-same, decides-equal, decides-not, decides-and, decides-cond}
 use Rattle.words.proofs.Tests.{test-passes}
-use Rattle.words.proofs.Searching.{any-at, any-some, any-false, decides-any}
+use Rattle.words.proofs.Searching.{any-some, any-false, decides-any}
 use Rattle.words.proofs.Bits.{words-equal, has-zero, has-power, has-own, has-only, has-not-zero, has-all, has-all-but, has-and, some-bit}
 use Rattle.words.proofs.Bits.{some-bit-differs, has-inside}
 use Rattle.words.proofs.Making.{map-at, has-made, made-below, made-equal, made-bits}
@@ -128,17 +128,27 @@ module _ (net : Network) where
   pub extra-most : length (extra-vectors net) ≤ 1
   extra-most = ⊎-elim (λ e. rw (extra-one e) (le-refl 1)) (λ e. rw (extra-none e) zero-le) (cases (needs-extra net))
 
+  -- ---- some driver of a set
+
+  -- a test of each driver decides whether some driver of the set has what it tests
+  decides-some : (set : ℕ) (test : ℕ → Bool) (P : ℕ → Type 0) → ((j : ℕ) → Decides (test j) (P j))
+      → Decides (any (net .nets) (λ j. has set j && test j)) ((j : ℕ) × (j < net .nets) × (has set j ≡ true) × P j)
+  decides-some set test P d =
+      decides-same (λ w. (w .0, w .1, w .2 .0, w .2 .1)) (λ w. (w .0, w .1, (w .2, w .3)))
+      (decides-any (λ j. has set j && test j) (λ j. (has set j ≡ true) × P j) (net .nets)
+      (λ j. decides-and (decides-itself (has set j)) (d j)))
+
   -- ---- two sets with a driver in common
 
-  pub meets-at : (a b j : ℕ) → j < net .nets → has a j ≡ true → has b j ≡ true → meets net a b ≡ true
+  decides-meets : (a b : ℕ) → Decides (meets net a b) (Drives net a b true)
   unfolding meets
-  meets-at a b j l p q = any-at (λ i. has a i && has b i) (net .nets) j l (and-both p q)
+  decides-meets a b = decides-some a (has b) (λ j. has b j ≡ true) (λ j. decides-itself (has b j))
 
-  pub meets-some : (a b : ℕ) → meets net a b ≡ true → (j : ℕ) × (j < net .nets) × (has a j ≡ true) × (has b j ≡ true)
-  unfolding meets
-  meets-some a b e =
-      let r = any-some (λ i. has a i && has b i) (net .nets) e in
-      (r .0, r .1, and-left (has a (r .0)) (has b (r .0)) (r .2), and-right (has a (r .0)) (has b (r .0)) (r .2))
+  pub meets-at : (a b j : ℕ) → j < net .nets → has a j ≡ true → has b j ≡ true → meets net a b ≡ true
+  meets-at a b j l p q = test-passes (decides-meets a b) (j, l, p, q)
+
+  pub meets-some : (a b : ℕ) → meets net a b ≡ true → Drives net a b true
+  meets-some a b = decides-meets a b .0
 
   -- as the code tests it: `a & b` is not 0
   pub meets-and : (a b : ℕ) → a < 2 ^ (net .nets) → meets net a b ≡ not (eqb (bitAnd a b) 0)
@@ -157,12 +167,10 @@ module _ (net : Network) where
 
   -- ---- what drivers drive together
 
-  some-active : ℕ → ℕ → Bool
-  some-active reach vector = any (net .nets) (λ j. has reach j && active net (has vector j))
-
   -- it is active if one of them is
-  active-driven : (reach vector : ℕ) → active net (driven net reach vector) ≡ some-active reach vector
-  unfolding active driven meets some-at-0 some-active
+  active-driven : (reach vector : ℕ)
+      → active net (driven net reach vector) ≡ any (net .nets) (λ j. has reach j && active net (has vector j))
+  unfolding active driven meets some-at-0
   active-driven reach vector = go (is-and net)
     where
       at-0 : Bool
@@ -176,18 +184,21 @@ module _ (net : Network) where
       go true = not-not at-0
       go false = refl
 
+  decides-driven-active : (reach vector : ℕ)
+      → Decides (active net (driven net reach vector))
+      ((j : ℕ) × (j < net .nets) × (has reach j ≡ true) × (active net (has vector j) ≡ true))
+  decides-driven-active reach vector =
+      rw (active-driven reach vector)
+      (decides-some reach (λ j. active net (has vector j)) (λ j. active net (has vector j) ≡ true)
+      (λ j. decides-itself (active net (has vector j))))
+
   pub driven-at : (reach vector j : ℕ) → j < net .nets → has reach j ≡ true → active net (has vector j) ≡ true
       → active net (driven net reach vector) ≡ true
-  unfolding some-active
-  driven-at reach vector j l p q =
-      active-driven reach vector ∙ any-at (λ i. has reach i && active net (has vector i)) (net .nets) j l (and-both p q)
+  driven-at reach vector j l p q = test-passes (decides-driven-active reach vector) (j, l, p, q)
 
   pub driven-some : (reach vector : ℕ) → active net (driven net reach vector) ≡ true
       → (j : ℕ) × (j < net .nets) × (has reach j ≡ true) × (active net (has vector j) ≡ true)
-  unfolding some-active
-  driven-some reach vector e =
-      let r = any-some (λ i. has reach i && active net (has vector i)) (net .nets) (sym (active-driven reach vector) ∙ e) in
-      (r .0, r .1, and-left (has reach (r .0)) _ (r .2), and-right (has reach (r .0)) _ (r .2))
+  driven-some reach vector = decides-driven-active reach vector .0
 
   -- no driver is in the empty set
   pub driven-none : (vector : ℕ) → active net (driven net 0 vector) ≡ false
@@ -218,26 +229,24 @@ module _ (net : Network) where
       → (j : ℕ) × (j < net .nets) × (has reach j ≡ true) × (active net (has vector j) ≡ true)
   active-only reach vector h e = driven-some reach vector (ap (active net) (sym (reads-driven reach vector h)) ∙ e)
 
+  -- so one with no active driver in its reach does not
+  pub reads-inactive : (reach vector : ℕ) → reach ≢ 0
+      → ((j : ℕ) → j < net .nets → has reach j ≡ true → active net (has vector j) ≡ false) → active net (reads net reach vector) ≡ false
+  reads-inactive reach vector h none =
+      ⊎-elim (λ e. let r = active-only reach vector h e in contrary (r .3) (none (r .0) (r .1) (r .2))) (λ e. e)
+      (cases (active net (reads net reach vector)))
+
   -- ---- as the drivers say it
 
   decides-at-0 : (reach vector : ℕ) → Decides (some-at-0 net reach vector) (Drives net reach vector false)
   unfolding some-at-0
   decides-at-0 reach vector =
-      decides-same (λ w. (w .0, w .1, w .2 .0, w .2 .1)) (λ w. (w .0, w .1, (w .2, w .3)))
-      (decides-any (λ j. has reach j && not (has vector j)) (λ j. (has reach j ≡ true) × (has vector j ≡ false)) (net .nets)
-      (λ j. decides-and (decides-itself (has reach j)) (decides-off (has vector j))))
-
-  decides-at-1 : (reach vector : ℕ) → Decides (meets net reach vector) (Drives net reach vector true)
-  unfolding meets
-  decides-at-1 reach vector =
-      decides-same (λ w. (w .0, w .1, w .2 .0, w .2 .1)) (λ w. (w .0, w .1, (w .2, w .3)))
-      (decides-any (λ j. has reach j && has vector j) (λ j. (has reach j ≡ true) × (has vector j ≡ true)) (net .nets)
-      (λ j. decides-and (decides-itself (has reach j)) (decides-itself (has vector j))))
+      decides-some reach (λ j. not (has vector j)) (λ j. has vector j ≡ false) (λ j. decides-off (has vector j))
 
   decides-driven : (reach vector : ℕ) → Decides (driven net reach vector) (Driven1 net reach vector)
   unfolding driven
   decides-driven reach vector =
-      decides-cond (is-and net) (decides-equal (net .gate) 1) (decides-not (decides-at-0 reach vector)) (decides-at-1 reach vector)
+      decides-cond (is-and net) (decides-equal (net .gate) 1) (decides-not (decides-at-0 reach vector)) (decides-meets reach vector)
 
   pub decides-reads : (reach vector : ℕ) → Decides (reads net reach vector) (Reads1 net reach vector)
   unfolding reads
@@ -325,10 +334,7 @@ module _ (net : Network) where
       go true e =
           subst (λ (x : ℕ). active net (reads net x (extra-vector net)) ≡ true) (sym (eqb-true reach 0 e))
           (ap (active net) (reads-floating (extra-vector net)) ∙ active-soft net ∙ s)
-      go false e =
-          same-truth _ _
-          (λ q. let r = active-only reach (extra-vector net) (eqb-false reach 0 e) q in contrary (r .3) (active-extra (r .0) (r .1)))
-          (λ q. absurd (true≢false (sym q)))
+      go false e = reads-inactive reach (extra-vector net) (eqb-false reach 0 e) (λ j l on. active-extra j l)
 
   -- together they tell any two sets of drivers apart
   pub walking-apart : (a b : ℕ) → a < 2 ^ (net .nets) → b < 2 ^ (net .nets)
@@ -405,9 +411,7 @@ module _ (net : Network) where
                   (λ x lx. active-equal net _ _ (bit-at f x lx (eqb i x) refl))
 
       reads-nothing : (a : ℕ) → a ≢ 0 → any (net .nets) other ≡ false → active net (reads net a vector) ≡ false
-      reads-nothing a nz e =
-          ⊎-elim (λ q. let r = active-only a vector nz q in contrary (r .3) (quiet e (r .0) (r .1))) (λ q. q)
-          (cases (active net (reads net a vector)))
+      reads-nothing a nz e = reads-inactive a vector nz (λ j l on. quiet e j l)
 
       go : (t : Bool) → any (net .nets) other ≡ t
           → active net (reads net (all-but net i) vector) ≡ active net (reads net (all-drivers net) vector)

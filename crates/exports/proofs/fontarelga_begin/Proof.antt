@@ -29,8 +29,9 @@ returns c =
     let k = c .before .before .before in
     let h = k .before .before in
     let a = h .before .before .before .args in
-    let answer : Session → Answer (List ℕ) = λ session. begin-answer (network-with (a .nets) (a .level) (a .gate)) (length (a .first .now)) in
-    let done : Session → Stepped = λ session. begun session (network-with (a .nets) (a .level) (a .gate)) (length (a .first .now)) in
+    let net = network-with (a .nets) (a .level) (a .gate) in
+    let answer : Session → Answer (List ℕ) = λ session. begin-answer net (length (a .first .now)) in
+    let done : Session → Stepped = λ session. begun session net (length (a .first .now)) in
     let by : (session : Session) → (new : Session) × (done session ≡ stepped (answer session) new session) =
     λ session. (_, refl) in
     let held = h .session-of .ensures in

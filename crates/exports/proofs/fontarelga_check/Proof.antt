@@ -28,7 +28,8 @@ returns c =
     let t = c .before in
     let k = t .before .before in
     let a = k .before .before .args in
-    let e : check-answer (network-with (a .nets) (a .level) (a .gate)) (a .class) (a .vectors .now) ≡ full Pass = sym (k .check .ensures)
+    let net = network-with (a .nets) (a .level) (a .gate) in
+    let e : check-answer net (a .class) (a .vectors .now) ≡ full Pass = sym (k .check .ensures)
     ∙ ap meaning (t .enum-told .given .1) in
     (code-full _ Pass e, fixed-full _ Pass e verdict-words (a .verdict .now))
 
@@ -39,7 +40,8 @@ returns-2 c =
     let k = t .before .before in
     let a = k .before .before .args in
     let pair : Verdict = Pair (t .a .given .0 .0) (t .a .given .0 .1 .0) in
-    let e : check-answer (network-with (a .nets) (a .level) (a .gate)) (a .class) (a .vectors .now) ≡ full pair = sym (k .check .ensures)
+    let net = network-with (a .nets) (a .level) (a .gate) in
+    let e : check-answer net (a .class) (a .vectors .now) ≡ full pair = sym (k .check .ensures)
     ∙ ap meaning (t .a .given .1) in
     (code-full _ pair e, fixed-full _ pair e verdict-words (a .verdict .now))
 
@@ -49,7 +51,8 @@ returns-3 c =
     let k = t .before .before in
     let a = k .before .before .args in
     let number = t .number .given .0 .0 in
-    let e : check-answer (network-with (a .nets) (a .level) (a .gate)) (a .class) (a .vectors .now) ≡ refused number = sym (k .check .ensures)
+    let net = network-with (a .nets) (a .level) (a .gate) in
+    let e : check-answer net (a .class) (a .vectors .now) ≡ refused number = sym (k .check .ensures)
     ∙ ap meaning (t .number .given .1) in
     (code-refused _ number e, fixed-refused _ number e verdict-words (a .verdict .now))
 

@@ -10,6 +10,7 @@ use Rattle.words.specs.Answers.{full, lent-after}
 use Rattle.findings.specs.declared.Finding.{Finding}
 use Rattle.findings.specs.FindingsTable.{blank-table}
 use Rattle.findings.proofs.FindingsLaws.{Accepted, table-refused, table-accepted, records-written, refused-in-any-room, accepted-by-room}
+use Rattle.network.specs.declared.Network.{Network}
 use Rattle.network.specs.Reading.{network-with}
 use Rattle.packing.specs.Packed.{finding-words}
 use Rattle.exports.proofs.CallLaws.{code-refused, words-refused, code-full, words-full}
@@ -24,8 +25,9 @@ returns c =
     let r = c .before .before in
     let a = r .before .before .before .args in
     let d = r .by-value in
-    let e = refused-in-any-room (network-with (a .nets) (a .level) (a .gate)) (a .state .now) (length (a .table .now) / 3) (d .result .code)
-    (table-refused (network-with (a .nets) (a .level) (a .gate)) (a .state .now) 48 (d .result .code) (c .if1 .taken) (d .ensures .0)) in
+    let net = network-with (a .nets) (a .level) (a .gate) in
+    let e = refused-in-any-room net (a .state .now) (length (a .table .now) / 3) (d .result .code)
+    (table-refused net (a .state .now) 48 (d .result .code) (c .if1 .taken) (d .ensures .0)) in
     (code-refused _ _ e, words-refused _ _ e finding-words (a .table .now))
 
 -- accepted with a table of 48 records
@@ -33,11 +35,13 @@ module _ (c : tie.Else1) where
   abbrev start : tie.Start
   start = c .before .before .before .before .before
 
-  accepted : Accepted (network-with (start .args .nets) (start .args .level) (start .args .gate)) (start .args .state .now) 48
+  abbrev net-of : Network
+  net-of = network-with (start .args .nets) (start .args .level) (start .args .gate)
+
+  accepted : Accepted net-of (start .args .state .now) 48
   accepted =
       let d = c .before .before .by-value in
-      table-accepted (network-with (start .args .nets) (start .args .level) (start .args .gate)) (start .args .state .now) 48 (d .result .code)
-      (c .if1 .left) (d .ensures .0)
+      table-accepted net-of (start .args .state .now) 48 (d .result .code) (c .if1 .left) (d .ensures .0)
 
 no-room-requires : tie.Need-no-room-requires
 no-room-requires c κs = search needs
@@ -46,7 +50,7 @@ returns-2 : tie.Need-returns-2
 returns-2 c =
     let d = c .before .before in
     let a = start d .args in
-    let e = accepted-by-room (network-with (a .nets) (a .level) (a .gate)) (a .state .now) (length (a .table .now) / 3) (accepted d) true
+    let e = accepted-by-room (net-of d) (a .state .now) (length (a .table .now) / 3) (accepted d) true
     (sym (c .before .no-room .ensures) ∙ c .if2 .taken) in
     (code-refused _ _ e, words-refused _ _ e finding-words (a .table .now))
 
@@ -68,9 +72,9 @@ returns-3 c =
     let d = e .before .before in
     let a = start d .args in
     let b = d .before .before .by-value in
-    let ok = accepted-by-room (network-with (a .nets) (a .level) (a .gate)) (a .state .now) (length (a .table .now) / 3) (accepted d) false
+    let net = net-of d in
+    let ok = accepted-by-room net (a .state .now) (length (a .table .now) / 3) (accepted d) false
     (sym (e .before .no-room .ensures) ∙ e .if2 .left) in
-    let net = network-with (a .nets) (a .level) (a .gate) in
     let written = records-written net (a .state .now) blank-table (b .result .table) (accepted d) (b .ensures .1) in (
       code-full _ _ ok,
       words-full _ _ ok finding-words (a .table .now) _
