@@ -1,5 +1,5 @@
-/* Diagnoses a board of four nets, soft level 1 and gate OR, for class 4, and prints what is found, a line a net: net,
- * kind, reach, partners.
+/* Diagnoses a board of four nets with one receiver each, soft level 1 and gate OR, for class 4, and prints what is
+ * found, a line a net: net, kind, reach, partners.
  *
  * At the repository's root, after `rt staticlib exports`:
  *
@@ -18,12 +18,17 @@ int main(void)
 {
     const uint64_t vectors[VECTORS] = {0, 1, 2, 4, 8};
     const uint64_t responses[VECTORS] = {4, 7, 7, 4, 12};
+    uint64_t receivers[NETS];
     uint64_t state[NETS];
     uint64_t table[TABLE_WORDS];
 
-    uint64_t refusal = fontarelga_diagnose(NETS, LEVEL, GATE, CLASS, vectors, VECTORS, responses, VECTORS, state, NETS);
+    uint64_t refusal = fontarelga_own_receivers(NETS, receivers, NETS);
     if (refusal == 0) {
-        refusal = fontarelga_findings(NETS, LEVEL, GATE, state, NETS, table, TABLE_WORDS);
+        refusal = fontarelga_diagnose(NETS, LEVEL, GATE, receivers, NETS, CLASS, vectors, VECTORS, responses, VECTORS,
+                                      state, NETS);
+    }
+    if (refusal == 0) {
+        refusal = fontarelga_findings(NETS, LEVEL, GATE, receivers, NETS, state, NETS, table, TABLE_WORDS);
     }
     if (refusal != 0) {
         printf("refused %" PRIu64 "\n", refusal);

@@ -22,7 +22,9 @@
  * pthread_attr_setstacksize.
  *
  * nets is n, 2 to 48. level is the soft level, 0 or 1: what a receiver reads that no driver reaches. gate is
- * FONTARELGA_GATE_OR or FONTARELGA_GATE_AND. class_ is k: 1, 2, 3 or n. Bit i of a word stands for net i. */
+ * FONTARELGA_GATE_OR or FONTARELGA_GATE_AND. receivers has the net of each receiver, n to 64 of them, at least one on
+ * each net; its length is m, and an empty list is refused like any other that is too short. class_ is k: 1, 2, 3 or n.
+ * Bit i of a word stands for net i, and in responses and answers for receiver i. */
 
 #ifndef FONTARELGA_H
 #define FONTARELGA_H
@@ -34,8 +36,9 @@
 extern "C" {
 #endif
 
-/* The most that a network, a test set and a job file may have. */
+/* The most that a board, a test set and a job file may have. */
 #define FONTARELGA_MOST_NETS 48
+#define FONTARELGA_MOST_RECEIVERS 64
 #define FONTARELGA_MOST_VECTORS 64
 #define FONTARELGA_MOST_FILE_BYTES 2048
 
@@ -58,40 +61,49 @@ extern "C" {
 uint64_t fontarelga_check(uint64_t nets, uint64_t level, uint64_t gate, uint64_t class_, const uint64_t *vectors,
                           size_t vectors_len, uint64_t verdict[FONTARELGA_VERDICT_WORDS]);
 
-/* The response of a wiring state of nets words: a word a vector. Rows 5, 6, 17, 20, 7, 8, 11, 12. */
-uint64_t fontarelga_respond(uint64_t nets, uint64_t level, uint64_t gate, uint64_t class_, const uint64_t *vectors,
-                            size_t vectors_len, const uint64_t *state, size_t state_len, uint64_t *response,
-                            size_t response_len);
+/* The list of receivers of a network with one receiver a net: 0 to nets - 1, receiver i on net i. Rows 5, 12. */
+uint64_t fontarelga_own_receivers(uint64_t nets, uint64_t *receivers, size_t receivers_len);
 
-/* The only state of the class that gives the responses: a word a net. Rows 5, 6, 17, 20, 7 to 10, 12 to 14. */
-uint64_t fontarelga_diagnose(uint64_t nets, uint64_t level, uint64_t gate, uint64_t class_, const uint64_t *vectors,
-                             size_t vectors_len, const uint64_t *responses, size_t responses_len, uint64_t *state,
-                             size_t state_len);
+/* The response of a wiring state, which has a reach a receiver: a word a vector.
+ * Rows 5, 21, 6, 17, 20, 7, 8, 11, 12. */
+uint64_t fontarelga_respond(uint64_t nets, uint64_t level, uint64_t gate, const uint64_t *receivers,
+                            size_t receivers_len, uint64_t class_, const uint64_t *vectors, size_t vectors_len,
+                            const uint64_t *state, size_t state_len, uint64_t *response, size_t response_len);
 
-/* A finding: kind (0 sound, 1 open, 2 short, 3 both), reach, partners. A net is open if its own driver does not reach
- * its receiver, and a short if it has partners. Another net j is a partner of net i, bit j of i's word, if one driver
- * reaches both receivers, if one receiver, whichever, is reached by both drivers, or if either's driver reaches the
- * other's receiver. */
+/* The only state of the class that gives the responses: a reach a receiver.
+ * Rows 5, 21, 6, 17, 20, 7 to 10, 12 to 14. */
+uint64_t fontarelga_diagnose(uint64_t nets, uint64_t level, uint64_t gate, const uint64_t *receivers,
+                             size_t receivers_len, uint64_t class_, const uint64_t *vectors, size_t vectors_len,
+                             const uint64_t *responses, size_t responses_len, uint64_t *state, size_t state_len);
+
+/* A finding: kind (0 sound, 1 open, 2 short, 3 both), reach, partners. A receiver is open if its own net's driver does
+ * not reach it, and a short if it has partners. Its partners are nets: another net j than its own, bit j of the word,
+ * is one if j has a receiver of the same reach, which is not empty, if j's driver and its own net's driver reach one
+ * receiver, whichever, if j's driver reaches it, or if its own net's driver reaches a receiver of j. */
 #define FONTARELGA_FINDING_WORDS 3
 #define FONTARELGA_FINDING_KIND 0
 #define FONTARELGA_FINDING_REACH 1
 #define FONTARELGA_FINDING_PARTNERS 2
 
-/* What is found on each net of a state: a finding a net. A table has room for a third as many findings as it has words.
- * Level and gate are tested and have no part in what is found. Rows 5, 17, 20, 11, 12. */
-uint64_t fontarelga_findings(uint64_t nets, uint64_t level, uint64_t gate, const uint64_t *state, size_t state_len,
-                             uint64_t *table, size_t table_len);
+/* What is found at each receiver of a state: a finding a receiver. A table has room for a third as many findings as it
+ * has words. Level and gate are tested and have no part in what is found. Rows 5, 21, 17, 20, 11, 12. */
+uint64_t fontarelga_findings(uint64_t nets, uint64_t level, uint64_t gate, const uint64_t *receivers,
+                             size_t receivers_len, const uint64_t *state, size_t state_len, uint64_t *table,
+                             size_t table_len);
 
-/* A session record: step, nets, level, gate, 8 words of first answers, 48 reaches, vectors spent. What a step does not
- * use is 0. A record of any content may be given to begin. */
-#define FONTARELGA_SESSION_WORDS 61
+/* A session record: step, nets, level, gate, number of receivers, the net of each in 64 words, 8 words of first
+ * answers, 64 reaches, vectors spent. The receivers stay in every step; what a step does not use is 0, and so are the
+ * places of receivers that there are not. A record of any content may be given to begin. */
+#define FONTARELGA_SESSION_WORDS 142
 #define FONTARELGA_SESSION_STEP 0
 #define FONTARELGA_SESSION_NETS 1
 #define FONTARELGA_SESSION_LEVEL 2
 #define FONTARELGA_SESSION_GATE 3
-#define FONTARELGA_SESSION_FIRST_ANSWERS 4
-#define FONTARELGA_SESSION_REACHES 12
-#define FONTARELGA_SESSION_SPENT 60
+#define FONTARELGA_SESSION_RECEIVERS 4
+#define FONTARELGA_SESSION_OWNERS 5
+#define FONTARELGA_SESSION_FIRST_ANSWERS 69
+#define FONTARELGA_SESSION_REACHES 77
+#define FONTARELGA_SESSION_SPENT 141
 
 /* The steps of a session: it waits for first answers, it waits for second answers, it is finished. */
 #define FONTARELGA_STEP_FIRST 1
@@ -102,12 +114,12 @@ uint64_t fontarelga_findings(uint64_t nets, uint64_t level, uint64_t gate, const
 #define FONTARELGA_MOST_FIRST_VECTORS 8
 #define FONTARELGA_MOST_SECOND_VECTORS 49
 
-/* Starts the record anew, and writes the vectors of step one. Rows 5, 17, 20, 12. */
+/* Starts the record anew, and writes the vectors of step one. Rows 5, 21, 17, 20, 12. */
 uint64_t fontarelga_begin(uint64_t session[FONTARELGA_SESSION_WORDS], uint64_t nets, uint64_t level, uint64_t gate,
-                          uint64_t *first, size_t first_len);
+                          const uint64_t *receivers, size_t receivers_len, uint64_t *first, size_t first_len);
 
 /* Takes the answers to step one. Writes the vectors of step two if a net is unclear; else the session is finished.
- * Rows 4, 9, 10, 12. */
+ * A net is clear if all its receivers returned its word and no other receiver did. Rows 4, 9, 10, 12. */
 uint64_t fontarelga_first_answers(uint64_t session[FONTARELGA_SESSION_WORDS], const uint64_t *answers,
                                   size_t answers_len, uint64_t *second, size_t second_len);
 

@@ -1,6 +1,6 @@
-/* Works out what a board of four nets, soft level 1 and gate OR, answers to a test set, writes the job file with both,
- * and reads it back. Prints the response, the file's size, and what was read: nets, level, gate, class and counts, then
- * the vectors and the responses.
+/* Works out what a board of four nets with one receiver each, soft level 1 and gate OR, answers to a test set, writes
+ * the job file with both, and reads it back. Prints the response, the file's size, and what was read: nets, level,
+ * gate, class and counts, then the vectors and the responses.
  *
  * At the repository's root, after `rt staticlib exports`:
  *
@@ -44,11 +44,16 @@ int main(void)
 {
     const uint64_t vectors[VECTORS] = {0, 1, 2, 4, 8};
     const uint64_t state[NETS] = {3, 3, 0, 8};
+    uint64_t receivers[NETS];
     uint64_t response[VECTORS];
     uint8_t file[FONTARELGA_MOST_FILE_BYTES];
     uint64_t size = 0;
 
-    uint64_t refusal = fontarelga_respond(NETS, LEVEL, GATE, CLASS, vectors, VECTORS, state, NETS, response, VECTORS);
+    uint64_t refusal = fontarelga_own_receivers(NETS, receivers, NETS);
+    if (refusal == 0) {
+        refusal = fontarelga_respond(NETS, LEVEL, GATE, receivers, NETS, CLASS, vectors, VECTORS, state, NETS, response,
+                                     VECTORS);
+    }
     if (refusal == 0) {
         print_words("response", response, VECTORS);
         refusal = fontarelga_write_job(NETS, LEVEL, GATE, CLASS, vectors, VECTORS, response, VECTORS, file,

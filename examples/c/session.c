@@ -1,6 +1,6 @@
-/* Finds the wiring state of a simulated board of four nets in a session, and prints what is driven and read, the
- * reaches found, and the number of vectors spent. Its soft level is 1; with -DLEVEL=0 it is 0. Its gate is OR; with
- * -DGATE=1 it is AND.
+/* Finds the wiring state of a simulated board of four nets with one receiver each in a session, and prints what is
+ * driven and read, the reaches found, and the number of vectors spent. Its soft level is 1; with -DLEVEL=0 it is 0. Its
+ * gate is OR; with -DGATE=1 it is AND.
  *
  * At the repository's root, after `rt staticlib exports`:
  *
@@ -42,9 +42,9 @@ static int reads_1(uint64_t reach, uint64_t vector)
 static uint64_t read_board(uint64_t vector)
 {
     uint64_t word = 0;
-    for (int net = 0; net < NETS; net++) {
-        if (reads_1(board[net], vector)) {
-            word |= UINT64_C(1) << net;
+    for (int receiver = 0; receiver < NETS; receiver++) {
+        if (reads_1(board[receiver], vector)) {
+            word |= UINT64_C(1) << receiver;
         }
     }
     return word;
@@ -82,9 +82,12 @@ static uint64_t do_step(uint64_t session[FONTARELGA_SESSION_WORDS], const uint64
 int main(void)
 {
     uint64_t session[FONTARELGA_SESSION_WORDS] = {0};
-    uint64_t first[FIRST] = {0}, second[SECOND] = {0};
+    uint64_t receivers[NETS], first[FIRST] = {0}, second[SECOND] = {0};
 
-    uint64_t refusal = fontarelga_begin(session, NETS, LEVEL, GATE, first, FIRST);
+    uint64_t refusal = fontarelga_own_receivers(NETS, receivers, NETS);
+    if (refusal == 0) {
+        refusal = fontarelga_begin(session, NETS, LEVEL, GATE, receivers, NETS, first, FIRST);
+    }
     while (refusal == 0 && session[FONTARELGA_SESSION_STEP] != FONTARELGA_STEP_FINISHED) {
         refusal = do_step(session, first, second);
     }
@@ -92,7 +95,7 @@ int main(void)
         printf("refused %" PRIu64 "\n", refusal);
         return 1;
     }
-    print_words("reaches", &session[FONTARELGA_SESSION_REACHES], NETS);
+    print_words("reaches", &session[FONTARELGA_SESSION_REACHES], session[FONTARELGA_SESSION_RECEIVERS]);
     print_words("spent", &session[FONTARELGA_SESSION_SPENT], 1);
     return 0;
 }

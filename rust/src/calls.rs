@@ -1,9 +1,10 @@
 //! The calls on test sets, responses and states.
 
+use crate::board::Board;
 use crate::interface as raw;
 use crate::network::Network;
 use crate::refusal::Refusal;
-use crate::sizes::{FINDING_WORDS, MOST_NETS, VERDICT_WORDS};
+use crate::sizes::{FINDING_WORDS, MOST_RECEIVERS, VERDICT_WORDS};
 
 /// The checker's answer.
 #[derive(Clone, Copy, Debug, PartialEq, Eq, Hash)]
@@ -14,17 +15,18 @@ pub enum Verdict {
     Pair { a: u64, b: u64 },
 }
 
-/// What is found on a net: it is open if its own driver does not reach its receiver, and a short if it has partners
+/// What is found at a receiver: it is open if its own net's driver does not reach it, and a short if it has partners
 /// ([`Finding::partners`]).
 #[derive(Clone, Copy, Debug, PartialEq, Eq, Hash)]
 pub enum Kind {
-    /// Neither: its own driver reaches its receiver and no other, and no other driver reaches it.
+    /// Neither: its own net's driver and no other reaches it, and that driver reaches no receiver of another net.
     Sound = 0,
-    /// Open and no short: its receiver floats, and its driver reaches no receiver.
+    /// Open and no short: it floats, and the receivers that its own net's driver reaches, if any, are of that net and
+    /// reached by no other driver.
     Open = 1,
-    /// A short and not open: its own driver reaches its receiver, and it has partners.
+    /// A short and not open: its own net's driver reaches it, and it has partners.
     Short = 2,
-    /// Open and a short: its own driver does not reach its receiver, and it has partners. So it is with both nets of a
+    /// Open and a short: its own net's driver does not reach it, and it has partners. So it is with both nets of a
     /// crossed pair.
     Both = 3,
 }
@@ -41,14 +43,15 @@ impl Kind {
     }
 }
 
-/// What is found on one net.
+/// What is found at one receiver.
 #[derive(Clone, Copy, Debug, PartialEq, Eq, Hash)]
 pub struct Finding {
     pub kind: Kind,
-    /// The drivers that reach its receiver.
+    /// The drivers that reach it.
     pub reach: u64,
-    /// Its partners: the other nets for which one driver reaches both receivers, one receiver, whichever, is reached by
-    /// both drivers, or either's driver reaches the other's receiver.
+    /// Its partners, as nets. They are other nets than its own: those with a receiver of the same reach, if that is not
+    /// empty; those whose driver and its own net's driver reach one receiver, whichever; those whose driver reaches it;
+    /// and those with a receiver that its own net's driver reaches.
     pub partners: u64,
 }
 
@@ -76,65 +79,78 @@ pub fn check(network: impl Into<Network>, class: u64, vectors: &[u64]) -> Result
     })
 }
 
-/// The response of a wiring state: a word a vector, bit i read by receiver i.
+/// The response of a wiring state: a word a vector, bit r read by receiver r.
 ///
-/// `state` has n words, the reaches of receivers 0 to n - 1; 0 is a receiver that floats.
+/// `state` has m words, the reaches of receivers 0 to m - 1; 0 is a receiver that floats.
 ///
-/// Refused: 5, 6, 17, 20, 7, 8, 11.
+/// Refused: 5, 21, 6, 17, 20, 7, 8, 11.
 ///
 /// ```
-/// use fontarelga::{respond, Network, AND};
+/// use fontarelga::{respond, Board, Network, AND};
 /// let (network, vectors, state) = (Network::new(4), [0, 1, 2, 4, 8], [3, 3, 0, 8]);
 /// assert_eq!(respond(network, 4, &vectors, &state), Ok(vec![4, 7, 7, 4, 12]));
 /// assert_eq!(respond(network.with_level(0), 4, &vectors, &state), Ok(vec![0, 3, 3, 0, 8]));
 /// assert_eq!(respond(network.with_gate(AND), 4, &[14, 13, 11], &state), Ok(vec![12, 12, 15]));
+/// // A second receiver on net 3, which reads what the first one reads.
+/// let board = Board::with(network, &[0, 1, 2, 3, 3]);
+/// assert_eq!(respond(board, 4, &vectors, &[3, 3, 0, 8, 8]), Ok(vec![4, 7, 7, 4, 28]));
 /// ```
-pub fn respond(network: impl Into<Network>, class: u64, vectors: &[u64], state: &[u64]) -> Result<Vec<u64>, Refusal> {
+pub fn respond<'a>(
+    board: impl Into<Board<'a>>,
+    class: u64,
+    vectors: &[u64],
+    state: &[u64],
+) -> Result<Vec<u64>, Refusal> {
     let mut response = vec![0; vectors.len()];
-    Refusal::from_code(raw::respond(network, class, vectors, state, &mut response))?;
+    Refusal::from_code(raw::respond(board, class, vectors, state, &mut response))?;
     Ok(response)
 }
 
-/// The only wiring state of the class that gives exactly these responses: its n reaches.
+/// The only wiring state of the class that gives exactly these responses: its m reaches.
 ///
 /// `responses` has a word a vector.
 ///
-/// Refused: 5, 6, 17, 20, 7, 8, 9, 10, 13, 14.
+/// Refused: 5, 21, 6, 17, 20, 7, 8, 9, 10, 13, 14.
 ///
 /// ```
-/// use fontarelga::{diagnose, Network, Refusal};
+/// use fontarelga::{diagnose, Board, Network, Refusal};
 /// let (network, vectors) = (Network::new(4), [0, 1, 2, 4, 8]);
 /// assert_eq!(diagnose(network, 4, &vectors, &[4, 7, 7, 4, 12]), Ok(vec![3, 3, 0, 8]));
 /// assert_eq!(diagnose(network, 4, &vectors, &[4, 7, 7, 4, 4]), Err(Refusal(14)));
+/// let board = Board::with(network, &[0, 1, 2, 3, 3]);
+/// assert_eq!(diagnose(board, 4, &vectors, &[4, 7, 7, 4, 28]), Ok(vec![3, 3, 0, 8, 8]));
 /// ```
-pub fn diagnose(
-    network: impl Into<Network>,
+pub fn diagnose<'a>(
+    board: impl Into<Board<'a>>,
     class: u64,
     vectors: &[u64],
     responses: &[u64],
 ) -> Result<Vec<u64>, Refusal> {
-    let network = network.into();
-    let mut state = [0; MOST_NETS];
-    Refusal::from_code(raw::diagnose(network, class, vectors, responses, &mut state))?;
-    Ok(state[..network.nets() as usize].to_vec())
+    let board = board.into();
+    let mut state = [0; MOST_RECEIVERS];
+    Refusal::from_code(raw::diagnose(&board, class, vectors, responses, &mut state))?;
+    Ok(state[..board.receivers().len()].to_vec())
 }
 
-/// What is found on each net of a wiring state, net 0 first. Soft level and gate have no part in it.
+/// What is found at each receiver of a wiring state, receiver 0 first. Soft level and gate have no part in it.
 ///
-/// Refused: 5, 17, 20, 11 (for class n).
+/// Refused: 5, 21, 17, 20, 11 (for class n).
 ///
 /// ```
-/// use fontarelga::{findings, Finding, Kind, Network};
+/// use fontarelga::{findings, Board, Finding, Kind, Network};
 /// let found = findings(Network::new(4), &[3, 3, 0, 8]).unwrap();
 /// assert_eq!(found[0], Finding { kind: Kind::Short, reach: 3, partners: 2 });
 /// assert_eq!(found[2], Finding { kind: Kind::Open, reach: 0, partners: 0 });
 /// let crossed = findings(Network::new(2), &[2, 1]).unwrap();
 /// assert_eq!(crossed[0], Finding { kind: Kind::Both, reach: 2, partners: 2 });
+/// // Receivers 0 and 2 are on net 0. The second of them floats, and net 1 is tied to the driver of its net.
+/// let fanned_out = findings(Board::with(Network::new(2), &[0, 1, 0]), &[3, 3, 0]).unwrap();
+/// assert_eq!(fanned_out[2], Finding { kind: Kind::Both, reach: 0, partners: 2 });
 /// ```
-pub fn findings(network: impl Into<Network>, state: &[u64]) -> Result<Vec<Finding>, Refusal> {
-    let network = network.into();
-    let mut table = [0; FINDING_WORDS * MOST_NETS];
-    Refusal::from_code(raw::findings(network, state, &mut table))?;
+pub fn findings<'a>(board: impl Into<Board<'a>>, state: &[u64]) -> Result<Vec<Finding>, Refusal> {
+    let board = board.into();
+    let mut table = [0; FINDING_WORDS * MOST_RECEIVERS];
+    Refusal::from_code(raw::findings(&board, state, &mut table))?;
     let record = |r: &[u64]| Finding { kind: Kind::from_number(r[0]), reach: r[1], partners: r[2] };
-    Ok(table.chunks(FINDING_WORDS).take(network.nets() as usize).map(record).collect())
+    Ok(table.chunks(FINDING_WORDS).take(board.receivers().len()).map(record).collect())
 }

@@ -3,6 +3,7 @@
 //! A list is a pointer and a length in elements; one of a fixed length is a pointer alone. A call writes nothing but
 //! the lists that it is lent for writing, and keeps no pointer; it takes any numbers, any bytes and any lengths.
 
+use crate::board::Board;
 use crate::network::Network;
 use crate::sizes::{JOB_WORDS, RECORD_WORDS, VERDICT_WORDS};
 
@@ -18,10 +19,14 @@ mod c {
             verdict: *mut u64,
         ) -> u64;
 
+        pub fn fontarelga_own_receivers(nets: u64, receivers: *mut u64, receivers_len: usize) -> u64;
+
         pub fn fontarelga_respond(
             nets: u64,
             level: u64,
             gate: u64,
+            receivers: *const u64,
+            receivers_len: usize,
             class: u64,
             vectors: *const u64,
             vectors_len: usize,
@@ -35,6 +40,8 @@ mod c {
             nets: u64,
             level: u64,
             gate: u64,
+            receivers: *const u64,
+            receivers_len: usize,
             class: u64,
             vectors: *const u64,
             vectors_len: usize,
@@ -48,6 +55,8 @@ mod c {
             nets: u64,
             level: u64,
             gate: u64,
+            receivers: *const u64,
+            receivers_len: usize,
             state: *const u64,
             state_len: usize,
             table: *mut u64,
@@ -59,6 +68,8 @@ mod c {
             nets: u64,
             level: u64,
             gate: u64,
+            receivers: *const u64,
+            receivers_len: usize,
             first: *mut u64,
             first_len: usize,
         ) -> u64;
@@ -127,14 +138,28 @@ pub fn check(network: impl Into<Network>, class: u64, vectors: &[u64], verdict: 
     }
 }
 
+/// 0 to nets - 1 into the front of `receivers`: one receiver a net.
+pub fn own_receivers(nets: u64, receivers: &mut [u64]) -> u64 {
+    unsafe { c::fontarelga_own_receivers(nets, receivers.as_mut_ptr(), receivers.len()) }
+}
+
 /// A word a vector into the front of `response`.
-pub fn respond(network: impl Into<Network>, class: u64, vectors: &[u64], state: &[u64], response: &mut [u64]) -> u64 {
-    let network = network.into();
+pub fn respond<'a>(
+    board: impl Into<Board<'a>>,
+    class: u64,
+    vectors: &[u64],
+    state: &[u64],
+    response: &mut [u64],
+) -> u64 {
+    let board = board.into();
+    let (network, receivers) = (board.network(), board.receivers());
     unsafe {
         c::fontarelga_respond(
             network.nets(),
             network.level(),
             network.gate(),
+            receivers.as_ptr(),
+            receivers.len(),
             class,
             vectors.as_ptr(),
             vectors.len(),
@@ -146,14 +171,23 @@ pub fn respond(network: impl Into<Network>, class: u64, vectors: &[u64], state: 
     }
 }
 
-/// A word a net into the front of `state`.
-pub fn diagnose(network: impl Into<Network>, class: u64, vectors: &[u64], responses: &[u64], state: &mut [u64]) -> u64 {
-    let network = network.into();
+/// A word a receiver into the front of `state`.
+pub fn diagnose<'a>(
+    board: impl Into<Board<'a>>,
+    class: u64,
+    vectors: &[u64],
+    responses: &[u64],
+    state: &mut [u64],
+) -> u64 {
+    let board = board.into();
+    let (network, receivers) = (board.network(), board.receivers());
     unsafe {
         c::fontarelga_diagnose(
             network.nets(),
             network.level(),
             network.gate(),
+            receivers.as_ptr(),
+            receivers.len(),
             class,
             vectors.as_ptr(),
             vectors.len(),
@@ -165,14 +199,17 @@ pub fn diagnose(network: impl Into<Network>, class: u64, vectors: &[u64], respon
     }
 }
 
-/// Three words a net, kind, reach and partners, into the front of `table`. It has room for a third of its words.
-pub fn findings(network: impl Into<Network>, state: &[u64], table: &mut [u64]) -> u64 {
-    let network = network.into();
+/// Three words a receiver, kind, reach and partners, into the front of `table`. It has room for a third of its words.
+pub fn findings<'a>(board: impl Into<Board<'a>>, state: &[u64], table: &mut [u64]) -> u64 {
+    let board = board.into();
+    let (network, receivers) = (board.network(), board.receivers());
     unsafe {
         c::fontarelga_findings(
             network.nets(),
             network.level(),
             network.gate(),
+            receivers.as_ptr(),
+            receivers.len(),
             state.as_ptr(),
             state.len(),
             table.as_mut_ptr(),
@@ -182,14 +219,17 @@ pub fn findings(network: impl Into<Network>, state: &[u64], table: &mut [u64]) -
 }
 
 /// The vectors of step one into the front of `first`.
-pub fn begin(session: &mut [u64; RECORD_WORDS], network: impl Into<Network>, first: &mut [u64]) -> u64 {
-    let network = network.into();
+pub fn begin<'a>(session: &mut [u64; RECORD_WORDS], board: impl Into<Board<'a>>, first: &mut [u64]) -> u64 {
+    let board = board.into();
+    let (network, receivers) = (board.network(), board.receivers());
     unsafe {
         c::fontarelga_begin(
             session.as_mut_ptr(),
             network.nets(),
             network.level(),
             network.gate(),
+            receivers.as_ptr(),
+            receivers.len(),
             first.as_mut_ptr(),
             first.len(),
         )

@@ -3,7 +3,8 @@ pub const OR: u64 = 0;
 /// The gate of a wired AND: a receiver reads 0 if a driver in its reach drives 0, else 1.
 pub const AND: u64 = 1;
 
-/// A network: n nets, each with one driver and one receiver, its soft level and its gate.
+/// A network: n nets, each with one driver, its soft level and its gate. With its receivers it is a
+/// [`Board`](crate::Board).
 ///
 /// The gate says what a receiver reads, [`OR`] or [`AND`]. With either, a receiver that floats, since no driver reaches
 /// it, reads the soft level. Of drivers tied together, where one at 1 makes the receivers read 1, a bench takes [`OR`];

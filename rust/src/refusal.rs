@@ -13,7 +13,8 @@ use std::fmt;
 pub struct Refusal(pub u64);
 
 impl Refusal {
-    /// The table's words on the row: its place, and when it holds.
+    /// The table's words on the row: its place, and when it holds. There are n nets and m receivers, in a job file as
+    /// many as nets.
     pub fn words(self) -> &'static str {
         match self.0 {
             1 => "file mark: first 4 bytes missing or different",
@@ -21,15 +22,16 @@ impl Refusal {
             3 => "file bodies: nets body not 4 bytes, or another not a multiple of 8",
             4 => "session step: the record does not wait for this call, or no accepted calls leave such a record",
             5 => "net count: n below 2 or above 48",
+            21 => "receivers: m below n or above 64, a receiver that names no net, or a net that has none",
             6 => "class: k not 1, 2, 3 or n, or above n",
             17 => "soft level: neither 0 nor 1",
             20 => "gate: neither OR (0) nor AND (1)",
             7 => "vectors: fewer than 1 or more than 64",
             8 => "vectors: a bit at or above n",
             9 => "responses: not as many as vectors",
-            10 => "responses: a bit at or above n",
+            10 => "responses: a bit at or above m",
             11 => {
-                "wiring state: not n words, a bit at or above n, more than k drivers, \
+                "wiring state: not m words, a bit at or above n, more than k drivers, \
                  or two non-empty reaches that meet and differ"
             }
             12 => "lent list: shorter than the result",

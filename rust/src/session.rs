@@ -1,3 +1,4 @@
+use crate::board::Board;
 use crate::interface as raw;
 use crate::network::Network;
 use crate::refusal::Refusal;
@@ -7,8 +8,10 @@ const STEP: usize = 0;
 const NETS: usize = 1;
 const LEVEL: usize = 2;
 const GATE: usize = 3;
-const REACHES: usize = 12;
-const SPENT: usize = 60;
+const RECEIVERS: usize = 4;
+const OWNERS: usize = 5;
+const REACHES: usize = 77;
+const SPENT: usize = 141;
 
 /// What a session waits for.
 #[derive(Clone, Copy, Debug, PartialEq, Eq, Hash)]
@@ -25,11 +28,11 @@ pub enum Waits {
 ///
 /// It owns its record and the vectors of both steps. A refused call changes nothing.
 ///
-/// Step two drives the walking vector of each net that step one left unclear, and before them the extra vector where
-/// the [`Network`] has one.
+/// A net is clear after step one if all its receivers returned its word and no other receiver did. Step two drives the
+/// walking vector of each net that is not, and before them the extra vector where the [`Network`] has one.
 ///
 /// ```
-/// use fontarelga::{Network, Session, Waits, AND};
+/// use fontarelga::{Board, Network, Session, Waits, AND};
 /// let mut session = Session::begin(Network::new(4))?;
 /// assert_eq!(session.to_drive(), [11, 5, 6, 8]);
 /// session.first_answers(&[15, 7, 7, 12])?;
@@ -46,6 +49,14 @@ pub enum Waits {
 /// session.begin_anew(Network::new(4).with_gate(AND))?;
 /// session.first_answers(&[15, 4, 4, 12])?;
 /// assert_eq!(session.to_drive(), [14, 13, 11]);
+///
+/// // Net 0 has three receivers, of which the second floats, and net 1 has one: it is clear.
+/// session.begin_anew(Board::with(Network::new(2), &[0, 0, 0, 1]))?;
+/// assert_eq!(session.to_drive(), [1, 2]);
+/// session.first_answers(&[7, 10])?;
+/// assert_eq!(session.to_drive(), [0, 1]);
+/// session.second_answers(&[2, 7])?;
+/// assert_eq!((session.reaches(), session.spent()), (Some(&[1, 0, 1, 2][..]), Some(4)));
 /// # Ok::<(), fontarelga::Refusal>(())
 /// ```
 #[derive(Clone, Debug, PartialEq, Eq)]
@@ -56,21 +67,21 @@ pub struct Session {
 }
 
 impl Session {
-    /// A session on this network that waits for first answers.
+    /// A session on this board that waits for first answers.
     ///
-    /// Refused: 5, 17, 20.
-    pub fn begin(network: impl Into<Network>) -> Result<Session, Refusal> {
+    /// Refused: 5, 21, 17, 20.
+    pub fn begin<'a>(board: impl Into<Board<'a>>) -> Result<Session, Refusal> {
         let mut session =
             Session { record: [0; RECORD_WORDS], first: [0; MOST_FIRST_VECTORS], second: [0; MOST_SECOND_VECTORS] };
-        session.begin_anew(network)?;
+        session.begin_anew(board)?;
         Ok(session)
     }
 
     /// Begins anew, whatever the session waited for. What it was told before counts no more.
     ///
-    /// Refused: 5, 17, 20.
-    pub fn begin_anew(&mut self, network: impl Into<Network>) -> Result<(), Refusal> {
-        Refusal::from_code(raw::begin(&mut self.record, network, &mut self.first))
+    /// Refused: 5, 21, 17, 20.
+    pub fn begin_anew<'a>(&mut self, board: impl Into<Board<'a>>) -> Result<(), Refusal> {
+        Refusal::from_code(raw::begin(&mut self.record, board, &mut self.first))
     }
 
     /// Takes the answers to step one: a word a vector, in order. If a net is unclear, step two is to be driven;
@@ -107,6 +118,11 @@ impl Session {
         }
     }
 
+    /// The board.
+    pub fn board(&self) -> Board<'_> {
+        Board::with(self.network(), self.receivers())
+    }
+
     /// The network.
     pub fn network(&self) -> Network {
         Network::new(self.nets()).with_level(self.record[LEVEL]).with_gate(self.record[GATE])
@@ -117,10 +133,14 @@ impl Session {
         self.record[NETS]
     }
 
-    /// The wiring state found, a reach a net, once the session is finished.
+    /// The net of each receiver.
+    pub fn receivers(&self) -> &[u64] {
+        &self.record[OWNERS..][..self.receiver_count()]
+    }
+
+    /// The wiring state found, a reach a receiver, once the session is finished.
     pub fn reaches(&self) -> Option<&[u64]> {
-        let nets = self.nets() as usize;
-        self.finished().then(|| &self.record[REACHES..REACHES + nets])
+        self.finished().then(|| &self.record[REACHES..][..self.receiver_count()])
     }
 
     /// How many vectors were spent, once the session is finished.
@@ -131,6 +151,10 @@ impl Session {
     /// The words of the record.
     pub fn record(&self) -> &[u64; RECORD_WORDS] {
         &self.record
+    }
+
+    fn receiver_count(&self) -> usize {
+        self.record[RECEIVERS] as usize
     }
 
     fn finished(&self) -> bool {

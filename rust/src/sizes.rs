@@ -2,6 +2,8 @@
 
 /// The most nets of a network.
 pub const MOST_NETS: usize = 48;
+/// The most receivers of a board.
+pub const MOST_RECEIVERS: usize = 64;
 /// The most vectors of a test set.
 pub const MOST_VECTORS: usize = 64;
 /// The most vectors of a session's step one.
@@ -15,8 +17,9 @@ pub const MOST_FILE_BYTES: usize = 2048;
 pub const VERDICT_WORDS: usize = 3;
 /// The words of a finding: kind, reach, partners.
 pub const FINDING_WORDS: usize = 3;
-/// The words of a session record: step, nets, level, gate, 8 first answers, 48 reaches, vectors spent.
-pub const RECORD_WORDS: usize = 61;
+/// The words of a session record: step, nets, level, gate, number of receivers, the net of each (64), 8 first answers,
+/// 64 reaches, vectors spent.
+pub const RECORD_WORDS: usize = 142;
 /// The words of a job: nets, level, gate, class, number of vectors, number of responses.
 pub const JOB_WORDS: usize = 6;
 

@@ -1,27 +1,34 @@
-//! Random boards of up to 48 nets, of each gate and soft level. The state that a response was made from is the one read
-//! back.
+//! Random boards of up to 48 nets and 64 receivers, of each gate and soft level. The state that a response was made
+//! from is the one read back.
 
 mod support;
 
 use model::checker::verdict;
 use model::network::{extra_vector, response};
-use model::{Network, Verdict};
+use model::{Board, Network, Verdict};
 use support::boards::*;
 use support::calls::*;
 use support::generator::Generator;
 use support::networks::{each_combination, whole_walking_set};
 
 /// Response, diagnosis and findings of one board over a set that passes, and the diagnosis of a damaged response.
-fn try_board(g: &mut Generator, net: Network, k: u64, vectors: &[u64]) {
-    let n = net.nets;
-    let state = state(g, n, k);
+fn try_board(g: &mut Generator, board: &Board, k: u64, vectors: &[u64]) {
+    let (net, m) = (board.network, board.receivers());
+    let state = state(g, board, k);
     let right = response(net, vectors, &state);
     let longer = g.below(4);
-    respond_gives(net, k, vectors, &state, vectors.len() + longer, &Ok(right.clone()));
-    diagnose_gives(net, k, vectors, &right, n as usize + longer, &Ok(state.clone()));
-    findings_gives(net, &state, 3 * n as usize + longer, &model::findings(net, &state, n as usize));
-    let damaged = g.one_bit_turned(&right, n);
-    diagnose_gives(net, k, vectors, &damaged, n as usize + longer, &model::diagnose(net, k, vectors, &damaged, 48));
+    respond_gives(board, k, vectors, &state, vectors.len() + longer, &Ok(right.clone()));
+    diagnose_gives(board, k, vectors, &right, m + longer, &Ok(state.clone()));
+    findings_gives(board, &state, 3 * m + longer, &model::findings(board, &state, m));
+    let damaged = g.one_bit_turned(&right, m);
+    diagnose_gives(board, k, vectors, &damaged, m + longer, &model::diagnose(board, k, vectors, &damaged, m));
+}
+
+/// The same of one receiver a net, and of more.
+fn try_boards(g: &mut Generator, net: Network, k: u64, vectors: &[u64]) {
+    try_board(g, &net.into(), k, vectors);
+    let board = with_some_receivers(g, net);
+    try_board(g, &board, k, vectors);
 }
 
 /// Compares the verdict with the model's, and says whether it is pass.
@@ -36,7 +43,7 @@ fn try_walking(g: &mut Generator, n: u64, k: u64) {
     for net in each_combination(n) {
         let vectors = walking_set(g, net);
         assert!(passes(net, k, &vectors));
-        try_board(g, net, k, &vectors);
+        try_boards(g, net, k, &vectors);
     }
 }
 
@@ -69,10 +76,11 @@ fn class_3_over_walking_vectors() {
 fn try_random_set(g: &mut Generator, net: Network, k: u64, vectors: &[u64]) -> bool {
     let passed = passes(net, k, vectors);
     if passed {
-        try_board(g, net, k, vectors);
+        try_boards(g, net, k, vectors);
     } else {
-        let answers = response(net, vectors, &state(g, net.nets, k));
-        diagnose_gives(net, k, vectors, &answers, 48, &Err(13));
+        let board = with_some_receivers(g, net);
+        let answers = response(net, vectors, &state(g, &board, k));
+        diagnose_gives(&board, k, vectors, &answers, 64, &Err(13));
     }
     passed
 }

@@ -1,12 +1,12 @@
-//! Four nets, of each gate and soft level: seeded cases of every class, with responses of states, turned bits and any
-//! words.
+//! Four nets with one receiver each, of each gate and soft level: seeded cases of every class, with responses of
+//! states, turned bits and any words.
 
 mod support;
 
 use model::checker::verdict;
 use model::diagnosis::{fitting_among, only};
 use model::network::{all_states, response};
-use model::{Network, Verdict};
+use model::{Board, Network, Verdict};
 use support::boards::walking_set;
 use support::calls::*;
 use support::generator::Generator;
@@ -31,7 +31,7 @@ fn test_set(g: &mut Generator, net: Network) -> Vec<u64> {
 fn responses(g: &mut Generator, net: Network, vectors: &[u64], state: &[u64]) -> Vec<u64> {
     let right = response(net, vectors, state);
     match g.below(4) {
-        0 => g.one_bit_turned(&right, N),
+        0 => g.one_bit_turned(&right, N as usize),
         1 => vectors.iter().map(|_| g.word() % 16).collect(),
         _ => right,
     }
@@ -51,21 +51,21 @@ fn reading(net: Network, states: &[Vec<u64>], k: u64, vectors: &[u64], responses
 
 /// One case of a class, by all its states. Gives what the diagnosis gave.
 fn try_case(g: &mut Generator, net: Network, k: u64, class: &[Vec<u64>]) -> Result<Vec<u64>, u64> {
-    let (vectors, longer) = (test_set(g, net), g.below(5));
+    let (board, vectors, longer) = (Board::from(net), test_set(g, net), g.below(5));
     let state = g.pick(class);
     check_gives(net, k, &vectors, &Ok(verdict(net, k, &vectors)));
-    respond_gives(net, k, &vectors, state, vectors.len() + longer, &Ok(response(net, &vectors, state)));
-    findings_gives(net, state, 12 + longer, &model::findings(net, state, 4));
+    respond_gives(&board, k, &vectors, state, vectors.len() + longer, &Ok(response(net, &vectors, state)));
+    findings_gives(&board, state, 12 + longer, &model::findings(&board, state, 4));
     let answered = responses(g, net, &vectors, state);
     let reading = reading(net, class, k, &vectors, &answered);
-    diagnose_gives(net, k, &vectors, &answered, 4 + longer, &reading);
+    diagnose_gives(&board, k, &vectors, &answered, 4 + longer, &reading);
     reading
 }
 
 #[test]
 fn seeded_cases() {
     let g = &mut Generator::new(4);
-    let states: Vec<_> = (1..=N).map(|k| all_states(N, k)).collect();
+    let states: Vec<_> = (1..=N).map(|k| all_states(N, N as usize, k)).collect();
     for net in each_combination(N) {
         let mut seen = [0; 3];
         for _ in 0..CASES {

@@ -1,8 +1,52 @@
-//! The constants of the C header: the sizes are the package's, and the places and numbers are those that the calls use.
+//! The C header: its functions are those that the package calls, with the same parameters; its sizes are the package's;
+//! and its places and numbers are those that the calls use.
 
 use fontarelga::*;
 
 const HEADER: &str = include_str!("../../examples/c/fontarelga.h");
+const INTERFACE: &str = include_str!("../src/interface.rs");
+
+/// The declarations that begin with these words, each as its name and its parameters.
+fn declarations<'a>(text: &'a str, start: &str) -> Vec<(&'a str, Vec<&'a str>)> {
+    let declaration = |text: &'a str| {
+        let (name, rest) = text.split_once('(')?;
+        let (parameters, _) = rest.split_once(')')?;
+        Some((name, parameters.split(',').map(str::trim).filter(|parameter| !parameter.is_empty()).collect()))
+    };
+    text.split(start).skip(1).filter_map(declaration).collect()
+}
+
+/// A parameter of the header, `const uint64_t *state`, `uint64_t session[..]` or `size_t state_len`, as Rust has it.
+fn in_rust(parameter: &str) -> String {
+    let (constant, rest) = parameter.strip_prefix("const ").map_or((false, parameter), |rest| (true, rest));
+    let (kind, name) = rest.split_once(' ').expect("a type and a name");
+    let kind = match kind {
+        "uint64_t" => "u64",
+        "uint8_t" => "u8",
+        "size_t" => "usize",
+        _ => panic!("no type of the interface: {parameter}"),
+    };
+    let plain = name.trim_start_matches('*').split('[').next().expect("a name").trim_end_matches('_');
+    match (name == plain || name == "class_", constant) {
+        (true, _) => format!("{plain}: {kind}"),
+        (false, true) => format!("{plain}: *const {kind}"),
+        (false, false) => format!("{plain}: *mut {kind}"),
+    }
+}
+
+#[test]
+fn functions() {
+    let mut of_header = Vec::new();
+    for (name, parameters) in declarations(HEADER, "\nuint64_t fontarelga_") {
+        of_header.push((name, parameters.into_iter().map(in_rust).collect::<Vec<_>>()));
+    }
+    let mut of_interface = Vec::new();
+    for (name, parameters) in declarations(INTERFACE, "pub fn fontarelga_") {
+        of_interface.push((name, parameters.into_iter().map(String::from).collect::<Vec<_>>()));
+    }
+    assert_eq!(of_header, of_interface);
+    assert_eq!(of_header.len(), 11);
+}
 
 /// The number that the header gives to a name, which stands after `FONTARELGA_`.
 fn stated(name: &str) -> usize {
@@ -15,6 +59,7 @@ fn stated(name: &str) -> usize {
 fn sizes() {
     let sizes = [
         ("MOST_NETS", MOST_NETS),
+        ("MOST_RECEIVERS", MOST_RECEIVERS),
         ("MOST_VECTORS", MOST_VECTORS),
         ("MOST_FILE_BYTES", MOST_FILE_BYTES),
         ("CHECK_STACK_BYTES", CHECK_STACK_BYTES),
@@ -45,6 +90,13 @@ fn verdict() {
 }
 
 #[test]
+fn own_receivers() {
+    let mut receivers = [9; MOST_RECEIVERS];
+    assert_eq!(raw::own_receivers(3, &mut receivers), 0);
+    assert_eq!(receivers[..4], [0, 1, 2, 9]);
+}
+
+#[test]
 fn finding() {
     let mut table = [0; 4 * FINDING_WORDS];
     assert_eq!(raw::findings(4, &[3, 3, 0, 8], &mut table), 0);
@@ -57,18 +109,29 @@ fn session() {
     let (mut record, mut first, mut second) = ([9; RECORD_WORDS], [0; MOST_FIRST_VECTORS], [0; MOST_SECOND_VECTORS]);
     let step = |record: &[u64; RECORD_WORDS]| record[stated("SESSION_STEP")] as usize;
 
-    assert_eq!(raw::begin(&mut record, Network::new(4).with_level(0).with_gate(AND), &mut first), 0);
+    // Receiver 4 is a second one on net 2, and floats as the first one does.
+    let board = Board::with(Network::new(4).with_level(0).with_gate(AND), &[0, 1, 2, 3, 2]);
+    let holds_board = |record: &[u64; RECORD_WORDS]| {
+        let numbers = ["SESSION_NETS", "SESSION_LEVEL", "SESSION_GATE", "SESSION_RECEIVERS"];
+        assert_eq!(numbers.map(|name| record[stated(name)]), [4, 0, 1, 5]);
+        assert_eq!(record[stated("SESSION_OWNERS")..][..6], [0, 1, 2, 3, 2, 0]);
+    };
+
+    assert_eq!(raw::begin(&mut record, board, &mut first), 0);
     assert_eq!(step(&record), stated("STEP_FIRST"));
-    assert_eq!(["SESSION_NETS", "SESSION_LEVEL", "SESSION_GATE"].map(|name| record[stated(name)]), [4, 0, 1]);
+    holds_board(&record);
 
     assert_eq!(raw::first_answers(&mut record, &[11, 0, 0, 8], &mut second), 0);
     assert_eq!(step(&record), stated("STEP_SECOND"));
-    assert_eq!(record[stated("SESSION_FIRST_ANSWERS")..][..4], [11, 0, 0, 8]);
+    assert_eq!(record[stated("SESSION_FIRST_ANSWERS")..][..5], [11, 0, 0, 8, 0]);
+    holds_board(&record);
 
     assert_eq!(raw::second_answers(&mut record, &[11, 8, 8, 11]), 0);
     assert_eq!(step(&record), stated("STEP_FINISHED"));
-    assert_eq!(record[stated("SESSION_REACHES")..][..4], [3, 3, 0, 8]);
+    assert_eq!(record[stated("SESSION_REACHES")..][..6], [3, 3, 0, 8, 0, 0]);
     assert_eq!(record[stated("SESSION_SPENT")], 8);
+    assert_eq!(stated("SESSION_SPENT") + 1, RECORD_WORDS);
+    holds_board(&record);
 }
 
 #[test]

@@ -250,7 +250,7 @@ fn a_board_goes_through_a_file() {
     let g = &mut Generator::new(11);
     for case in 0..100 {
         let net = each_combination(48)[case % 4];
-        let (network, vectors, board) = (of_library(net), whole_walking_set(net), state(g, 48, 48));
+        let (network, vectors, board) = (of_library(net), whole_walking_set(net), state(g, &net.into(), 48));
         let responses = fontarelga::respond(network, 48, &vectors, &board).unwrap();
         let job = fontarelga::Job { network, class: 48, vectors, responses };
         let read = fontarelga::Job::read(&job.write().unwrap()).unwrap();

@@ -47,14 +47,17 @@ fn words_apart(g: &mut Generator, n: u64) -> Vec<u64> {
     (0..n).map(|i| 1 << i | (g.word() & g.word()) << 48).collect()
 }
 
-/// The verdict compared with the model's; a state of the class, read back where the set passes.
+/// The verdict compared with the model's; a state of the class, read back where the set passes, of one receiver a net
+/// and of more.
 fn try_set(g: &mut Generator, net: Network, k: u64, vectors: &[u64]) -> Verdict {
     let shown = verdict(net, k, vectors);
     check_gives(net, k, vectors, &Ok(shown));
-    let state = state(g, net.nets, k);
-    let right = response(net, vectors, &state);
-    let read = if shown == Verdict::Pass { Ok(state) } else { Err(13) };
-    diagnose_gives(net, k, vectors, &right, net.nets as usize, &read);
+    for board in [net.into(), with_some_receivers(g, net)] {
+        let state = state(g, &board, k);
+        let right = response(net, vectors, &state);
+        let read = if shown == Verdict::Pass { Ok(state) } else { Err(13) };
+        diagnose_gives(&board, k, vectors, &right, board.receivers(), &read);
+    }
     shown
 }
 

@@ -1,17 +1,19 @@
 //! The table "Where a call is turned away": every row of every call, and every two rows of a call at once.
 //!
-//! For each call there is an input of each gate and soft level that is accepted, and for each row some ways to make it
-//! hold. Every way is tried alone, and every two together. The model says which rows then hold; the library must return
-//! the first of them, and leave all lists as they were.
+//! For each call there are inputs of each gate and soft level that are accepted, those of calls that take receivers
+//! with one receiver a net and with more, and for each row some ways to make it hold. Every way is tried alone, and
+//! every two together. The model says which rows then hold; the library must return the first of them, and leave all
+//! lists as they were.
 
 mod support;
 
+use model::board::{own_receivers, rows_of_own_receivers};
 use model::checker::rows_of_check;
 use model::diagnosis::{rows_of_diagnose, rows_of_findings};
 use model::jobfile::{laid_out, reader_rows_holding, rows_of_write_job};
 use model::responding::{respond, rows_of_respond};
 use model::session::{rows_of_begin, rows_of_first_answers, rows_of_second_answers};
-use model::{check, diagnose, findings, read_job, write_job, Network, Record, AND, OR};
+use model::{check, diagnose, findings, read_job, write_job, Board, Network, Record, AND, OR};
 use std::collections::BTreeSet;
 use support::calls::*;
 use support::networks::each_combination;
@@ -22,10 +24,10 @@ const HIGH: u64 = 1 << 63;
 /// A way to make a row hold.
 type Way<I> = (u64, fn(&mut I));
 
-/// A call's table: its rows in order, accepted inputs, one a gate and soft level, and ways to make each row hold.
+/// A call's table: its rows in order, accepted inputs, and ways to make each row hold.
 struct Table<I> {
     rows: &'static [u64],
-    accepted: [I; 4],
+    accepted: Vec<I>,
     ways: Vec<Way<I>>,
 }
 
@@ -94,7 +96,7 @@ fn by_rows<T>(answer: Result<T, u64>, first: Option<u64>) -> Result<T, u64> {
 /// What the calls on test sets take and are lent.
 #[derive(Clone)]
 struct Set {
-    net: Network,
+    board: Board,
     k: u64,
     vectors: Vec<u64>,
     responses: Vec<u64>,
@@ -102,12 +104,24 @@ struct Set {
     room: usize,
 }
 
-/// Three nets, class 3, nets 0 and 1 tied and net 2 floating, with this much room.
-fn accepted_sets(room: usize) -> [Set; 4] {
-    each_combination(3).map(|net| {
+/// Three nets with one receiver each, class 3, nets 0 and 1 tied and net 2 floating, with this much room.
+fn accepted_sets(room: usize) -> Vec<Set> {
+    let accepted = |net: Network| {
         let (vectors, responses) = tied_and_floating(net);
-        Set { net, k: 3, vectors, responses, state: vec![3, 3, 0], room }
-    })
+        Set { board: net.into(), k: 3, vectors, responses, state: vec![3, 3, 0], room }
+    };
+    each_combination(3).map(accepted).to_vec()
+}
+
+/// The same, and the same with a second receiver on net 1, which reads what the first one does.
+fn accepted_boards(room: usize) -> Vec<Set> {
+    let with_another = |mut set: Set| {
+        set.board.owners.push(1);
+        set.state.push(3);
+        set.responses.iter_mut().for_each(|word| *word |= (*word & 2) << 2);
+        set
+    };
+    accepted_sets(room).into_iter().flat_map(|set| [set.clone(), with_another(set)]).collect()
 }
 
 /// The gate's extra vector and walking vectors, and what they answer to them.
@@ -121,25 +135,49 @@ fn tied_and_floating(net: Network) -> (Vec<u64>, Vec<u64>) {
     (vectors.to_vec(), responses.to_vec())
 }
 
+/// Ways for row 5.
+fn net_count_ways() -> Vec<Way<Set>> {
+    vec![
+        (5, |i| i.board.network.nets = 0),
+        (5, |i| i.board.network.nets = 1),
+        (5, |i| i.board.network.nets = 49),
+        (5, |i| i.board.network.nets = 64),
+        (5, |i| i.board.network.nets = u64::MAX),
+    ]
+}
+
+/// Ways for row 21: each clause of it.
+fn receiver_ways() -> Vec<Way<Set>> {
+    vec![
+        (21, |i| i.board.owners.truncate(2)),
+        (21, |i| i.board.owners.clear()),
+        (21, |i| i.board.owners.resize(65, 0)),
+        (21, |i| *i.board.owners.first_mut().unwrap_or(&mut 0) = 3),
+        (21, |i| *i.board.owners.last_mut().unwrap_or(&mut 0) = u64::MAX),
+        (21, |i| i.board.owners.iter_mut().for_each(|owner| *owner = (*owner).min(1))),
+    ]
+}
+
+/// Ways for rows 17 and 20.
+fn level_and_gate_ways() -> Vec<Way<Set>> {
+    vec![
+        (17, |i| i.board.network.level = 2),
+        (17, |i| i.board.network.level = u64::MAX),
+        (20, |i| i.board.network.gate = 2),
+        (20, |i| i.board.network.gate = 256),
+        (20, |i| i.board.network.gate = u64::MAX),
+    ]
+}
+
 /// Ways for rows 5, 6, 17, 20, 7 and 8.
 fn set_ways() -> Vec<Way<Set>> {
-    vec![
-        (5, |i| i.net.nets = 0),
-        (5, |i| i.net.nets = 1),
-        (5, |i| i.net.nets = 49),
-        (5, |i| i.net.nets = 64),
-        (5, |i| i.net.nets = u64::MAX),
+    let others: Vec<Way<Set>> = vec![
         (6, |i| i.k = 0),
         (6, |i| i.k = 4),
         (6, |i| i.k = 49),
         (6, |i| i.k = u64::MAX),
-        (6, |i| (i.net.nets, i.k) = (2, 3)),
-        (6, |i| (i.net.nets, i.k) = (5, 4)),
-        (17, |i| i.net.level = 2),
-        (17, |i| i.net.level = u64::MAX),
-        (20, |i| i.net.gate = 2),
-        (20, |i| i.net.gate = 256),
-        (20, |i| i.net.gate = u64::MAX),
+        (6, |i| (i.board.network.nets, i.k) = (2, 3)),
+        (6, |i| (i.board, i.k) = (Network { nets: 5, ..i.board.network }.into(), 4)),
         (7, |i| (i.vectors, i.responses) = (vec![], vec![])),
         (7, |i| {
             i.vectors.resize(65, 0);
@@ -148,15 +186,16 @@ fn set_ways() -> Vec<Way<Set>> {
         (8, |i| i.vectors.iter_mut().for_each(|word| *word |= 8)),
         (8, |i| i.vectors.iter_mut().for_each(|word| *word |= HIGH)),
         (8, |i| *i.vectors.last_mut().unwrap_or(&mut 0) |= HIGH),
-    ]
+    ];
+    [net_count_ways(), level_and_gate_ways(), others].concat()
 }
 
-/// Ways for rows 9 and 10.
+/// Ways for rows 9 and 10. The lowest bit that is too high is that of the number of receivers.
 fn response_ways() -> Vec<Way<Set>> {
     vec![
         (9, |i| i.responses.truncate(3)),
         (9, |i| i.responses.push(0)),
-        (10, |i| i.responses.iter_mut().for_each(|word| *word |= 8)),
+        (10, |i| i.responses.iter_mut().for_each(|word| *word |= 1 << i.board.receivers().min(63))),
         (10, |i| *i.responses.last_mut().unwrap_or(&mut 0) |= HIGH),
     ]
 }
@@ -168,8 +207,8 @@ fn state_ways() -> Vec<Way<Set>> {
         (11, |i| i.state.push(0)),
         (11, |i| i.state[0] = 8),
         (11, |i| *i.state.last_mut().unwrap() = HIGH),
-        (11, |i| i.state = vec![1, 3, 0]),
-        (11, |i| i.state = vec![6, 0, 3]),
+        (11, |i| i.state[..2].copy_from_slice(&[1, 3])),
+        (11, |i| *i.state.last_mut().unwrap() = 6),
     ]
 }
 
@@ -177,25 +216,41 @@ fn state_ways() -> Vec<Way<Set>> {
 fn checker() {
     let table = Table { rows: &[5, 6, 17, 20, 7, 8], accepted: accepted_sets(0), ways: set_ways() };
     table.try_all(
-        |i| rows_of_check(i.net, i.k, &i.vectors).holding(),
-        |i, first| check_gives(i.net, i.k, &i.vectors, &by_rows(check(i.net, i.k, &i.vectors), first)),
+        |i| rows_of_check(i.board.network, i.k, &i.vectors).holding(),
+        |i, first| {
+            let net = i.board.network;
+            check_gives(net, i.k, &i.vectors, &by_rows(check(net, i.k, &i.vectors), first))
+        },
+    );
+}
+
+#[test]
+fn own_receivers_of_a_network() {
+    let room: Vec<Way<Set>> = vec![(12, |i| i.room = 2), (12, |i| i.room = 0)];
+    let table = Table { rows: &[5, 12], accepted: accepted_sets(3), ways: [net_count_ways(), room].concat() };
+    table.try_all(
+        |i| rows_of_own_receivers(i.board.network.nets, i.room).holding(),
+        |i, first| {
+            let n = i.board.network.nets;
+            own_receivers_gives(n, i.room, &by_rows(own_receivers(n, i.room), first))
+        },
     );
 }
 
 #[test]
 fn response_from_a_state() {
-    let more_drivers: Way<Set> = (11, |i| (i.k, i.state) = (1, vec![3, 3, 0]));
+    let more_drivers: Way<Set> = (11, |i| (i.k, i.state[0], i.state[1]) = (1, 3, 3));
     let room: Vec<Way<Set>> = vec![(12, |i| i.room = 3), (12, |i| i.room = 0)];
     let table = Table {
-        rows: &[5, 6, 17, 20, 7, 8, 11, 12],
-        accepted: accepted_sets(4),
-        ways: [set_ways(), state_ways(), vec![more_drivers], room].concat(),
+        rows: &[5, 21, 6, 17, 20, 7, 8, 11, 12],
+        accepted: accepted_boards(4),
+        ways: [set_ways(), receiver_ways(), state_ways(), vec![more_drivers], room].concat(),
     };
     table.try_all(
-        |i| rows_of_respond(i.net, i.k, &i.vectors, &i.state, i.room).holding(),
+        |i| rows_of_respond(&i.board, i.k, &i.vectors, &i.state, i.room).holding(),
         |i, first| {
-            let answer = by_rows(respond(i.net, i.k, &i.vectors, &i.state, i.room), first);
-            respond_gives(i.net, i.k, &i.vectors, &i.state, i.room, &answer)
+            let answer = by_rows(respond(&i.board, i.k, &i.vectors, &i.state, i.room), first);
+            respond_gives(&i.board, i.k, &i.vectors, &i.state, i.room, &answer)
         },
     );
 }
@@ -203,12 +258,12 @@ fn response_from_a_state() {
 #[test]
 fn diagnosis() {
     let own: Vec<Way<Set>> = vec![
-        (12, |i| i.room = 2),
+        (12, |i| i.room = i.board.receivers().saturating_sub(1)),
         (12, |i| i.room = 0),
         // Without a walking vector, and without the extra vector or, where there is none, without another walking one.
-        (13, |i| i.vectors = if i.net.gate == OR { vec![0, 1, 2, 2] } else { vec![7, 6, 5, 5] }),
+        (13, |i| i.vectors = if i.board.network.gate == OR { vec![0, 1, 2, 2] } else { vec![7, 6, 5, 5] }),
         (13, |i| {
-            i.vectors = match (i.net.gate, i.net.level) {
+            i.vectors = match (i.board.network.gate, i.board.network.level) {
                 (OR, 1) => vec![1, 1, 2, 4],
                 (OR, _) => vec![1, 1, 4, 4],
                 (_, 0) => vec![6, 6, 5, 3],
@@ -224,15 +279,15 @@ fn diagnosis() {
         (14, |i| *i.responses.get_mut(0).unwrap_or(&mut 0) ^= 4),
     ];
     let table = Table {
-        rows: &[5, 6, 17, 20, 7, 8, 9, 10, 12, 13, 14],
-        accepted: accepted_sets(4),
-        ways: [set_ways(), response_ways(), own].concat(),
+        rows: &[5, 21, 6, 17, 20, 7, 8, 9, 10, 12, 13, 14],
+        accepted: accepted_boards(4),
+        ways: [set_ways(), receiver_ways(), response_ways(), own].concat(),
     };
     table.try_all(
-        |i| rows_of_diagnose(i.net, i.k, &i.vectors, &i.responses, i.room).holding(),
+        |i| rows_of_diagnose(&i.board, i.k, &i.vectors, &i.responses, i.room).holding(),
         |i, first| {
-            let answer = by_rows(diagnose(i.net, i.k, &i.vectors, &i.responses, i.room), first);
-            diagnose_gives(i.net, i.k, &i.vectors, &i.responses, i.room, &answer)
+            let answer = by_rows(diagnose(&i.board, i.k, &i.vectors, &i.responses, i.room), first);
+            diagnose_gives(&i.board, i.k, &i.vectors, &i.responses, i.room, &answer)
         },
     );
 }
@@ -240,26 +295,18 @@ fn diagnosis() {
 /// The room of the findings is counted in words, three a record.
 #[test]
 fn findings_of_a_state() {
-    let mut ways = state_ways();
-    ways.extend::<[Way<Set>; 11]>([
-        (5, |i| i.net.nets = 1),
-        (5, |i| i.net.nets = 49),
-        (5, |i| i.net.nets = u64::MAX),
-        (17, |i| i.net.level = 2),
-        (17, |i| i.net.level = u64::MAX),
-        (20, |i| i.net.gate = 2),
-        (20, |i| i.net.gate = 256),
-        (20, |i| i.net.gate = u64::MAX),
-        (12, |i| i.room = 8),
-        (12, |i| i.room = 1),
-        (12, |i| i.room = 0),
-    ]);
-    let table = Table { rows: &[5, 17, 20, 11, 12], accepted: accepted_sets(10), ways };
+    let room: Vec<Way<Set>> =
+        vec![(12, |i| i.room = 3 * i.state.len() - 1), (12, |i| i.room = 1), (12, |i| i.room = 0)];
+    let table = Table {
+        rows: &[5, 21, 17, 20, 11, 12],
+        accepted: accepted_boards(13),
+        ways: [net_count_ways(), receiver_ways(), level_and_gate_ways(), state_ways(), room].concat(),
+    };
     table.try_all(
-        |i| rows_of_findings(i.net, &i.state, i.room / 3).holding(),
+        |i| rows_of_findings(&i.board, &i.state, i.room / 3).holding(),
         |i, first| {
-            let answer = by_rows(findings(i.net, &i.state, i.room / 3), first);
-            findings_gives(i.net, &i.state, i.room, &answer)
+            let answer = by_rows(findings(&i.board, &i.state, i.room / 3), first);
+            findings_gives(&i.board, &i.state, i.room, &answer)
         },
     );
 }
@@ -274,10 +321,11 @@ fn job_writer() {
         ways: [set_ways(), response_ways(), room].concat(),
     };
     table.try_all(
-        |i| rows_of_write_job(i.net, i.k, &i.vectors, &i.responses, i.room).holding(),
+        |i| rows_of_write_job(i.board.network, i.k, &i.vectors, &i.responses, i.room).holding(),
         |i, first| {
-            let answer = by_rows(write_job(i.net, i.k, &i.vectors, &i.responses, i.room), first);
-            write_job_gives(i.net, i.k, &i.vectors, &i.responses, i.room, &answer)
+            let net = i.board.network;
+            let answer = by_rows(write_job(net, i.k, &i.vectors, &i.responses, i.room), first);
+            write_job_gives(net, i.k, &i.vectors, &i.responses, i.room, &answer)
         },
     );
 }
@@ -311,8 +359,8 @@ fn words(list: &[u64]) -> Vec<u8> {
     list.iter().flat_map(|word| word.to_le_bytes()).collect()
 }
 
-fn accepted_parts() -> [Parts; 4] {
-    each_combination(3).map(|net| {
+fn accepted_parts() -> Vec<Parts> {
+    let accepted = |net: Network| {
         let (vectors, responses) = tied_and_floating(net);
         Parts {
             mark: b"BSJ3".to_vec(),
@@ -323,7 +371,8 @@ fn accepted_parts() -> [Parts; 4] {
             rest: vec![],
             rooms: (4, 4),
         }
-    })
+    };
+    each_combination(3).map(accepted).to_vec()
 }
 
 /// Ways for rows 1, 2 and 3.
@@ -394,7 +443,7 @@ fn job_reader() {
 #[derive(Clone)]
 struct Step {
     record: Record,
-    net: Network,
+    board: Board,
     answers: Vec<u64>,
     room: usize,
 }
@@ -404,38 +453,51 @@ fn make(step: &Step, call: Call, first: Option<u64>) {
     session_call_gives(&step.record.words(), &call, &answer);
 }
 
-fn begun(net: Network) -> Record {
-    model::begin(net, 4).unwrap().0
+fn begun(board: &Board) -> Record {
+    model::begin(board, 4).unwrap().0
+}
+
+/// Four nets with one receiver each, and with a second one on nets 3 and 2.
+fn boards_of_four_nets() -> Vec<Board> {
+    let with_more = |network: Network| Board { network, owners: vec![0, 1, 2, 3, 3, 2] };
+    each_combination(4).into_iter().flat_map(|net| [net.into(), with_more(net)]).collect()
 }
 
 #[test]
 fn begin() {
     let ways: Vec<Way<Step>> = vec![
-        (5, |i| i.net.nets = 0),
-        (5, |i| i.net.nets = 1),
-        (5, |i| i.net.nets = 49),
-        (5, |i| i.net.nets = u64::MAX),
-        (17, |i| i.net.level = 2),
-        (17, |i| i.net.level = u64::MAX),
-        (20, |i| i.net.gate = 2),
-        (20, |i| i.net.gate = 256),
-        (20, |i| i.net.gate = u64::MAX),
+        (5, |i| i.board.network.nets = 0),
+        (5, |i| i.board.network.nets = 1),
+        (5, |i| i.board.network.nets = 49),
+        (5, |i| i.board.network.nets = u64::MAX),
+        (21, |i| i.board.owners.truncate(3)),
+        (21, |i| i.board.owners.clear()),
+        (21, |i| i.board.owners.resize(65, 0)),
+        (21, |i| *i.board.owners.first_mut().unwrap_or(&mut 0) = 4),
+        (21, |i| *i.board.owners.last_mut().unwrap_or(&mut 0) = u64::MAX),
+        (21, |i| i.board.owners.iter_mut().for_each(|owner| *owner = (*owner).min(2))),
+        (17, |i| i.board.network.level = 2),
+        (17, |i| i.board.network.level = u64::MAX),
+        (20, |i| i.board.network.gate = 2),
+        (20, |i| i.board.network.gate = 256),
+        (20, |i| i.board.network.gate = u64::MAX),
         (12, |i| i.room = 3),
         (12, |i| i.room = 0),
     ];
-    let accepted = each_combination(4).map(|net| {
-        let junk = Record { spent: 77, ..begun(net) };
-        Step { record: junk, net, answers: vec![], room: 4 }
-    });
-    let table = Table { rows: &[5, 17, 20, 12], accepted, ways };
+    let accepted = |board: Board| {
+        let junk = Record { spent: 77, ..begun(&board) };
+        Step { record: junk, board, answers: vec![], room: 4 }
+    };
+    let accepted = boards_of_four_nets().into_iter().map(accepted).collect();
+    let table = Table { rows: &[5, 21, 17, 20, 12], accepted, ways };
     table.try_all(
-        |i| rows_of_begin(i.net, i.room).holding(),
-        |i, first| make(i, Call::Begin { net: i.net, room: i.room }, first),
+        |i| rows_of_begin(&i.board, i.room).holding(),
+        |i, first| make(i, Call::Begin { board: i.board.clone(), room: i.room }, first),
     );
 }
 
 /// Four nets: 0 and 1 tied, 2 floating, 3 sound. What they answer to step one and to step two.
-fn answers(net: Network) -> [Vec<u64>; 2] {
+fn answers_of_nets(net: Network) -> [Vec<u64>; 2] {
     match (net.gate, net.level) {
         (OR, 0) => [vec![11, 3, 3, 8], vec![3, 3, 0]],
         (OR, _) => [vec![15, 7, 7, 12], vec![4, 7, 7, 4]],
@@ -444,7 +506,13 @@ fn answers(net: Network) -> [Vec<u64>; 2] {
     }
 }
 
-/// Ways for row 4: each unused field, the net count, the level and the gate.
+/// The same with the receivers of the board: the second of a net reads what the first one does.
+fn answers(board: &Board) -> [Vec<u64>; 2] {
+    let with_seconds = |word: u64| board.owners.iter().enumerate().map(|(r, net)| (word >> net & 1) << r).sum();
+    answers_of_nets(board.network).map(|words| words.into_iter().map(with_seconds).collect())
+}
+
+/// Ways for row 4: each unused field, the net count, the level, the gate and the receivers.
 fn record_ways() -> Vec<Way<Step>> {
     vec![
         (4, |i| i.record.step = 0),
@@ -452,7 +520,7 @@ fn record_ways() -> Vec<Way<Step>> {
         (4, |i| i.record.step ^= 3),
         (4, |i| i.record.spent = 1),
         (4, |i| i.record.reaches[0] = 1),
-        (4, |i| i.record.reaches[47] = 1),
+        (4, |i| i.record.reaches[63] = 1),
         (4, |i| i.record.answers[7] = 1),
         (4, |i| i.record.network.nets = 1),
         (4, |i| i.record.network.nets = 49),
@@ -461,16 +529,26 @@ fn record_ways() -> Vec<Way<Step>> {
         (4, |i| i.record.network.gate = 2),
         (4, |i| i.record.network.gate = 256),
         (4, |i| i.record.network.gate = u64::MAX),
+        (4, |i| i.record.receivers = 0),
+        (4, |i| i.record.receivers = 3),
+        (4, |i| i.record.receivers = 65),
+        (4, |i| i.record.receivers = u64::MAX),
+        (4, |i| i.record.owners[1] = 4),
+        (4, |i| i.record.owners[1] = u64::MAX),
+        (4, |i| i.record.owners[1] = 0),
+        (4, |i| i.record.owners[i.board.receivers()] = 1),
+        (4, |i| i.record.owners[63] = 1),
+        (4, |i| i.record.owners.fill(0)),
     ]
 }
 
-/// Ways for rows 9 and 10.
+/// Ways for rows 9 and 10. The lowest bit that is too high is that of the number of receivers.
 fn answer_ways() -> Vec<Way<Step>> {
     vec![
         (9, |i| _ = i.answers.pop()),
         (9, |i| i.answers.push(0)),
         (9, |i| i.answers.clear()),
-        (10, |i| *i.answers.get_mut(0).unwrap_or(&mut 0) |= 16),
+        (10, |i| *i.answers.get_mut(0).unwrap_or(&mut 0) |= 1 << i.board.receivers()),
         (10, |i| *i.answers.last_mut().unwrap_or(&mut 0) |= HIGH),
     ]
 }
@@ -478,10 +556,11 @@ fn answer_ways() -> Vec<Way<Step>> {
 #[test]
 fn first_answers() {
     let room: Vec<Way<Step>> = vec![(12, |i| i.room = i.room.saturating_sub(1)), (12, |i| i.room = 0)];
-    let accepted = each_combination(4).map(|net| {
-        let [first, second] = answers(net);
-        Step { record: begun(net), net, answers: first, room: second.len() }
-    });
+    let accepted = |board: Board| {
+        let [first, second] = answers(&board);
+        Step { record: begun(&board), board, answers: first, room: second.len() }
+    };
+    let accepted = boards_of_four_nets().into_iter().map(accepted).collect();
     let table = Table { rows: &[4, 9, 10, 12], accepted, ways: [record_ways(), answer_ways(), room].concat() };
     table.try_all(
         |i| rows_of_first_answers(&i.record, &i.answers, i.room).holding(),
@@ -498,11 +577,12 @@ fn second_answers() {
         (14, |i| *i.answers.get_mut(1).unwrap_or(&mut 0) ^= 2),
         (14, |i| i.record.answers[3] = 4),
     ];
-    let accepted = each_combination(4).map(|net| {
-        let [first, second] = answers(net);
-        let record = model::first_answers(&begun(net), &first, 4).unwrap().0;
-        Step { record, net, answers: second, room: 0 }
-    });
+    let accepted = |board: Board| {
+        let [first, second] = answers(&board);
+        let record = model::first_answers(&begun(&board), &first, 4).unwrap().0;
+        Step { record, board, answers: second, room: 0 }
+    };
+    let accepted = boards_of_four_nets().into_iter().map(accepted).collect();
     let table = Table { rows: &[4, 9, 10, 14], accepted, ways: [record_ways(), answer_ways(), unfit].concat() };
     table.try_all(
         |i| rows_of_second_answers(&i.record, &i.answers).holding(),
@@ -527,8 +607,8 @@ fn made(record: &Record, call: Call, expected: Result<&[u64], u64>) -> Record {
 /// A record whose gate is changed is another session's: it is accepted, and goes on with the gate that it now has.
 #[test]
 fn records_with_the_other_gate() {
-    let begun_with_and = begun(Network { nets: 4, level: 1, gate: AND });
-    let begun_with_or = begun(Network { nets: 4, level: 1, gate: OR });
+    let begun_with_and = begun(&Network { nets: 4, level: 1, gate: AND }.into());
+    let begun_with_or = begun(&Network { nets: 4, level: 1, gate: OR }.into());
     assert_eq!(with_other_gate(&begun_with_and), begun_with_or);
     let floating = Call::First { answers: vec![15; 4], room: 5 };
     let with_and = made(&begun_with_and, floating.clone(), Ok(&[14, 13, 11, 7]));
@@ -539,18 +619,60 @@ fn records_with_the_other_gate() {
             made(&record, Call::Second { answers: vec![15; wrong] }, Err(9));
         }
         let finished = made(&record, Call::Second { answers: vec![15; count] }, Ok(&[]));
-        assert_eq!((finished.reaches, finished.spent), ([0; 48], 4 + count as u64));
+        assert_eq!((finished.reaches, finished.spent), ([0; 64], 4 + count as u64));
     }
 }
 
 /// First answers of tied nets with AND, which with OR no state gives: the changed record waits, and no answers fit it.
 #[test]
 fn first_answers_of_the_other_gate() {
-    let begun = begun(Network { nets: 4, level: 0, gate: AND });
-    let [first, second] = answers(begun.network);
+    let begun = begun(&Network { nets: 4, level: 0, gate: AND }.into());
+    let [first, second] = answers_of_nets(begun.network);
     let waiting = made(&begun, Call::First { answers: first, room: 4 }, Ok(&[15, 14, 13, 11]));
     made(&waiting, Call::Second { answers: second.clone() }, Ok(&[]));
     let changed = with_other_gate(&waiting);
     made(&changed, Call::Second { answers: second }, Err(9));
     made(&changed, Call::Second { answers: vec![3, 3, 0] }, Err(14));
+}
+
+/// A record whose receivers are changed is another session's too: it goes on with those that it now has. Receivers 1
+/// and 2 are on net 1; with receiver 2 on net 0 in place of that, its word of net 1 makes both nets unclear.
+#[test]
+fn records_with_other_receivers() {
+    let network = Network { nets: 2, level: 1, gate: OR };
+    let board = |owners: &[u64]| Board { network, owners: owners.to_vec() };
+    let (one_way, other_way) = (begun(&board(&[0, 1, 1])), begun(&board(&[0, 1, 0])));
+    let mut changed = one_way.clone();
+    changed.owners[2] = 0;
+    assert_eq!(changed, other_way);
+
+    let sound = Call::First { answers: vec![1, 6], room: 3 };
+    let finished = made(&one_way, sound.clone(), Ok(&[]));
+    assert_eq!((&finished.reaches[..4], finished.spent), (&[1, 2, 2, 0][..], 2));
+    let waiting = made(&changed, sound, Ok(&[0, 1, 2]));
+    let found = made(&waiting, Call::Second { answers: vec![0, 1, 6] }, Ok(&[]));
+    assert_eq!((&found.reaches[..4], found.spent), (&[1, 2, 2, 0][..], 5));
+
+    // With the first receivers again it holds answers that leave no net unclear, and no call leaves it so.
+    let mut back = waiting.clone();
+    back.owners[2] = 1;
+    made(&back, Call::Second { answers: vec![0, 1, 6] }, Err(4));
+}
+
+/// The number of receivers changed: one more is on net 0, since what is unused is 0; one fewer leaves an owner unused
+/// that is not 0.
+#[test]
+fn records_with_another_number_of_receivers() {
+    let network = Network { nets: 2, level: 1, gate: OR };
+    let begun = begun(&Board { network, owners: vec![0, 1, 1] });
+    let with = |receivers: u64| Record { receivers, ..begun.clone() };
+    let answers = |words: [u64; 2]| Call::First { answers: words.to_vec(), room: 3 };
+    made(&with(2), answers([1, 2]), Err(4));
+    made(&with(3), answers([1 + 8, 6]), Err(10));
+    let finished = made(&with(4), answers([1 + 8, 6]), Ok(&[]));
+    assert_eq!(finished.reaches[..5], [1, 2, 2, 1, 0]);
+    let all = u64::MAX;
+    let finished = made(&with(64), answers([all - 6, 6]), Ok(&[]));
+    assert_eq!((&finished.reaches[..4], finished.reaches[63]), (&[1, 2, 2, 1][..], 1));
+    made(&with(65), answers([all - 6, 6]), Err(4));
 }

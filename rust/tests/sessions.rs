@@ -1,103 +1,40 @@
-//! Sessions of each gate and soft level: every list of a few calls on two nets, every state of up to four, damaged
-//! records and damaged answers.
+//! Sessions of each gate and soft level: every list of a few calls on two nets with one receiver each, every state of
+//! up to four, random boards with one receiver a net and with more, damaged records and damaged answers.
 
 mod support;
 
 use model::network::{all_lists, all_states, extra_vector, response, walking_vector};
-use model::session::{finished, left_waiting, FINISHED, FIRST, SECOND, WORDS};
-use model::{Network, Record, AND, OR};
-use std::collections::HashMap;
-use std::rc::Rc;
+use model::session::{left_waiting, FIRST, SECOND, WORDS};
+use model::{Board, Network, Record, AND};
 use support::boards;
 use support::generator::Generator;
 use support::networks::each_combination;
 use support::session::*;
-
-/// The most words that a call of the walk is lent.
-const LIST: usize = 6;
-/// What such a list holds before a call.
-const FILLING: [u64; LIST] = [71, 72, 73, 74, 75, 76];
-
-/// A call with what it must leave: number, record and list.
-struct Expected {
-    number: u64,
-    record: [u64; WORDS],
-    list: [u64; LIST],
-}
-
-fn expected(record: &Record, call: &Call) -> Expected {
-    let mut list = FILLING;
-    match call.answer(record) {
-        Err(number) => Expected { number, record: record.words(), list },
-        Ok((left, written)) => {
-            list[..written.len()].copy_from_slice(&written);
-            Expected { number: 0, record: left.words(), list }
-        }
-    }
-}
-
-/// A walk along every list of calls. What the model says of a record is worked out once.
-struct Walk {
-    calls: Vec<Call>,
-    known: HashMap<[u64; WORDS], Rc<Vec<Expected>>>,
-    made: usize,
-    accepted: usize,
-}
-
-impl Walk {
-    fn of(calls: Vec<Call>) -> Walk {
-        Walk { calls, known: HashMap::new(), made: 0, accepted: 0 }
-    }
-
-    fn expected(&mut self, words: &[u64; WORDS]) -> Rc<Vec<Expected>> {
-        if let Some(known) = self.known.get(words) {
-            return known.clone();
-        }
-        part_to_drive_agrees(words);
-        let record = Record::from_words(words);
-        let all = Rc::new(self.calls.iter().map(|call| expected(&record, call)).collect::<Vec<_>>());
-        self.known.insert(*words, all.clone());
-        all
-    }
-
-    /// Every list of `depth` calls from this record. Each call gets the record as the library left it.
-    fn from(&mut self, record: &[u64; WORDS], depth: usize) {
-        let all = self.expected(record);
-        for (i, expected) in all.iter().enumerate() {
-            let (mut left, mut list) = (*record, FILLING);
-            let room = self.calls[i].room();
-            let number = self.calls[i].make(&mut left, &mut list[..room]);
-            let agrees = number == expected.number && left == expected.record && list == expected.list;
-            assert!(agrees, "{record:?}\n{:?}\ngave {number} {left:?} {list:?}", self.calls[i]);
-            self.made += 1;
-            self.accepted += usize::from(number == 0);
-            if depth > 1 {
-                self.from(&left, depth - 1);
-            }
-        }
-    }
-}
+use support::walk::walk;
 
 /// The network at the other soft level, and with the other gate.
 fn others(net: Network) -> [Network; 2] {
     [Network { level: 1 - net.level, ..net }, Network { gate: 1 - net.gate, ..net }]
 }
 
-/// Begins: accepted with room to spare, and exact at the other level and with the other gate, and refused by 12, 5, 17
-/// and 20.
+/// Begins: accepted with room to spare, and exact at the other level, with the other gate and with the receivers in the
+/// other order, and refused by 12, 5, 17, 20 and 21.
 fn begins(net: Network) -> Vec<Call> {
     let [other_level, other_gate] = others(net);
+    let with = |owners: &[u64]| Board { network: net, owners: owners.to_vec() };
     let calls = [
-        (net, 3),
-        (other_level, 2),
-        (other_gate, 2),
-        (net, 1),
-        (Network { nets: 1, ..net }, 3),
-        (Network { nets: 49, ..net }, 6),
-        (Network { level: 2, ..net }, 3),
-        (Network { gate: 2, ..net }, 3),
+        (net.into(), 3),
+        (other_level.into(), 2),
+        (other_gate.into(), 2),
+        (with(&[1, 0]), 2),
+        (net.into(), 1),
+        (Network { nets: 1, ..net }.into(), 3),
+        (Network { nets: 49, ..net }.into(), 6),
+        (Network { level: 2, ..net }.into(), 3),
+        (Network { gate: 2, ..net }.into(), 3),
+        (with(&[0, 0]), 3),
     ];
-    calls.map(|(net, room)| Call::Begin { net, room }).to_vec()
+    calls.map(|(board, room)| Call::Begin { board, room }).to_vec()
 }
 
 /// The most vectors of step two on two nets.
@@ -127,7 +64,7 @@ fn firsts(net: Network) -> Vec<Call> {
 /// Second answers that some state gives after some first answers, which leave both nets unclear or one.
 fn right_seconds(net: Network) -> Vec<Vec<u64>> {
     let mut lists: Vec<Vec<u64>> = Vec::new();
-    for state in all_states(2, 2) {
+    for state in all_states(2, 2, 2) {
         for unclear in [[0, 1].as_slice(), &[0], &[1]] {
             let walking = unclear.iter().map(|i| walking_vector(net, *i));
             let second: Vec<u64> = extra_vector(net).into_iter().chain(walking).collect();
@@ -152,7 +89,7 @@ fn seconds(lists: Vec<Vec<u64>>) -> Vec<Call> {
 
 /// The records that a session on two tied nets leaves: begun, waiting for second answers, finished.
 fn records_of_tied_nets(net: Network) -> [Record; 3] {
-    let (begun, first) = model::begin(net, 2).unwrap();
+    let (begun, first) = model::begin(&net.into(), 2).unwrap();
     let (waiting, second) = model::first_answers(&begun, &response(net, &first, &[3, 3]), 3).unwrap();
     let finished = model::second_answers(&waiting, &response(net, &second, &[3, 3])).unwrap();
     [begun, waiting, finished]
@@ -185,21 +122,11 @@ fn starting_records(net: Network) -> Vec<[u64; WORDS]> {
     ]
 }
 
-/// Walks from each record, and gives the number of calls made and accepted.
-fn walk(calls: Vec<Call>, depth: usize, records: &[[u64; WORDS]]) -> (usize, usize) {
-    let mut walk = Walk::of(calls);
-    records.iter().for_each(|record| walk.from(record, depth));
-    (walk.made, walk.accepted)
-}
-
 #[test]
 fn every_list_of_4_calls_on_2_nets() {
     for net in each_combination(2) {
         let calls = [begins(net), firsts(net), seconds(right_seconds(net)), seconds(odd_seconds(net))].concat();
-        let alphabet = calls.len();
-        let (made, accepted) = walk(calls, 4, &starting_records(net)[..2]);
-        println!("{net:?}, lists of up to 4 of {alphabet} calls: {made} calls, {accepted} accepted");
-        assert!(accepted > 0 && accepted < made);
+        walk(calls, 4, &starting_records(net)[..1], &net);
     }
 }
 
@@ -210,53 +137,16 @@ fn every_list_of_3_calls_on_2_nets() {
         let most = most_seconds(net);
         let every_second = [all_lists(4, most - 1), all_lists(4, most), odd_seconds(net)].concat();
         let calls = [begins(net), firsts(net), seconds(every_second)].concat();
-        let alphabet = calls.len();
-        let (made, accepted) = walk(calls, 3, &starting_records(net));
-        println!("{net:?}, lists of up to 3 of {alphabet} calls: {made} calls, {accepted} accepted");
-        assert!(accepted > 0 && accepted < made);
+        walk(calls, 3, &starting_records(net), &net);
     }
-}
-
-/// A session with these answers to step one and two, each call compared with the model. Gives the last record.
-fn run(net: Network, answer_first: &[u64], answer_second: impl FnOnce(&[u64]) -> Vec<u64>) -> Result<Record, u64> {
-    let mut record = [0xBAD; WORDS];
-    let mut make = |call: Call| -> Result<Left, u64> {
-        let answer = call.answer(&Record::from_words(&record));
-        session_call_gives(&record, &call, &answer);
-        let (left, written) = answer?;
-        record = left.words();
-        part_to_drive_agrees(&record);
-        Ok((left, written))
-    };
-    make(Call::Begin { net, room: 9 })?;
-    let (left, second) = make(Call::First { answers: answer_first.to_vec(), room: 50 })?;
-    if left.step == FINISHED {
-        return Ok(left);
-    }
-    Ok(make(Call::Second { answers: answer_second(&second) })?.0)
-}
-
-/// A board that stays the same through both steps is the one reported. With p vectors spent if all nets are clear; else
-/// with p + F + 1 for OR at level 1 and AND at level 0, and p + F for the other two.
-fn assert_reported(net: Network, state: &[u64]) {
-    let first = model::session::first_vectors(net.nets);
-    let answers = response(net, &first, state);
-    let unclear = model::session::unclear_nets(net.nets, &answers).len();
-    let record = run(net, &answers, |second| response(net, second, state)).expect("a state is never refused");
-    let spent = match (unclear, net.gate, net.level) {
-        (0, _, _) => first.len(),
-        (_, OR, 1) | (_, AND, 0) => first.len() + unclear + 1,
-        _ => first.len() + unclear,
-    };
-    assert_eq!(record, finished(net, state, spent), "{net:?} {state:?}");
 }
 
 #[test]
 fn every_state_of_up_to_4_nets_is_reported() {
     let mut boards = 0;
     for net in (2..=4).flat_map(each_combination) {
-        for state in all_states(net.nets, net.nets) {
-            assert_reported(net, &state);
+        for state in all_states(net.nets, net.nets as usize, net.nets) {
+            assert_reported(&net.into(), &state);
             boards += 1;
         }
     }
@@ -268,39 +158,53 @@ fn every_state_of_up_to_4_nets_is_reported() {
 fn random_boards_of_2_to_48_nets_are_reported() {
     let g = &mut Generator::new(48);
     for case in 0..705 {
-        let n = 2 + case % 47;
-        let board = boards::state(g, n, n);
-        each_combination(n).iter().for_each(|net| assert_reported(*net, &board));
-    }
-    for net in (2..=48).flat_map(each_combination) {
-        assert_reported(net, &(0..net.nets).map(|i| 1 << i).collect::<Vec<_>>());
+        for net in each_combination(2 + case % 47) {
+            for board in [net.into(), boards::with_some_receivers(g, net)] {
+                assert_reported(&board, &boards::state(g, &board, net.nets));
+            }
+        }
     }
 }
 
-/// A session over a random board with a bit turned in the first step, in the second, in both, or with any words.
-fn run_damaged(g: &mut Generator, net: Network, case: usize) -> Result<Record, u64> {
-    let n = net.nets;
-    let state = boards::state(g, n, n);
-    let mut first = response(net, &model::session::first_vectors(n), &state);
-    if case.is_multiple_of(2) {
-        first = g.one_bit_turned(&first, n);
+/// Each receiver is reached by its own net's driver: no net is unclear.
+#[test]
+fn sound_boards_of_2_to_48_nets_are_reported() {
+    let g = &mut Generator::new(49);
+    for net in (2..=48).flat_map(each_combination) {
+        for board in [net.into(), boards::with_some_receivers(g, net)] {
+            assert_reported(&board, &board.owners.iter().map(|owner| 1 << owner).collect::<Vec<_>>());
+        }
     }
-    run(net, &first, |second| match case % 5 {
-        0 => second.iter().map(|_| g.word() & boards::low_bits(n)).collect(),
-        1 | 2 => g.one_bit_turned(&response(net, second, &state), n),
+}
+
+/// A session over a random state with a bit turned in the first step, in the second, in both, or with any words.
+fn run_damaged(g: &mut Generator, board: &Board, case: usize) -> Result<Record, u64> {
+    let (net, m) = (board.network, board.receivers());
+    let state = boards::state(g, board, net.nets);
+    let mut first = response(net, &model::session::first_vectors(net.nets), &state);
+    if case.is_multiple_of(2) {
+        first = g.one_bit_turned(&first, m);
+    }
+    run(board, &first, |second| match case % 5 {
+        0 => second.iter().map(|_| g.word() & boards::low_bits(m as u64)).collect(),
+        1 | 2 => g.one_bit_turned(&response(net, second, &state), m),
         _ => response(net, second, &state),
     })
 }
 
+/// As many cases with one receiver a net as with more.
 #[test]
 fn damaged_answers() {
     let g = &mut Generator::new(14);
     for of_two_nets in each_combination(2) {
         let (mut cases, mut unfit) = (0, 0);
         for nets in [3, 4, 5, 6, 9, 17, 33, 48] {
-            cases += 200;
-            let outcomes = (0..200).map(|case| run_damaged(g, Network { nets, ..of_two_nets }, case));
-            unfit += outcomes.filter(|outcome| *outcome == Err(14)).count();
+            let net = Network { nets, ..of_two_nets };
+            for case in 0..200 {
+                let board = if case < 100 { net.into() } else { boards::with_some_receivers(g, net) };
+                unfit += usize::from(run_damaged(g, &board, case) == Err(14));
+                cases += 1;
+            }
         }
         let Network { gate, level, .. } = of_two_nets;
         println!("gate {gate}, level {level}, sessions with damaged answers: {cases}, refused with 14: {unfit}");
@@ -308,25 +212,50 @@ fn damaged_answers() {
     }
 }
 
-/// Records left by calls, on few and many nets, with answers that suit each.
-fn left_records() -> Vec<(Record, Vec<u64>, Vec<u64>)> {
-    let mut records = Vec::new();
-    for net in [2, 3, 4, 6, 7, 10, 48].into_iter().flat_map(each_combination) {
-        let (begun, first) = model::begin(net, 8).unwrap();
-        let mut state: Vec<u64> = (0..net.nets).map(|i| 1 << i).collect();
-        state[0] = 0;
-        let answers = response(net, &first, &state);
-        let (waiting, second) = model::first_answers(&begun, &answers, 49).unwrap();
-        let answers_2 = response(net, &second, &state);
-        let done = model::second_answers(&waiting, &answers_2).unwrap();
-        records.extend([begun, waiting, done].map(|record| (record, answers.clone(), answers_2.clone())));
-    }
-    records
+/// Boards of few and many nets, with one receiver a net and with more.
+fn some_boards() -> Vec<Board> {
+    let g = &mut Generator::new(8);
+    let own = [2, 4, 7, 48].into_iter().flat_map(each_combination).map(Board::from);
+    let more = [(2, 3), (6, 9), (10, 64), (48, 64)].map(|(n, m)| each_combination(n).map(|net| (net, m)));
+    let more = more.into_iter().flatten().map(|(net, m)| boards::with_receivers(g, net, m));
+    own.chain(more).collect()
 }
 
-/// Numbers that a step, a net count, a level, a gate or a word may be mistaken for, and the neighbours of the old one.
-fn values_near(old: u64) -> [u64; 17] {
-    [0, 1, 2, 3, 4, 5, 47, 48, 49, 60, 71, old ^ 1, old ^ 2, old.wrapping_add(1), 1 << 47, 1 << 63, u64::MAX]
+/// Records left by calls on a board whose receiver 0 floats, with answers that suit each.
+fn left_records(board: &Board) -> [(Record, Vec<u64>, Vec<u64>); 3] {
+    let net = board.network;
+    let (begun, first) = model::begin(board, 8).unwrap();
+    let mut state: Vec<u64> = board.owners.iter().map(|owner| 1 << owner).collect();
+    state[0] = 0;
+    let answers = response(net, &first, &state);
+    let (waiting, second) = model::first_answers(&begun, &answers, 49).unwrap();
+    let answers_2 = response(net, &second, &state);
+    let done = model::second_answers(&waiting, &answers_2).unwrap();
+    [begun, waiting, done].map(|record| (record, answers.clone(), answers_2.clone()))
+}
+
+/// Numbers that a step, a net count, a level, a gate, a number of receivers, an owner or a word may be mistaken for,
+/// and the neighbours of the old one.
+fn values_near(old: u64) -> Vec<u64> {
+    let neighbours = [old ^ 1, old ^ 2, old.wrapping_add(1), old.wrapping_sub(1)];
+    let others = [0, 1, 2, 3, 4, 5, 47, 48, 49, 63, 64, 65, 1 << 47, 1 << 63, u64::MAX];
+    [&neighbours[..], &others].concat()
+}
+
+/// The record with this number in one of its words: each call and the part to drive agree with the model. Says whether
+/// the record is at step 1 or 2 and left by no calls.
+fn try_changed(words: &[u64; WORDS], place: usize, new: u64, first: &[u64], second: &[u64]) -> bool {
+    let mut changed = *words;
+    changed[place] = new;
+    let record = Record::from_words(&changed);
+    let calls = [
+        Call::Begin { board: Network { nets: 3, level: 0, gate: AND }.into(), room: 4 },
+        Call::First { answers: first.to_vec(), room: 49 },
+        Call::Second { answers: second.to_vec() },
+    ];
+    calls.iter().for_each(|call| session_call_gives(&changed, call, &call.answer(&record)));
+    part_to_drive_agrees(&changed);
+    matches!(record.step, FIRST | SECOND) && !left_waiting(&record)
 }
 
 /// Row 4 is exact: a record that differs in any word from one left by calls is left by other calls, or turned away.
@@ -334,26 +263,15 @@ fn values_near(old: u64) -> [u64; 17] {
 fn records_with_any_word_changed() {
     let mut turned_away = 0;
     let mut cases = 0;
-    for (record, first, second) in left_records() {
+    for (record, first, second) in some_boards().iter().flat_map(left_records) {
         let words = record.words();
         for place in 0..WORDS {
-            let old = words[place];
-            for new in values_near(old) {
-                let mut changed = words;
-                changed[place] = new;
-                let record = Record::from_words(&changed);
-                let calls = [
-                    Call::Begin { net: Network { nets: 3, level: 0, gate: AND }, room: 4 },
-                    Call::First { answers: first.clone(), room: 49 },
-                    Call::Second { answers: second.clone() },
-                ];
-                calls.iter().for_each(|call| session_call_gives(&changed, call, &call.answer(&record)));
-                part_to_drive_agrees(&changed);
+            for new in values_near(words[place]) {
                 cases += 1;
-                turned_away += usize::from(matches!(record.step, FIRST | SECOND) && !left_waiting(&record));
+                turned_away += usize::from(try_changed(&words, place, new, &first, &second));
             }
         }
     }
     println!("records with a word changed: {cases}, at step 1 or 2 and left by no calls: {turned_away}");
-    assert!(turned_away > 1000);
+    assert!(turned_away > cases / 2 && turned_away < cases);
 }

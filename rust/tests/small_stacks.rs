@@ -5,11 +5,16 @@ mod support;
 
 use fontarelga::*;
 use model::network::extra_vector;
-use support::boards::{state, walking_set};
+use support::boards::{state, walking_set, with_receivers};
 use support::generator::Generator;
-use support::networks::{each_combination, extra_at_some_level, of_library};
+use support::networks::{each_combination, extra_at_some_level, of_library, said_in_each_way};
 
 const N: u64 = MOST_NETS as u64;
+
+/// The network with one receiver a net, and with the most.
+fn boards(g: &mut Generator, net: model::Network) -> [model::Board; 2] {
+    [net.into(), with_receivers(g, net, MOST_RECEIVERS)]
+}
 
 /// What the call gives, made on a thread with this much stack.
 fn on_a_stack_of<T: Send>(bytes: usize, call: impl FnOnce() -> T + Send) -> T {
@@ -26,13 +31,18 @@ fn largest_set(g: &mut Generator, net: model::Network) -> Vec<u64> {
     vectors
 }
 
-/// Check and diagnosis of a random board on a stack of this size.
+/// Check and diagnosis of random boards on a stack of this size.
 fn try_check_and_diagnosis(g: &mut Generator, net: model::Network, class: u64, bytes: usize) {
-    let (network, vectors, board) = (of_library(net), largest_set(g, net), state(g, N, class));
-    let responses = respond(network, class, &vectors, &board).unwrap();
-    let verdict = on_a_stack_of(bytes, || check(network, class, &vectors));
-    let found = on_a_stack_of(bytes, || diagnose(network, class, &vectors, &responses));
-    assert_eq!((verdict, found), (Ok(Verdict::Pass), Ok(board)));
+    let (network, vectors) = (of_library(net), largest_set(g, net));
+    assert_eq!(on_a_stack_of(bytes, || check(network, class, &vectors)), Ok(Verdict::Pass));
+    for board in boards(g, net) {
+        let board_state = state(g, &board, class);
+        for said in said_in_each_way(&board) {
+            let responses = respond(&said, class, &vectors, &board_state).unwrap();
+            let found = on_a_stack_of(bytes, || diagnose(&said, class, &vectors, &responses));
+            assert_eq!(found.as_ref(), Ok(&board_state));
+        }
+    }
 }
 
 #[test]
@@ -62,13 +72,18 @@ fn small_checks() {
     }
 }
 
-/// Response and findings of a random board.
+/// Response and findings of random boards.
 fn try_response_and_findings(g: &mut Generator, net: model::Network, class: u64) {
-    let (network, vectors, board) = (of_library(net), largest_set(g, net), state(g, N, class));
-    let response = on_a_stack_of(OTHER_STACK_BYTES, || respond(network, class, &vectors, &board));
-    let table = on_a_stack_of(OTHER_STACK_BYTES, || findings(network, &board));
-    assert_eq!(response, respond(network, class, &vectors, &board));
-    assert_eq!(table, findings(network, &board));
+    let vectors = largest_set(g, net);
+    for board in boards(g, net) {
+        let board_state = state(g, &board, class);
+        for said in said_in_each_way(&board) {
+            let response = on_a_stack_of(OTHER_STACK_BYTES, || respond(&said, class, &vectors, &board_state));
+            let table = on_a_stack_of(OTHER_STACK_BYTES, || findings(&said, &board_state));
+            assert_eq!(response, respond(&said, class, &vectors, &board_state));
+            assert_eq!(table, findings(&said, &board_state));
+        }
+    }
 }
 
 #[test]
@@ -79,22 +94,32 @@ fn response_and_findings() {
     }
 }
 
-/// All receivers float, so that every net is unclear and step two has a vector for each, and the extra one.
+/// A session in which all receivers float, so that every net is unclear and step two has a vector for each, and the
+/// extra one.
+fn try_session(board: &model::Board) {
+    let (said, floating) = (&said_in_each_way(board)[0], u64::MAX >> (64 - board.receivers()));
+    let floating = |vectors: &[u64]| vec![board.network.level * floating; vectors.len()];
+    let mut session = on_a_stack_of(OTHER_STACK_BYTES, || Session::begin(said)).unwrap();
+    let first = on_a_stack_of(OTHER_STACK_BYTES, || session.to_drive());
+    let answers = floating(first);
+    on_a_stack_of(OTHER_STACK_BYTES, || session.first_answers(&answers)).unwrap();
+    let second = on_a_stack_of(OTHER_STACK_BYTES, || session.to_drive());
+    let answers = floating(second);
+    assert_eq!(answers.len(), MOST_NETS + extra_vector(board.network).iter().count());
+    on_a_stack_of(OTHER_STACK_BYTES, || session.second_answers(&answers)).unwrap();
+    assert_eq!(session.reaches(), Some(&vec![0; board.receivers()][..]));
+}
+
 #[test]
 fn session() {
-    for net in each_combination(N) {
-        let network = of_library(net);
-        let floating = |vectors: &[u64]| vec![network.level() * ((1 << N) - 1); vectors.len()];
-        let mut session = on_a_stack_of(OTHER_STACK_BYTES, || Session::begin(network)).unwrap();
-        let first = on_a_stack_of(OTHER_STACK_BYTES, || session.to_drive());
-        let answers = floating(first);
-        on_a_stack_of(OTHER_STACK_BYTES, || session.first_answers(&answers)).unwrap();
-        let second = on_a_stack_of(OTHER_STACK_BYTES, || session.to_drive());
-        let answers = floating(second);
-        assert_eq!(answers.len(), MOST_NETS + extra_vector(net).iter().count());
-        on_a_stack_of(OTHER_STACK_BYTES, || session.second_answers(&answers)).unwrap();
-        assert_eq!(session.reaches(), Some(&[0; MOST_NETS][..]));
-    }
+    let g = &mut Generator::new(19);
+    each_combination(N).iter().for_each(|net| boards(g, *net).iter().for_each(try_session));
+}
+
+#[test]
+fn own_receivers() {
+    let board = on_a_stack_of(OTHER_STACK_BYTES, || Board::of(N));
+    assert_eq!(board.receivers(), (0..N).collect::<Vec<u64>>());
 }
 
 #[test]

@@ -50,16 +50,18 @@ unfolding in-words lent-after
 table-words (refused number) words fits = sym (records-there words)
 table-words (full records) words fits = records-put records words (fits records refl)
 
-pub found-in-words : (net : Network) (state words table : List ℕ) (number : ℕ) → let room = length words / 3 in
-    number ≡ code (findings-answer net state room) → table ≡ lent-after (in-words finding-words (findings-answer net state room)) words
-    → let did = our-findings net state (records-of words) in
+pub found-in-words : (net : Network) (owners state words table : List ℕ) (number : ℕ) → let room = length words / 3 in
+    number ≡ code (findings-answer net owners state room)
+    → table ≡ lent-after (in-words finding-words (findings-answer net owners state room)) words
+    → let did = our-findings net owners state (records-of words) in
     (number ≡ code (did .returned)) × (table ≡ finding-words (did .list) ++ rest-of words)
-found-in-words net state words table number e f =
-    let a = findings-answer net state (length (records-of words)) in
-    let same : findings-answer net state (length words / 3) ≡ a = ap (findings-answer net state) (sym (records-size words)) in (
+found-in-words net owners state words table number e f =
+    let a = findings-answer net owners state (length (records-of words)) in
+    let same : findings-answer net owners state (length words / 3) ≡ a =
+    ap (findings-answer net owners state) (sym (records-size words)) in (
       e ∙ ap code same ∙ sym (code-counted a (count-of a) refl),
       f ∙ ap (λ (b : Answer (List Finding)). lent-after (in-words finding-words b) words) same
-          ∙ table-words a words (records-fit net state (length (records-of words))),
+          ∙ table-words a words (records-fit net owners state (length (records-of words))),
     )
 
 -- ---- what is returned

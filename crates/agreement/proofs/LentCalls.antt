@@ -26,9 +26,12 @@ use Rattle.exports.proofs.CallLaws.{stepped-code}
 use Rattle.demands.specs.SessionCalls.{begin, first, second}
 use Rattle.agreement.specs.LentCalls.{AdvancesAsProgram, WritesAsProgram}
 
--- what a call with two more parameters takes, and second answers
-abbrev Taken : Type 0 → Type 0
-Taken T = RefT Session × (T × (RefT (List ℕ) × Unit {0}))
+-- what each call takes
+abbrev BeginTaken : Type 0
+BeginTaken = RefT Session × (Network × (RefT (List ℕ) × (RefT (List ℕ) × Unit {0})))
+
+abbrev FirstTaken : Type 0
+FirstTaken = RefT Session × (RefT (List ℕ) × (RefT (List ℕ) × Unit {0}))
 
 abbrev SecondTaken : Type 0
 SecondTaken = RefT Session × (RefT (List ℕ) × Unit {0})
@@ -43,20 +46,23 @@ module _ {M : Type 1} (𝓤 : URA M) (H : Heap 𝓤) (A : Atoms 𝓤) (at-mem : 
   abbrev Says : (asked ensured : SProp 𝓤) → Type 0 → Type 1
   Says asked ensured said = ent 𝓤 (emp 𝓤) asked × ent 𝓤 ensured (fact 𝓤 said)
 
-  pub begin-does : (κs : Lfts 2) (net : Network) (list : RefT (List ℕ)) (filled : List ℕ)
-      → let taken : Taken Network = (session, (net, (list, tt))) in
+  pub begin-does : (κs : Lfts 3) (net : Network) (receivers list : RefT (List ℕ)) (filled : List ℕ)
+      → let taken : BeginTaken = (session, (net, (receivers, (list, tt)))) in
       let contract = Begin.clauses 𝓤 H A at-mem run κs taken in
-      Says (contract .requires tt) (contract .ensures tt number (atExit Begin.ended κs taken (after, (tt, (filled, tt)))))
-      (let call = begin net (list .now) in AdvancesAsProgram (session .now) call number after × WritesAsProgram (session .now) call filled)
-  begin-does κs net list filled =
-      let done = begun (session .now) net (length (list .now)) in
+      Says (contract .requires tt)
+      (contract .ensures tt number (atExit Begin.ended κs taken (after, (tt, (tt, (filled, tt))))))
+      (let call = begin net (receivers .now) (list .now) in
+      AdvancesAsProgram (session .now) call number after × WritesAsProgram (session .now) call filled)
+  begin-does κs net receivers list filled =
+      let room = length (list .now) in
+      let done = begun (session .now) net (receivers .now) room in
       let clauses : List (Type 0) =
       (after ≡ done .session) ∷ (number ≡ done .code)
-      ∷ (filled ≡ lent-after (begin-answer net (length (list .now))) (list .now)) ∷ [] in
+      ∷ (filled ≡ lent-after (begin-answer net (receivers .now) room) (list .now)) ∷ [] in
       (id⊢ 𝓤 _, tells clauses _ (λ said. ((said .1 .0 ∙ stepped-code _ _ _, said .0), said .1 .1)))
 
   pub first-answers-does : (κs : Lfts 3) (answers list : RefT (List ℕ)) (filled : List ℕ)
-      → let taken : Taken (RefT (List ℕ)) = (session, (answers, (list, tt))) in
+      → let taken : FirstTaken = (session, (answers, (list, tt))) in
       let contract = First.clauses 𝓤 H A at-mem run κs taken in
       Says (contract .requires tt) (contract .ensures tt number (atExit First.ended κs taken (after, (tt, (filled, tt)))))
       (let call = first (answers .now) (list .now) in

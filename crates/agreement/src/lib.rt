@@ -12,8 +12,8 @@ ghost use Rattle.reader.specs.Reader as Reader;
 ghost use Rattle.writer.specs.Writer as Writer;
 ghost use Rattle.exports.specs.Exported.{code};
 ghost use Rattle.demands.specs.SessionCalls.{begin, first, second};
-ghost use Rattle.demands.specs.Programs.{«our-check», «our-response», «our-diagnosis», «our-findings», «our-reader»};
-ghost use Rattle.demands.specs.Programs.{«our-writer», «our-sessions», «our-drive», «our-report»};
+ghost use Rattle.demands.specs.Programs.{«our-check», «our-own-receivers», «our-response», «our-diagnosis», «our-findings»};
+ghost use Rattle.demands.specs.Programs.{«our-reader», «our-writer», «our-sessions», «our-drive», «our-report»};
 
 pub mod through_c;
 
@@ -35,53 +35,72 @@ pub fn check(net: Network, class: u64, vectors: &[u64]) -> Checked
     checker::check(net, class, vectors)
 }
 
+// *own receivers*
+pub fn own_receivers(nets: u64, out: &mut [u64]) -> Responded
+    ensures returned { λ r. ⌜ Respond.meaning r ≡ our-own-receivers nets (now (out .entry)) .returned ⌝ }
+    ensures list { λ r. ⌜ now (out .exit) ≡ our-own-receivers nets (now (out .entry)) .list ⌝ }
+{
+    network::own_receivers(nets, out)
+}
+
 // *response from a state*
 pub fn respond(
     net: Network,
+    receivers: &[u64],
     class: u64,
     vectors: &[u64],
     state: &[u64],
     out: &mut [u64],
 ) -> Responded
     ensures returned { λ r. ⌜ Respond.meaning r
-        ≡ our-response net class (now (vectors .entry)) (now (state .entry)) (now (out .entry)) .returned ⌝ }
+        ≡ our-response net (now (receivers .entry)) class (now (vectors .entry)) (now (state .entry))
+        (now (out .entry)) .returned ⌝ }
     ensures list { λ r. ⌜ now (out .exit)
-        ≡ our-response net class (now (vectors .entry)) (now (state .entry)) (now (out .entry)) .list ⌝ }
+        ≡ our-response net (now (receivers .entry)) class (now (vectors .entry)) (now (state .entry))
+        (now (out .entry)) .list ⌝ }
 {
-    network::response_from_state(net, class, vectors, state, out)
+    network::response_from_state(net, receivers, class, vectors, state, out)
 }
 
 // *diagnosis*
 pub fn diagnose(
     net: Network,
+    receivers: &[u64],
     class: u64,
     vectors: &[u64],
     responses: &[u64],
     out: &mut [u64],
 ) -> Diagnosed
     ensures returned { λ r. ⌜ Diagnosis.meaning r
-        ≡ our-diagnosis net class (now (vectors .entry)) (now (responses .entry)) (now (out .entry)) .returned ⌝ }
+        ≡ our-diagnosis net (now (receivers .entry)) class (now (vectors .entry)) (now (responses .entry))
+        (now (out .entry)) .returned ⌝ }
     ensures list { λ r. ⌜ now (out .exit)
-        ≡ our-diagnosis net class (now (vectors .entry)) (now (responses .entry)) (now (out .entry)) .list ⌝ }
+        ≡ our-diagnosis net (now (receivers .entry)) class (now (vectors .entry)) (now (responses .entry))
+        (now (out .entry)) .list ⌝ }
 {
-    diagnosis::diagnose(net, class, vectors, responses, out)
+    diagnosis::diagnose(net, receivers, class, vectors, responses, out)
 }
 
 // *findings*
-pub fn find(net: Network, state: &[u64], table: &mut [Finding]) -> u64
-    ensures returned { λ r. ⌜ table-meaning net r ≡ our-findings net (now (state .entry)) (now (table .entry)) .returned ⌝ }
-    ensures table { λ r. ⌜ now (table .exit) ≡ our-findings net (now (state .entry)) (now (table .entry)) .list ⌝ }
+pub fn find(net: Network, receivers: &[u64], state: &[u64], table: &mut [Finding]) -> u64
+    ensures returned { λ r. ⌜ table-meaning (length (now (receivers .entry))) r
+        ≡ our-findings net (now (receivers .entry)) (now (state .entry)) (now (table .entry)) .returned ⌝ }
+    ensures table { λ r. ⌜ now (table .exit)
+        ≡ our-findings net (now (receivers .entry)) (now (state .entry)) (now (table .entry)) .list ⌝ }
 {
-    findings::findings(net, state, table)
+    findings::findings(net, receivers, state, table)
 }
 
 // *begin*
-pub fn begin(held: Session, net: Network, list: &mut [u64]) -> Stepped
-    ensures returned { λ r. ⌜ r .code ≡ code (our-sessions held (begin net (now (list .entry))) .answer) ⌝ }
-    ensures session { λ r. ⌜ r .session ≡ our-sessions held (begin net (now (list .entry))) .session ⌝ }
-    ensures list { λ r. ⌜ now (list .exit) ≡ our-sessions held (begin net (now (list .entry))) .list ⌝ }
+pub fn begin(held: Session, net: Network, receivers: &[u64], list: &mut [u64]) -> Stepped
+    ensures returned { λ r. ⌜ r .code
+        ≡ code (our-sessions held (begin net (now (receivers .entry)) (now (list .entry))) .answer) ⌝ }
+    ensures session { λ r. ⌜ r .session
+        ≡ our-sessions held (begin net (now (receivers .entry)) (now (list .entry))) .session ⌝ }
+    ensures list { λ r. ⌜ now (list .exit)
+        ≡ our-sessions held (begin net (now (receivers .entry)) (now (list .entry))) .list ⌝ }
 {
-    session::by_value::begin(held, net, list)
+    session::by_value::begin(held, net, receivers, list)
 }
 
 // *first answers*

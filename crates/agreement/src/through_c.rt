@@ -6,7 +6,7 @@ ghost use Rattle.network.specs.Reading.{«network-with»};
 ghost use Rattle.packing.specs.Packed.{«verdict-words», «finding-words»};
 ghost use Rattle.exports.specs.Exported.{code, «in-words», «fixed-after», «drive-count»};
 ghost use Rattle.demands.specs.SessionCalls.{begin, first, second};
-ghost use Rattle.demands.specs.Programs.{«our-check», «our-response», «our-diagnosis»};
+ghost use Rattle.demands.specs.Programs.{«our-check», «our-own-receivers», «our-response», «our-diagnosis»};
 ghost use Rattle.demands.specs.Programs.{«our-findings», «our-reader», «our-writer»};
 ghost use Rattle.demands.specs.ThroughC.{exported};
 ghost use Rattle.agreement.specs.InWords.{«records-of», «rest-of», «returned-job-words», «returned-size-words»};
@@ -28,24 +28,42 @@ pub fn check(
     exports::fontarelga_check(nets, level, gate, class, vectors, verdict)
 }
 
+// *own receivers*
+pub fn own_receivers(nets: u64, receivers: &mut [u64]) -> u64
+    ensures returned { λ r. ⌜ r ≡ code (our-own-receivers nets (now (receivers .entry)) .returned) ⌝ }
+    ensures receivers { λ r. ⌜ now (receivers .exit) ≡ our-own-receivers nets (now (receivers .entry)) .list ⌝ }
+{
+    exports::fontarelga_own_receivers(nets, receivers)
+}
+
 // *response from a state*
 pub fn respond(
     nets: u64,
     level: u64,
     gate: u64,
+    receivers: &[u64],
     class: u64,
     vectors: &[u64],
     state: &[u64],
     response: &mut [u64],
 ) -> u64
     ensures returned { λ r. ⌜ r
-        ≡ code (our-response (network-with nets level gate) class (now (vectors .entry)) (now (state .entry))
-        (now (response .entry)) .returned) ⌝ }
+        ≡ code (our-response (network-with nets level gate) (now (receivers .entry)) class (now (vectors .entry))
+        (now (state .entry)) (now (response .entry)) .returned) ⌝ }
     ensures response { λ r. ⌜ now (response .exit)
-        ≡ our-response (network-with nets level gate) class (now (vectors .entry)) (now (state .entry))
-        (now (response .entry)) .list ⌝ }
+        ≡ our-response (network-with nets level gate) (now (receivers .entry)) class (now (vectors .entry))
+        (now (state .entry)) (now (response .entry)) .list ⌝ }
 {
-    exports::fontarelga_respond(nets, level, gate, class, vectors, state, response)
+    exports::fontarelga_respond(
+        nets,
+        level,
+        gate,
+        receivers,
+        class,
+        vectors,
+        state,
+        response,
+    )
 }
 
 // *diagnosis*
@@ -53,46 +71,74 @@ pub fn diagnose(
     nets: u64,
     level: u64,
     gate: u64,
+    receivers: &[u64],
     class: u64,
     vectors: &[u64],
     responses: &[u64],
     state: &mut [u64],
 ) -> u64
     ensures returned { λ r. ⌜ r
-        ≡ code (our-diagnosis (network-with nets level gate) class (now (vectors .entry)) (now (responses .entry))
-        (now (state .entry)) .returned) ⌝ }
+        ≡ code (our-diagnosis (network-with nets level gate) (now (receivers .entry)) class (now (vectors .entry))
+        (now (responses .entry)) (now (state .entry)) .returned) ⌝ }
     ensures state { λ r. ⌜ now (state .exit)
-        ≡ our-diagnosis (network-with nets level gate) class (now (vectors .entry)) (now (responses .entry))
-        (now (state .entry)) .list ⌝ }
+        ≡ our-diagnosis (network-with nets level gate) (now (receivers .entry)) class (now (vectors .entry))
+        (now (responses .entry)) (now (state .entry)) .list ⌝ }
 {
-    exports::fontarelga_diagnose(nets, level, gate, class, vectors, responses, state)
+    exports::fontarelga_diagnose(
+        nets,
+        level,
+        gate,
+        receivers,
+        class,
+        vectors,
+        responses,
+        state,
+    )
 }
 
 // *findings*
-pub fn find(nets: u64, level: u64, gate: u64, state: &[u64], table: &mut [u64]) -> u64
+pub fn find(
+    nets: u64,
+    level: u64,
+    gate: u64,
+    receivers: &[u64],
+    state: &[u64],
+    table: &mut [u64],
+) -> u64
     ensures returned { λ r. ⌜ r
-        ≡ code (our-findings (network-with nets level gate) (now (state .entry)) (records-of (now (table .entry))) .returned) ⌝ }
+        ≡ code (our-findings (network-with nets level gate) (now (receivers .entry)) (now (state .entry))
+        (records-of (now (table .entry))) .returned) ⌝ }
     ensures table { λ r. ⌜ now (table .exit)
-        ≡ finding-words (our-findings (network-with nets level gate) (now (state .entry))
+        ≡ finding-words (our-findings (network-with nets level gate) (now (receivers .entry)) (now (state .entry))
         (records-of (now (table .entry))) .list) ++ rest-of (now (table .entry)) ⌝ }
 {
-    exports::fontarelga_findings(nets, level, gate, state, table)
+    exports::fontarelga_findings(nets, level, gate, receivers, state, table)
 }
 
 // *begin*
-pub fn begin(session: &mut [u64; 61], nets: u64, level: u64, gate: u64, list: &mut [u64]) -> u64
+pub fn begin(
+    session: &mut [u64; 142],
+    nets: u64,
+    level: u64,
+    gate: u64,
+    receivers: &[u64],
+    list: &mut [u64],
+) -> u64
     ensures returned { λ r. ⌜ r
-        ≡ exported (now (session .entry)) (begin (network-with nets level gate) (now (list .entry))) .returned ⌝ }
+        ≡ exported (now (session .entry))
+        (begin (network-with nets level gate) (now (receivers .entry)) (now (list .entry))) .returned ⌝ }
     ensures session { λ r. ⌜ now (session .exit)
-        ≡ exported (now (session .entry)) (begin (network-with nets level gate) (now (list .entry))) .session ⌝ }
+        ≡ exported (now (session .entry))
+        (begin (network-with nets level gate) (now (receivers .entry)) (now (list .entry))) .session ⌝ }
     ensures list { λ r. ⌜ now (list .exit)
-        ≡ exported (now (session .entry)) (begin (network-with nets level gate) (now (list .entry))) .list ⌝ }
+        ≡ exported (now (session .entry))
+        (begin (network-with nets level gate) (now (receivers .entry)) (now (list .entry))) .list ⌝ }
 {
-    exports::fontarelga_begin(session, nets, level, gate, list)
+    exports::fontarelga_begin(session, nets, level, gate, receivers, list)
 }
 
 // *first answers*
-pub fn first_answers(session: &mut [u64; 61], answers: &[u64], list: &mut [u64]) -> u64
+pub fn first_answers(session: &mut [u64; 142], answers: &[u64], list: &mut [u64]) -> u64
     ensures returned { λ r. ⌜ r ≡ exported (now (session .entry)) (first (now (answers .entry)) (now (list .entry))) .returned ⌝ }
     ensures session { λ r. ⌜ now (session .exit)
         ≡ exported (now (session .entry)) (first (now (answers .entry)) (now (list .entry))) .session ⌝ }
@@ -103,7 +149,7 @@ pub fn first_answers(session: &mut [u64; 61], answers: &[u64], list: &mut [u64])
 }
 
 // *second answers*
-pub fn second_answers(session: &mut [u64; 61], answers: &[u64]) -> u64
+pub fn second_answers(session: &mut [u64; 142], answers: &[u64]) -> u64
     ensures returned { λ r. ⌜ r ≡ exported (now (session .entry)) (second (now (answers .entry))) .returned ⌝ }
     ensures session { λ r. ⌜ now (session .exit) ≡ exported (now (session .entry)) (second (now (answers .entry))) .session ⌝ }
 {
@@ -111,7 +157,7 @@ pub fn second_answers(session: &mut [u64; 61], answers: &[u64]) -> u64
 }
 
 // the vectors to drive next
-pub fn to_drive<'a>(session: &[u64; 61], one: &'a [u64], two: &'a [u64]) -> u64
+pub fn to_drive<'a>(session: &[u64; 142], one: &'a [u64], two: &'a [u64]) -> u64
     ensures { λ r. ⌜ r ≡ drive-count (now (session .entry)) (now (one .entry)) (now (two .entry)) ⌝ }
 {
     exports::fontarelga_to_drive(session, one, two)

@@ -1,10 +1,12 @@
-// Trying the lines of a text. A line names the call that the lines after it make: `check`, `respond`, `diagnose` or
-// `findings`. A line `level L` gives the soft level of the calls on the lines after it, and a line `gate G` their gate,
-// each up to the next line of its name; at the start, and after a line that names a call, the level is 1 and the gate
-// 0. A line that has not the form of its call, or begins with `level` or `gate` and does not go on with a space and one
-// number, is shown as unreadable.
+// Trying the lines of a text. A line names the call that the lines after it make: `check`, `own receivers`, `respond`,
+// `diagnose` or `findings`. A line `level L` gives the soft level of the calls on the lines after it, a line `gate G`
+// their gate, and a line `receivers` with the net of each receiver their receivers, each up to the next line of its
+// name; `receivers own` is one receiver a net. At the start, and after a line that names a call, the level is 1, the
+// gate 0, and there is one receiver a net. A line that has not the form of its call, or begins with `level` or `gate`
+// and does not go on with a space and one number, or with `receivers` and goes on with no list, is shown as unreadable.
 use crate::checking;
 use crate::finding;
+use crate::own;
 use crate::responding;
 use trials::Line;
 use trials::setting;
@@ -14,6 +16,7 @@ use trials::show;
 enum Call {
     Unknown,
     Check,
+    OwnReceivers,
     Response,
     Diagnosis,
     Findings,
@@ -22,6 +25,9 @@ enum Call {
 fn named(line: &[u8]) -> Call {
     if check::same(line, b"check") {
         return Call::Check;
+    }
+    if check::same(line, b"own receivers") {
+        return Call::OwnReceivers;
     }
     if check::same(line, b"respond") {
         return Call::Response;
@@ -41,6 +47,7 @@ fn named(line: &[u8]) -> Call {
 fn called(call: Call, setting: Setting, line: &[u8]) {
     match call {
         Call::Check => checking::try_line(setting, line),
+        Call::OwnReceivers => own::try_line(line),
         Call::Response => responding::try_line(false, setting, line),
         Call::Diagnosis => responding::try_line(true, setting, line),
         Call::Findings => finding::try_line(setting, line),

@@ -99,61 +99,62 @@ rule-shows net k vectors v two narrow (inr (e, r)) = bounded-shows net k vectors
 -- ---- states
 
 -- sets apart: at most one state of the class fits a response
-pub apart-one-fits : (net : Network) (k : ℕ) (vectors : List ℕ) → SetsApart net k vectors → AtMostOneFits net k vectors
-apart-one-fits net k vectors h responses s u p q =
+pub apart-one-fits : (net : Network) (m k : ℕ) (vectors : List ℕ) → SetsApart net k vectors
+    → AtMostOneFits net m k vectors
+apart-one-fits net m k vectors h responses s u p q =
     let size : length s ≡ length u = p .of-class .size ∙ sym (q .of-class .size) in
-    states-equal net k s u (p .of-class) (q .of-class)
+    states-equal net m k s u (p .of-class) (q .of-class)
     (λ i l. h (at s i) (at u i) (p .of-class .reach i l) (q .of-class .reach i (rw size at l))
     (response-alike net s u vectors size (p .gives ∙ sym (q .gives)) i l))
 
 -- two different states of the class with equal responses: both fit
-pub not-one-fits : (net : Network) (k : ℕ) (vectors s u : List ℕ) → State net k s → State net k u → s ≢ u
-    → response net s vectors ≡ response net u vectors → ¬ (AtMostOneFits net k vectors)
-not-one-fits net k vectors s u p q differ e one =
+pub not-one-fits : (net : Network) (m k : ℕ) (vectors s u : List ℕ) → State net m k s → State net m k u → s ≢ u
+    → response net s vectors ≡ response net u vectors → ¬ (AtMostOneFits net m k vectors)
+not-one-fits net m k vectors s u p q differ e one =
     differ (one (response net u vectors) s u (record { of-class = p; gives = e }) (record { of-class = q; gives = refl }))
 
-module _ (net : Network) (k : ℕ) (two : 2 ≤ net .nets) where
-  shown-first : (set : ℕ) → at (shown-state net set) 0 ≡ set
+module _ (net : Network) (m k : ℕ) (some : 1 ≤ m) where
+  shown-first : (set : ℕ) → at (shown-state m set) 0 ≡ set
   unfolding shown-state
   shown-first set = refl
 
-  shown-later : (set i : ℕ) → at (shown-state net set) (suc i) ≡ 0
+  shown-later : (set i : ℕ) → at (shown-state m set) (suc i) ≡ 0
   unfolding shown-state
-  shown-later set i = ⊎-elim (getD-replicate (net .nets - 1) i 0 0)
-      (λ l. List·getD-eq-default (replicate (net .nets - 1) 0) 0 (rw length-replicate l))
-      (less-or-not i (net .nets - 1))
+  shown-later set i = ⊎-elim (getD-replicate (m - 1) i 0 0)
+      (λ l. List·getD-eq-default (replicate (m - 1) 0) 0 (rw length-replicate l))
+      (less-or-not i (m - 1))
 
-  shown-size : (set : ℕ) → length (shown-state net set) ≡ net .nets
+  shown-size : (set : ℕ) → length (shown-state m set) ≡ m
   unfolding shown-state
-  shown-size set = let h = length-replicate {A = ℕ} (net .nets - 1) 0 in omega arith
+  shown-size set = let h = length-replicate {A = ℕ} (m - 1) 0 in omega arith
 
-  pub shown-is-state : (set : ℕ) → DriverSet net k set → State net k (shown-state net set)
+  pub shown-is-state : (set : ℕ) → DriverSet net k set → State net m k (shown-state m set)
   shown-is-state set h = record {
     size = shown-size set;
-    reach = λ i l. elim i as (λ x. DriverSet net k (at (shown-state net set) x)) [
+    reach = λ i l. elim i as (λ x. DriverSet net k (at (shown-state m set) x)) [
       | zero ↦ rw (shown-first set) h
       | suc x ↦ rw (shown-later set x) (record { inside = pow-pos (net .nets); few = rw (ones-of-zero (net .nets)) zero-le })
     ];
     meet-only-if-equal = λ i j x li lj lx p q. meet i j x p q;
   }
     where
-      meet : (i j x : ℕ) → has (at (shown-state net set) i) x ≡ true → has (at (shown-state net set) j) x ≡ true
-          → at (shown-state net set) i ≡ at (shown-state net set) j
+      meet : (i j x : ℕ) → has (at (shown-state m set) i) x ≡ true → has (at (shown-state m set) j) x ≡ true
+          → at (shown-state m set) i ≡ at (shown-state m set) j
       meet zero zero x p q = refl
       meet zero (suc j) x p q = contrary q (ap (λ (y : ℕ). has y x) (shown-later set j) ∙ has-zero x)
       meet (suc i) j x p q = contrary p (ap (λ (y : ℕ). has y x) (shown-later set i) ∙ has-zero x)
 
-  pub shown-differ : (a b : ℕ) → a ≢ b → shown-state net a ≢ shown-state net b
+  pub shown-differ : (a b : ℕ) → a ≢ b → shown-state m a ≢ shown-state m b
   shown-differ a b d e = d (sym (shown-first a) ∙ ap (λ (s : List ℕ). at s 0) e ∙ shown-first b)
 
   pub shown-alike : (vectors : List ℕ) (a b : ℕ) → ReadAlike net vectors a b
-      → response net (shown-state net a) vectors ≡ response net (shown-state net b) vectors
+      → response net (shown-state m a) vectors ≡ response net (shown-state m b) vectors
   shown-alike vectors a b h =
-      alike-response net (shown-state net a) (shown-state net b) vectors (shown-size a ∙ sym (shown-size b))
+      alike-response net (shown-state m a) (shown-state m b) vectors (shown-size a ∙ sym (shown-size b))
       (λ i l. each i)
     where
-      each : (i : ℕ) → ReadAlike net vectors (at (shown-state net a) i) (at (shown-state net b) i)
-      each zero t m =
-          ap (λ (x : ℕ). reads net x (at vectors t)) (shown-first a) ∙ h t m
+      each : (i : ℕ) → ReadAlike net vectors (at (shown-state m a) i) (at (shown-state m b) i)
+      each zero t l =
+          ap (λ (x : ℕ). reads net x (at vectors t)) (shown-first a) ∙ h t l
           ∙ ap (λ (x : ℕ). reads net x (at vectors t)) (sym (shown-first b))
-      each (suc i) t m = ap (λ (x : ℕ). reads net x (at vectors t)) (shown-later a i ∙ sym (shown-later b i))
+      each (suc i) t l = ap (λ (x : ℕ). reads net x (at vectors t)) (shown-later a i ∙ sym (shown-later b i))

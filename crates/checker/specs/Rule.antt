@@ -62,9 +62,9 @@ BoundedRule net k vectors (Pair a b) =
 abbrev pub Rule : Network → ℕ → List ℕ → Verdict → Type 0
 Rule net k vectors verdict = ((k ≡ net .nets) × FullRule net vectors verdict) ⊎ ((k ≢ net .nets) × BoundedRule net k vectors verdict)
 
--- the state shown for a set: its reach at receiver 0, all other receivers floating
-unfoldable pub shown-state : Network → ℕ → List ℕ
-shown-state net set = set ∷ replicate (net .nets - 1) 0
+-- the state of m receivers shown for a set: its reach at receiver 0, all other receivers floating
+unfoldable pub shown-state : (m set : ℕ) → List ℕ
+shown-state m set = set ∷ replicate (m - 1) 0
 
 -- ---- the rule computed
 

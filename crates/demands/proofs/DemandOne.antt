@@ -13,14 +13,15 @@ use Rattle.words.proofs.Answers.{table-implies, front-written}
 use Rattle.network.specs.declared.Network.{Network}
 use Rattle.network.specs.Reading.{Response}
 use Rattle.network.specs.States.{Fits}
+use Rattle.network.specs.OwnReceivers.{OwnReceivers}
 use Rattle.network.specs.Rows.{Row9, Row12}
 use Rattle.checker.specs.Rule.{Rule}
 use Rattle.findings.specs.FindingsTable.{Findings}
 use Rattle.steps.specs.FirstStep.{first-vectors}
 use Rattle.steps.specs.SecondStep.{unclear, second-vectors}
 use Rattle.session.specs.declared.Session.{Session}
-use Rattle.session.specs.Record.{held-answers, awaits-first, awaits-second}
-use Rattle.session.proofs.Records.{held-of}
+use Rattle.session.specs.Record.{held-owners, held-answers, awaits-first, awaits-second}
+use Rattle.session.proofs.Records.{owners-front, held-of}
 use Rattle.reader.specs.Reader.{JobContent, content, vectors-read, responses-read, counted}
 use Rattle.writer.specs.Writer.{file-of}
 use Rattle.demands.specs.SessionCalls.{Call, begin, first, second, lent, History, none, waits-first, waits-second}
@@ -28,11 +29,13 @@ use Rattle.demands.specs.SessionCalls.{finished-first, finished-second, 
 use Rattle.demands.specs.SessionCalls.{record-after, history-from, history, LeftBy, Awaits, FitsAnswers}
 use Rattle.demands.specs.SessionRecords.{WaitsFor}
 use Rattle.demands.specs.Demand3.{BeginRows, Written, second-words}
-use Rattle.demands.specs.Demand1.{PublicCall, check, respond, diagnose, find, read, write, advance, drive}
+use Rattle.demands.specs.Demand1.{PublicCall, own, check, respond, diagnose, find, read, write, advance, drive}
 use Rattle.demands.specs.Demand1.{awaited-vectors, SessionHighBit, InSession, SessionRows, Rows, numbers}
 use Rattle.demands.specs.Demand1.{RefusedFill, FullFill, Before, RefusedWith, FullResult, FirstRow, RefusedOrFull}
 use Rattle.demands.specs.Demand1.{Demand1}
-use Rattle.demands.specs.Programs.{our-response, our-check, our-diagnosis, our-findings, our-writer, our-answer, our-sessions, ours}
+use Rattle.demands.specs.Programs.{our-own-receivers, our-response, our-check, our-diagnosis, our-findings}
+use Rattle.demands.specs.Programs.{our-writer, our-answer, our-sessions, ours}
+use Rattle.demands.proofs.OwnReceivers.{owns}
 use Rattle.demands.proofs.Responding.{responds}
 use Rattle.demands.proofs.Diagnosing.{diagnoses}
 use Rattle.demands.proofs.Findings.{finds}
@@ -68,16 +71,18 @@ fills {A} rows result lent did f =
 abbrev history-of : Session → History
 history-of session =
     let net = session .network in
+    let owners = held-owners session in
     let answers = held-answers session in
-    cond (eqb (session .step) 1) (waits-first net (first-vectors net))
-    (waits-second net (first-vectors net) answers (second-vectors net answers))
+    cond (eqb (session .step) 1) (waits-first net owners (first-vectors net))
+    (waits-second net owners (first-vectors net) answers (second-vectors net owners answers))
 
 told-session : (h : History) (session : Session) → h ≢ none → Tells h session → session .step ≢ 3 → h ≡ history-of session
 told-session none session begun t d = absurd (begun refl)
-told-session (waits-first net v1) session begun t d = ap (waits-first net) (t .wrote) ∙ sym (ap history-of (t .is))
-told-session (waits-second net v1 r1 v2) session begun t d = rw (t .is, t .wrote, t .wrote-second, held-of net r1 (t .sized))
-told-session (finished-first net v1 r1 v2) session begun t d = absurd (d (t .step-three))
-told-session (finished-second net v1 r1 v2 r2) session begun t d = absurd (d (t .step-three))
+told-session (waits-first net owners v1) session begun t d = rw (t .is, t .wrote, owners-front owners)
+told-session (waits-second net owners v1 r1 v2) session begun t d =
+    rw (t .is, t .wrote, t .wrote-second, owners-front owners, held-of net owners r1 (t .sized))
+told-session (finished-first net owners v1 r1 v2) session begun t d = absurd (d (t .step-three))
+told-session (finished-second net owners v1 r1 v2 r2) session begun t d = absurd (d (t .step-three))
 
 -- rows that go by the session: in one session, and in some session that leaves the record
 abbrev rows-at : History → List (ℕ × (History → Type 0)) → List (ℕ × Type 0)
@@ -135,10 +140,10 @@ four-or-later session call test rows tells four later =
 -- by the rows of demand 1
 advances : (session : Session) (call : Call)
     → ByTable (SessionRows our-sessions session call) (Taken session call) (our-answer session call)
-advances session (begin net list) =
-    table-implies (λ (words : List ℕ). words ≡ first-vectors net) (Taken session (begin net list)) (BeginRows net list)
-    (our-answer session (begin net list))
-    (λ _ words w. (none, tt, tt, w)) (begin-by-table session net list)
+advances session (begin net owners list) =
+    table-implies (λ (words : List ℕ). words ≡ first-vectors net) (Taken session (begin net owners list)) (BeginRows net owners list)
+    (our-answer session (begin net owners list))
+    (λ _ words w. (none, tt, tt, w)) (begin-by-table session net owners list)
 advances session (first answers list) =
     let call : Call = first answers list in
     let rows : List (ℕ × (History → Type 0)) =
@@ -146,20 +151,20 @@ advances session (first answers list) =
     ∷ (12, λ h. Row12 (length (second-words h answers)) (length list)) ∷ [] in
     four-or-later session call (awaits-first session) rows (row-four .first-answers session answers list)
     (first-refused session answers list)
-    (λ h y. subst (ByRowsOf session call rows) (sym (y .2))
-    (λ l. (λ e. omega arith, l, call-by-table session call .in-session (waits-first (y .0) (y .1)) l)))
+    (λ h y. subst (ByRowsOf session call rows) (sym (y .3))
+    (λ l. (λ e. omega arith, l, call-by-table session call .in-session (waits-first (y .0) (y .1) (y .2)) l)))
 advances session (second answers) =
     let call : Call = second answers in
     let rows : List (ℕ × (History → Type 0)) =
     (9, λ h. Row9 (length (awaited-vectors h)) (length answers)) ∷ (10, λ h. SessionHighBit h answers)
     ∷ (14, λ h. ¬ ((state : List ℕ) × FitsAnswers (accepted h call []) state)) ∷ [] in
     four-or-later session call (awaits-second session) rows (row-four .second-answers session answers) (second-refused session answers)
-    (λ h y. subst (ByRowsOf session call rows) (sym (y .4))
+    (λ h y. subst (ByRowsOf session call rows) (sym (y .5))
     (λ l. (
       λ e. omega arith,
       l,
       call-by-table session call .in-session
-          (waits-second (y .0) (y .1) (y .2) (y .3)) l,
+          (waits-second (y .0) (y .1) (y .2) (y .3) (y .4)) l,
     )))
 
 -- a list of calls and one more
@@ -171,14 +176,16 @@ call-appended h start [] call = (refl, refl)
 call-appended h start (c ∷ calls) call = call-appended (extended h c (our-sessions start c)) (our-sessions start c .session) calls call
 
 -- an accepted call leaves no record outside a session
-after-begun : (net : Network) (v1 r1 v2 nets : List ℕ) → after-first net v1 r1 v2 nets ≢ none
-after-begun net v1 r1 v2 [] = is-begun (finished-first net v1 r1 v2) (λ e. omega arith)
-after-begun net v1 r1 v2 (i ∷ nets) = is-begun (waits-second net v1 r1 v2) (λ e. omega arith)
+after-begun : (net : Network) (owners v1 r1 v2 nets : List ℕ) → after-first net owners v1 r1 v2 nets ≢ none
+after-begun net owners v1 r1 v2 [] = is-begun (finished-first net owners v1 r1 v2) (λ e. omega arith)
+after-begun net owners v1 r1 v2 (i ∷ nets) = is-begun (waits-second net owners v1 r1 v2) (λ e. omega arith)
 
 accepted-begun : (h : History) (call : Call) (written : List ℕ) → Awaits h call → accepted h call written ≢ none
-accepted-begun h (begin net list) written y = is-begun (waits-first net written) (λ e. omega arith)
-accepted-begun h (first answers list) written (net, v1, q) = rw q (after-begun net v1 answers written (unclear net answers))
-accepted-begun h (second answers) written (net, v1, r1, v2, q) = rw q (is-begun (finished-second net v1 r1 v2 answers) (λ e. omega arith))
+accepted-begun h (begin net owners list) written y = is-begun (waits-first net owners written) (λ e. omega arith)
+accepted-begun h (first answers list) written (net, owners, v1, q) =
+    rw q (after-begun net owners v1 answers written (unclear net owners answers))
+accepted-begun h (second answers) written (net, owners, v1, r1, v2, q) =
+    rw q (is-begun (finished-second net owners v1 r1 v2 answers) (λ e. omega arith))
 
 -- an accepted call as the last of a list
 goes-on : (h : History) (session : Session) (call : Call) (written : List ℕ) → Awaits h call → our-answer session call ≡ full written
@@ -200,7 +207,8 @@ goes-on h session call written y e start calls leaves in-session = record {
 accepted-leaves : (session : Session) (call : Call) (h : History) (written : List ℕ)
     → Before our-sessions session call h → Awaits h call → our-answer session call ≡ full written
     → LeftBy our-sessions (accepted h call written) (our-sessions session call .session)
-accepted-leaves session (begin net list) h written b y e = goes-on none session (begin net list) written y e session [] refl refl
+accepted-leaves session (begin net owners list) h written b y e =
+    goes-on none session (begin net owners list) written y e session [] refl refl
 accepted-leaves session (first answers list) h written b y e =
     goes-on h session (first answers list) written y e (b .start) (b .calls) (b .leaves) (b .in-session)
 accepted-leaves session (second answers) h written b y e =
@@ -243,20 +251,21 @@ advance-call session call =
     )) (advances session call)
 
 each-call : (call : PublicCall) → RefusedOrFull ours call
+each-call (own nets list) = fills (Rows ours (own nets list)) (OwnReceivers nets) list (our-own-receivers nets list) (owns nets list)
 each-call (check net k vectors) =
     let call : PublicCall = check net k vectors in
     either (Rule net k vectors) (RefusedWith ours call) (FullResult ours call) (Rows ours call)
     (our-check net k vectors) (λ number e. e) (λ verdict e r. (verdict, r, e))
     (checks-by-rule net k vectors)
-each-call (respond net k vectors state list) =
-    fills (Rows ours (respond net k vectors state list)) (Response net state vectors) list
-    (our-response net k vectors state list) (responds net k vectors state list)
-each-call (diagnose net k vectors responses list) =
-    fills (Rows ours (diagnose net k vectors responses list)) (Fits net k vectors responses) list
-    (our-diagnosis net k vectors responses list) (diagnoses net k vectors responses list .by-table)
-each-call (find net state table) =
-    fills (Rows ours (find net state table)) (Findings net state) table (our-findings net state table)
-    (finds net state table)
+each-call (respond net owners k vectors state list) =
+    fills (Rows ours (respond net owners k vectors state list)) (Response net state vectors) list
+    (our-response net owners k vectors state list) (responds net owners k vectors state list)
+each-call (diagnose net owners k vectors responses list) =
+    fills (Rows ours (diagnose net owners k vectors responses list)) (Fits net (length owners) k vectors responses) list
+    (our-diagnosis net owners k vectors responses list) (diagnoses net owners k vectors responses list .by-table)
+each-call (find net owners state table) =
+    fills (Rows ours (find net owners state table)) (Findings net owners state) table (our-findings net owners state table)
+    (finds net owners state table)
 each-call (read file vectors responses) = read-call file vectors responses
 each-call (write net k vectors responses file) =
     fills (Rows ours (write net k vectors responses file)) (λ bytes. bytes ≡ file-of net k vectors responses) file
@@ -265,13 +274,14 @@ each-call (advance session call) = advance-call session call
 each-call (drive session one two) = inr (tt, drives session one two)
 
 by-its-rows : (call : PublicCall) → map (λ (row : ℕ × Type 0). row .0) (Rows ours call) ≡ numbers call
+by-its-rows (own nets list) = refl
 by-its-rows (check net k vectors) = refl
-by-its-rows (respond net k vectors state list) = refl
-by-its-rows (diagnose net k vectors responses list) = refl
-by-its-rows (find net state table) = refl
+by-its-rows (respond net owners k vectors state list) = refl
+by-its-rows (diagnose net owners k vectors responses list) = refl
+by-its-rows (find net owners state table) = refl
 by-its-rows (read file vectors responses) = refl
 by-its-rows (write net k vectors responses file) = refl
-by-its-rows (advance session (begin net list)) = refl
+by-its-rows (advance session (begin net owners list)) = refl
 by-its-rows (advance session (first answers list)) = refl
 by-its-rows (advance session (second answers)) = refl
 by-its-rows (drive session one two) = refl

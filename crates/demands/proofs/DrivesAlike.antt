@@ -29,17 +29,17 @@ drive-determined p q f g session one two =
     step-one : awaits-first session ≡ true → p session one two ≡ q session one two
     step-one e =
         let w = row-four .first-answers session [] [] .0 e in
-        let left = subst (λ (h : History). LeftBy our-sessions h session) (w .2 .2) (w .1) in
-        front-determined _ one _ _ (f session one two .step-one (w .2 .0) (w .2 .1) left)
-        (g session one two .step-one (w .2 .0) (w .2 .1) left)
+        let left = subst (λ (h : History). LeftBy our-sessions h session) (w .2 .3) (w .1) in
+        front-determined _ one _ _ (f session one two .step-one (w .2 .0) (w .2 .1) (w .2 .2) left)
+        (g session one two .step-one (w .2 .0) (w .2 .1) (w .2 .2) left)
 
     step-two : awaits-second session ≡ true → p session one two ≡ q session one two
     step-two e =
         let w = row-four .second-answers session [] .0 e in
         let y = w .2 in
-        let left = subst (λ (h : History). LeftBy our-sessions h session) (y .4) (w .1) in
-        front-determined _ two _ _ (f session one two .step-two (y .0) (y .1) (y .2) (y .3) left)
-        (g session one two .step-two (y .0) (y .1) (y .2) (y .3) left)
+        let left = subst (λ (h : History). LeftBy our-sessions h session) (y .5) (w .1) in
+        front-determined _ two _ _ (f session one two .step-two (y .0) (y .1) (y .2) (y .3) (y .4) left)
+        (g session one two .step-two (y .0) (y .1) (y .2) (y .3) (y .4) left)
 
     neither : awaits-first session ≡ false → awaits-second session ≡ false → p session one two ≡ q session one two
     neither e d =

@@ -52,11 +52,11 @@ words-fit net words most narrow t l =
     let power : 2 ^ (net .nets) ≤ 2 ^ 48 = pow-mono {j = 48} most in
     omega arith
 
-given-fit : (net : Network) (responses : List ℕ) → net .nets ≤ 48 → given responses && has-high-bit net responses ≡ false
+given-fit : (net : Network) (responses : List ℕ) → net .nets ≤ 48 → given responses && has-high-bit (net .nets) responses ≡ false
     → (t : ℕ) → t < length responses → at responses t < 256 ^ 8
 given-fit net [] most e t l = absurd (not-suc-le-zero l)
 given-fit net (word ∷ words) most e t l =
-    words-fit net (word ∷ words) most (no-high-bit net (word ∷ words) (decides-high-bit net (word ∷ words) .1 e)) t l
+    words-fit net (word ∷ words) most (no-high-bit (net .nets) (word ∷ words) (decides-high-bit (net .nets) (word ∷ words) .1 e)) t l
 
 module _ (net : Network) (k : ℕ) (vectors responses : List ℕ) (room : ℕ) (set : AllFail (set-tests net k vectors)) where
   admitted : AllFail (own-tests net k vectors responses room) → AdmittedContent vectors responses
@@ -83,7 +83,7 @@ module _ (net : Network) (k : ℕ) (vectors responses : List ℕ) (room : ℕ) (
       let u2 = layout→test file (layout-made net k vectors responses h) in
       let u3 = bodies-pass net k vectors responses h in
       let u9 = ap (λ (b : Bool). b && bad-response-count (length vectors) (length responses)) third ∙ t9 in
-      let u10 = ap (λ (b : Bool). b && has-high-bit net responses) third ∙ t10 in
+      let u10 = ap (λ (b : Bool). b && has-high-bit (net .nets) responses) third ∙ t10 in
       let u12 = ap₂ (λ (a b : Bool). a || b) (le-ltb vectors-room (length vectors) lv) (le-ltb responses-room (length responses) lr) in
       let rest : AllFail (set-tests net k vectors ++ list-tests file job vectors-room responses-room) =
       fail-both (set-tests net k vectors) (list-tests file job vectors-room responses-room) set (u9, (u10, (u12, tt))) in
@@ -170,7 +170,7 @@ module _ (file : List ℕ) where
       let made = file-of (file-network file) (file-class file) (body-words file 1) responses in
       let u9 = behind-weaker (given responses) (has-responses file)
       (bad-response-count (length (body-words file 1)) (length responses)) third-there (lists .0) in
-      let u10 = behind-weaker (given responses) (has-responses file) (has-high-bit (file-network file) responses) third-there
+      let u10 = behind-weaker (given responses) (has-responses file) (has-high-bit (file-network file .nets) responses) third-there
       (lists .1 .0) in
       let u12 : no-room (length made) room ≡ false = le-ltb room (length made) (rw whole l) in
       full-answer (writer-tests (file-network file) (file-class file) (body-words file 1) responses room) made

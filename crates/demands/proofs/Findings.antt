@@ -12,15 +12,17 @@ use Rattle.demands.specs.FindingsCall.{FindingsProgram, Finds}
 use Rattle.demands.specs.Programs.{our-findings}
 
 pub finds : Finds our-findings
-finds net state lent = record {
-  answer = findings-answer net state (length lent);
-  allowed = findings-by-table net state (length lent);
+finds net owners state lent = record {
+  answer = findings-answer net owners state (length lent);
+  allowed = findings-by-table net owners state (length lent);
   returned = refl;
   list = refl;
 }
 
-pub findings-determined-program : (p q : FindingsProgram) → Finds p → Finds q → (net : Network) (state : List ℕ) (lent : List Finding)
-    → p net state lent ≡ q net state lent
-findings-determined-program p q f g net state lent =
-    fills-determined (FindingsRows net state (length lent)) (Findings net state) lent (p net state lent) (q net state lent)
-    (findings-determined net state (length lent)) (f net state lent) (g net state lent)
+pub findings-determined-program : (p q : FindingsProgram) → Finds p → Finds q
+    → (net : Network) (owners state : List ℕ) (lent : List Finding)
+    → p net owners state lent ≡ q net owners state lent
+findings-determined-program p q f g net owners state lent =
+    fills-determined (FindingsRows net owners state (length lent)) (Findings net owners state) lent
+    (p net owners state lent) (q net owners state lent)
+    (findings-determined net owners state (length lent)) (f net owners state lent) (g net owners state lent)

@@ -55,19 +55,19 @@ exchanged n level other reach vector opposite levels bits = ⊎-elim floats driv
 
 -- in step two the driver of a clear net is not active: the extra vector has no active driver, and the walking vector of
 -- an unclear net only that net's
-clear-not-active : (net : Network) (answers : List ℕ) (i t : ℕ) → i < net .nets → Clear net answers i
-    → t < length (second-vectors net answers) → active net (has (at (second-vectors net answers) t) i) ≡ false
+clear-not-active : (net : Network) (owners answers : List ℕ) (i t : ℕ) → i < net .nets → Clear net owners answers i
+    → t < length (second-vectors net owners answers) → active net (has (at (second-vectors net owners answers) t) i) ≡ false
 unfolding second-vectors
-clear-not-active net answers i t l clear lt = ⊎-elim first later (less-or-not t (length (extra-vectors net)))
+clear-not-active net owners answers i t l clear lt = ⊎-elim first later (less-or-not t (length (extra-vectors net)))
   where
     nets : List ℕ
-    nets = unclear net answers
+    nets = unclear net owners answers
 
-    listed : UnclearNets net answers nets
-    listed = unclear-nets net answers
+    listed : UnclearNets net owners answers nets
+    listed = unclear-nets net owners answers
 
     some : length nets ≢ 0
-    some none = absurd (not-suc-le-zero {n = t} (rw (ap length (second-none net answers none)) at lt))
+    some none = absurd (not-suc-le-zero {n = t} (rw (ap length (second-none net owners answers none)) at lt))
 
     first : t < length (extra-vectors net) → active net (has (at (settling-vectors net nets) t) i) ≡ false
     first m =
@@ -131,9 +131,9 @@ gate-cases = record {
   session-record-0 = refl;
   session-answers-1 = refl;
   session-record-1 = refl;
-  clear-held = λ n level answers i t l clear lt.
-      not-false _ (clear-not-active (wired-and n level) answers i t l clear lt);
-  clear-held-or = λ n level answers i t l clear lt. clear-not-active (wired-or n level) answers i t l clear lt;
+  clear-held = λ n level owners answers i t l clear lt.
+      not-false _ (clear-not-active (wired-and n level) owners answers i t l clear lt);
+  clear-held-or = λ n level owners answers i t l clear lt. clear-not-active (wired-or n level) owners answers i t l clear lt;
   sound-pair = refl;
   floating-pair-0 = refl;
   floating-pair-1 = refl;

@@ -1,6 +1,7 @@
 pub mod Responding
 pub mod Diagnosing
 pub mod Findings
+pub mod OwnReceivers
 pub mod Checking
 pub mod Refuting
 pub mod Telling
@@ -23,4 +24,11 @@ pub mod RefutingCalls
 pub mod Tables
 pub mod LevelTable
 pub mod GateTable
+pub mod ReceiverTable
 pub mod FileTables
+pub mod SaidAloneCalls
+pub mod SaidAloneFindings
+pub mod SaidAloneSteps
+pub mod SaidAloneRecords
+pub mod SaidAloneSessions
+pub mod SaidAlone

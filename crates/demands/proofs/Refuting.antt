@@ -4,6 +4,7 @@ use mathlib.Core.Logic.{_≢_}
 use mathlib.Core.List.{List, [], _∷_}
 use Prim.Native.Nat.{ℕ}
 use native.Mathlib.Omega.{arith}
+use lib.ListN.{length}
 use Rattle.words.specs.Answers.{refused, full, Filled, NoneHolds}
 use Rattle.words.specs.Bits.{at}
 use Rattle.words.proofs.Answers.{let-through, table-full, table-not-refused}
@@ -19,13 +20,14 @@ use Rattle.demands.specs.Demand3.{CheckProgram, Judged, Checks}
 use Rattle.demands.specs.Refuted.{passes-all-sets, shows-one-pair, refuses-every-set, writes-nothing, drops-tail}
 use Rattle.demands.specs.Refuted.{writes-when-refused, refuses-every-state, says-14, reads-nothing-back}
 use Rattle.demands.specs.Refuted.{accepts-conflicts, refuses-every-response, Refuted}
-use Rattle.demands.specs.Starred.{two}
+use Rattle.demands.specs.Starred.{own, two}
 use Rattle.demands.specs.Programs.{our-response, our-diagnosis}
 use Rattle.demands.proofs.Responding.{responds, response-determined}
 use Rattle.demands.proofs.Diagnosing.{diagnoses, diagnosis-determined-program}
 use Rattle.demands.proofs.Checking.{checks, pair-not-one}
 use Rattle.demands.proofs.RefutingFindings.{table-as-lent, record-not-written, table-cleared}
-use Rattle.demands.proofs.RefutingSessions.{guessed, second-ignored, counted-itself, refuses-begins, uncounted, no-vectors}
+use Rattle.demands.proofs.RefutingSessions.{own-two, guessed, second-ignored, counted-itself}
+use Rattle.demands.proofs.RefutingSessions.{refuses-begins, uncounted, no-vectors}
 use Rattle.demands.proofs.RefutingCalls.{vectors-cleared, started-again}
 
 -- walking ones with vector 0, and a set without it
@@ -59,13 +61,14 @@ ours-shows = refl
 
 passes-all : ¬ (Checks passes-all-sets)
 passes-all h =
-    pair-not-pass (says check-answer checks too-few (Pair 0 3) ours-shows .passes .1
-    (says passes-all-sets h too-few Pass refl .passes .0 refl))
+    pair-not-pass (says check-answer checks too-few (Pair 0 3) ours-shows .passes (own two) own-two .1
+    (says passes-all-sets h too-few Pass refl .passes (own two) own-two .0 refl))
 
 one-pair : (a b : ℕ) → ¬ (Checks (shows-one-pair a b))
 one-pair a b h =
-    pair-not-one two 2 enough a b (says (shows-one-pair a b) h enough (Pair a b) refl .shows a b refl)
-    (says check-answer checks enough Pass ours-passes .passes .0 refl)
+    pair-not-one two (length (own two)) 2 enough a b
+    (says (shows-one-pair a b) h enough (Pair a b) refl .shows (own two) own-two a b refl)
+    (says check-answer checks enough Pass ours-passes .passes (own two) own-two .0 refl)
 
 refuses-sets : (number : ℕ) → ¬ (Checks (refuses-every-set number))
 refuses-sets number h = table-not-refused (Judged two 2 enough) (SetRows two 2 enough) number admitted (h two 2 enough)
@@ -73,10 +76,11 @@ refuses-sets number h = table-not-refused (Judged two 2 enough) (SetRows two 2 e
 -- ---- responses: the list after the call is not ours
 
 differs : (program : ResponseProgram) (state lent : List ℕ) (i : ℕ)
-    → at (program two 2 enough state lent .list) i ≢ at (our-response two 2 enough state lent .list) i
-    → ¬ (Responds program)
+    → at (program two (own two) 2 enough state lent .list) i
+    ≢ at (our-response two (own two) 2 enough state lent .list) i → ¬ (Responds program)
 differs program state lent i d h =
-    d (ap (λ (f : Filled ℕ). at (f .list) i) (response-determined program our-response h responds two 2 enough state lent))
+    d (ap (λ (f : Filled ℕ). at (f .list) i)
+    (response-determined program our-response h responds two (own two) 2 enough state lent))
 
 unequal : _≢_ {A = ℕ} 9 0
 unequal e = omega arith
@@ -100,8 +104,10 @@ refuses-states number = differs (refuses-every-state number) (2 ∷ 2 ∷ []) (9
 -- ---- diagnoses
 
 unlike : (program : DiagnosisProgram) (responses lent : List ℕ)
-    → program two 2 enough responses lent ≢ our-diagnosis two 2 enough responses lent → ¬ (Diagnoses program)
-unlike program responses lent d h = d (diagnosis-determined-program program our-diagnosis h diagnoses two 2 enough responses lent)
+    → program two (own two) 2 enough responses lent ≢ our-diagnosis two (own two) 2 enough responses lent
+    → ¬ (Diagnoses program)
+unlike program responses lent d h =
+    d (diagnosis-determined-program program our-diagnosis h diagnoses two (own two) 2 enough responses lent)
 
 -- what a call returned, as a number: a refusal, or 99 for a result
 as-number : Filled ℕ → ℕ

@@ -13,7 +13,7 @@ use Rattle.reader.specs.Open.{open-reader}
 use Rattle.demands.specs.SessionCalls.{second}
 use Rattle.demands.specs.Demand1.{read, advance, Demand1}
 use Rattle.demands.specs.Programs.{our-reader, our-sessions}
-use Rattle.demands.specs.Starred.{two}
+use Rattle.demands.specs.Starred.{own, two}
 use Rattle.demands.specs.Refuted.{ours-but, clears-vectors, starts-again}
 
 -- an empty file
@@ -29,4 +29,4 @@ unfolding open-session
 started-again claim =
     ⊎-elim (λ w. let z : _≡_ {A = ℕ} 1 2 = ap (λ (s : Session). s .step) (w .2 .2) in omega arith)
     (λ w. refused-not-full {number = 9} refl (w .1 .4))
-    (claim .each-call (advance (awaiting-second two (3 ∷ 3 ∷ [])) (second [])))
+    (claim .each-call (advance (awaiting-second two (own two) (3 ∷ 3 ∷ [])) (second [])))

@@ -11,7 +11,7 @@ use Rattle.findings.specs.Open.{open-findings}
 use Rattle.demands.specs.FindingsCall.{FindingsProgram, Finds}
 use Rattle.demands.specs.Refuted.{finds-nothing, one-record-short, clears-when-refused}
 use Rattle.demands.specs.Programs.{our-findings}
-use Rattle.demands.specs.Starred.{two}
+use Rattle.demands.specs.Starred.{own, two}
 use Rattle.demands.proofs.Findings.{finds, findings-determined-program}
 
 -- a record that is found on no net, and a table of two
@@ -23,13 +23,13 @@ others = other ∷ other ∷ []
 
 -- the kind in record i of the table after the call
 abbrev kind-after : FindingsProgram → List ℕ → ℕ → ℕ
-kind-after program state i = getD (program two state others .list) i other .kind
+kind-after program state i = getD (program two (own two) state others .list) i other .kind
 
 differs : (program : FindingsProgram) (state : List ℕ) (i : ℕ)
     → kind-after program state i ≢ kind-after our-findings state i → ¬ (Finds program)
 differs program state i d h =
     d (ap (λ (f : Filled Finding). getD (f .list) i other .kind)
-    (findings-determined-program program our-findings h finds two state others))
+    (findings-determined-program program our-findings h finds two (own two) state others))
 
 pub table-as-lent : ¬ (Finds finds-nothing)
 unfolding open-findings

@@ -9,8 +9,10 @@ use lib.ListN.{length}
 use Rattle.words.specs.Answers.{Answer, refused, full, ByTable, NoneHolds}
 use Rattle.words.proofs.Answers.{table-skip, none-front, none-rest}
 use Rattle.network.specs.States.{Fits}
-use Rattle.network.specs.Rows.{SetRows, Row9, HighBit}
-use Rattle.network.proofs.Rows.{admitted-set}
+use Rattle.network.specs.OwnReceivers.{own-receivers}
+use Rattle.network.specs.Rows.{SetRows, BoardSetRows, Row9, HighBit}
+use Rattle.network.proofs.Rows.{admitted-set, admitted-receivers}
+use Rattle.network.proofs.OwnReceivers.{own-size, own-admitted}
 use Rattle.checker.specs.declared.Verdict.{Verdict}
 use Rattle.checker.specs.Rule.{verdict}
 use Rattle.checker.proofs.Verdicts.{verdict-rule, rule-determined}
@@ -28,27 +30,37 @@ use Rattle.demands.proofs.DemandOne.{either}
 
 -- the rows of the reader on responses do not hold, where there are any
 abbrev ResponsesAdmitted : JobContent → Type 0
-ResponsesAdmitted job = (¬ (Row9 (length (job .vectors)) (length (job .responses)))) × (¬ (HighBit (job .network) (job .responses)))
+ResponsesAdmitted job = (¬ (Row9 (length (job .vectors)) (length (job .responses)))) × (¬ (HighBit (job .network .nets) (job .responses)))
 
 module _ (job : JobContent) (admitted : NoneHolds (SetRows (job .network) (job .class) (job .vectors))) where
+  abbrev owners : List ℕ
+  owners = own-receivers (job .network .nets)
+
   abbrev answer : Answer (List ℕ)
-  answer = diagnosis-answer (job .network) (job .class) (job .vectors) (job .responses) 48
+  answer = diagnosis-answer (job .network) owners (job .class) (job .vectors) (job .responses) 48
+
+  most : job .network .nets ≤ 48
+  most = admitted-set (job .network) (job .class) (job .vectors) admitted .most
+
+  -- row 21 lets own receivers through
+  board-admitted : NoneHolds (BoardSetRows (job .network) owners (job .class) (job .vectors))
+  board-admitted = (admitted .0, (admitted-receivers (job .network) owners (own-admitted (job .network) most), admitted .1))
 
   diagnosed : job .responses ≢ [] → ResponsesAdmitted job → Follows job (diagnosis-text (job .network) answer)
   diagnosed some fine =
-      go (table-skip (Fits (job .network) (job .class) (job .vectors) (job .responses)) (SetRows (job .network) (job .class) (job .vectors))
-      (OwnRows (job .network) (job .class) (job .vectors) (job .responses) 48) answer admitted
-      (diagnosis-by-table (job .network) (job .class) (job .vectors) (job .responses) 48))
+      go (subst (λ (m : ℕ). ByTable (OwnRows (job .network) m (job .class) (job .vectors) (job .responses) 48)
+      (Fits (job .network) m (job .class) (job .vectors) (job .responses)) answer) (own-size (job .network .nets))
+      (table-skip (Fits (job .network) (length owners) (job .class) (job .vectors) (job .responses))
+      (BoardSetRows (job .network) owners (job .class) (job .vectors))
+      (OwnRows (job .network) (length owners) (job .class) (job .vectors) (job .responses) 48) answer board-admitted
+      (diagnosis-by-table (job .network) owners (job .class) (job .vectors) (job .responses) 48)))
     where
       says : (a : Answer (List ℕ)) → answer ≡ a → Follows job (diagnosis-text (job .network) a)
           → Follows job (diagnosis-text (job .network) answer)
       says a e f = subst (λ (b : Answer (List ℕ)). Follows job (diagnosis-text (job .network) b)) (sym e) f
 
-      most : job .network .nets ≤ 48
-      most = admitted-set (job .network) (job .class) (job .vectors) admitted .most
-
-      go : ByTable (OwnRows (job .network) (job .class) (job .vectors) (job .responses) 48)
-          (Fits (job .network) (job .class) (job .vectors) (job .responses)) answer
+      go : ByTable (OwnRows (job .network) (job .network .nets) (job .class) (job .vectors) (job .responses) 48)
+          (Fits (job .network) (job .network .nets) (job .class) (job .vectors) (job .responses)) answer
           → Follows job (diagnosis-text (job .network) answer)
       go (inl (nine, e)) = absurd (fine .0 nine)
       go (inr (_, inl (ten, e))) = absurd (fine .1 ten)
@@ -67,7 +79,7 @@ module _ (job : JobContent) (admitted : NoneHolds (SetRows (job .network) (job .
       go (word ∷ words) e =
           let some : job .responses ≢ [] = λ none. let z : _≡_ {A = ℕ} 0 1 = cc in omega arith in
           subst (λ (r : List ℕ). Follows job
-          (diagnosis-text (job .network) (diagnosis-answer (job .network) (job .class) (job .vectors) r 48))) e
+          (diagnosis-text (job .network) (diagnosis-answer (job .network) owners (job .class) (job .vectors) r 48))) e
           (diagnosed some (fine some))
 
 -- a file with responses has a third entry
@@ -147,7 +159,7 @@ module _ (job : JobContent) (admitted : NoneHolds (SetRows (job .network) (job .
   follows-determined _ _ (a-line-a-net some passed state fits) (no-state more again other) = absurd (other (state, fits))
   follows-determined _ _ (a-line-a-net some passed state fits) (a-line-a-net more again other gives) =
       ap (λ (s : List ℕ). net-lines (job .network) s 0 (job .network .nets))
-      (apart-one-fits (job .network) (job .class) (job .vectors)
+      (apart-one-fits (job .network) (job .network .nets) (job .class) (job .vectors)
       (passed-apart (job .network) (job .class) (job .vectors)
       (admitted-set (job .network) (job .class) (job .vectors) admitted) passed)
       (job .responses) state other fits gives)

@@ -12,16 +12,18 @@ use Rattle.demands.specs.Demand2.{ResponseProgram, Responds}
 use Rattle.demands.specs.Programs.{our-response}
 
 pub responds : Responds our-response
-responds net k vectors state lent = record {
-  answer = response-answer net k vectors state (length lent);
-  allowed = response-by-table net k vectors state (length lent);
+responds net owners k vectors state lent = record {
+  answer = response-answer net owners k vectors state (length lent);
+  allowed = response-by-table net owners k vectors state (length lent);
   returned = refl;
   list = refl;
 }
 
-pub response-determined : (p q : ResponseProgram) → Responds p → Responds q → (net : Network) (k : ℕ) (vectors state lent : List ℕ)
-    → p net k vectors state lent ≡ q net k vectors state lent
-response-determined p q f g net k vectors state lent =
-    fills-determined (ResponseRows net k vectors state (length lent)) (Response net state vectors) lent
-    (p net k vectors state lent) (q net k vectors state lent)
-    (response-answer-determined net k vectors state (length lent)) (f net k vectors state lent) (g net k vectors state lent)
+pub response-determined : (p q : ResponseProgram) → Responds p → Responds q
+    → (net : Network) (owners : List ℕ) (k : ℕ) (vectors state lent : List ℕ)
+    → p net owners k vectors state lent ≡ q net owners k vectors state lent
+response-determined p q f g net owners k vectors state lent =
+    fills-determined (ResponseRows net owners k vectors state (length lent)) (Response net state vectors) lent
+    (p net owners k vectors state lent) (q net owners k vectors state lent)
+    (response-answer-determined net owners k vectors state (length lent)) (f net owners k vectors state lent)
+    (g net owners k vectors state lent)

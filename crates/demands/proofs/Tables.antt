@@ -1,6 +1,8 @@
 -- The starred cases, the bounds and the cases of partners, by computation; and that nothing is left open.
 use mathlib.Core.Path.{_≡_, refl, subst₂}
 use mathlib.Core.List.{[], _∷_}
+use Rattle.words.specs.Turning.{tabulate}
+use Rattle.network.specs.OwnReceivers.{own-receivers}
 use Rattle.findings.specs.Open.{open-findings}
 use Rattle.session.specs.declared.Session.{Session}
 use Rattle.session.specs.Record.{finished}
@@ -9,12 +11,13 @@ use Rattle.demands.specs.SessionCalls.{History, finished-second, history
 use Rattle.demands.specs.Demand3.{Ended}
 use Rattle.demands.specs.Programs.{our-sessions}
 use Rattle.demands.specs.Determined.{Determined}
-use Rattle.demands.specs.Starred.{four, junk, four-calls, Starred}
+use Rattle.demands.specs.Starred.{own, four, junk, four-calls, Starred}
 use Rattle.demands.specs.Boundary.{Boundary}
 use Rattle.demands.specs.PartnerCases.{PartnerCases}
 use Rattle.demands.proofs.Sessions.{sessions}
 use Rattle.demands.proofs.Responding.{response-determined}
 use Rattle.demands.proofs.Diagnosing.{diagnosis-determined-program}
+use Rattle.demands.proofs.OwnReceivers.{own-determined-program}
 use Rattle.demands.proofs.Findings.{findings-determined-program}
 use Rattle.demands.proofs.Checking.{check-determined-program}
 use Rattle.demands.proofs.SessionsAlike.{sessions-determined}
@@ -24,11 +27,12 @@ use Rattle.demands.proofs.Reporting.{report-determined}
 
 -- demand 3's theorem at the end of the starred session
 abbrev ended-history : History
-ended-history = finished-second four (11 ∷ 5 ∷ 6 ∷ 8 ∷ []) (15 ∷ 7 ∷ 7 ∷ 12 ∷ []) (0 ∷ 1 ∷ 2 ∷ 4 ∷ []) (4 ∷ 7 ∷ 7 ∷ 4 ∷ [])
+ended-history = finished-second four (own four) (11 ∷ 5 ∷ 6 ∷ 8 ∷ []) (15 ∷ 7 ∷ 7 ∷ 12 ∷ []) (0 ∷ 1 ∷ 2 ∷ 4 ∷ []) (4 ∷ 7 ∷ 7 ∷ 4 ∷ [])
 
 four-ended : history our-sessions junk four-calls ≡ ended-history
-    → record-after our-sessions junk four-calls ≡ finished four (3 ∷ 3 ∷ 0 ∷ 8 ∷ []) 8
+    → record-after our-sessions junk four-calls ≡ finished four (own four) (3 ∷ 3 ∷ 0 ∷ 8 ∷ []) 8
     → OnlyFit ended-history (3 ∷ 3 ∷ 0 ∷ 8 ∷ [])
+unfolding own-receivers tabulate
 four-ended h r =
     subst₂ (λ (x : History) (s : Session). Ended x s) h r (sessions junk four-calls .ended) .state
 
@@ -152,6 +156,7 @@ partner-cases = record {
 
 pub determined : Determined
 determined = record {
+  own-receivers = own-determined-program;
   response = response-determined;
   check = check-determined-program;
   diagnosis = diagnosis-determined-program;

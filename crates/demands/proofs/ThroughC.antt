@@ -6,25 +6,24 @@ use mathlib.Core.Path.{_≡_, refl, sym, ap, _∙_, subst}
 use mathlib.Core.Bool.{Bool, true, false, cond}
 use mathlib.Core.List.{List, [], _∷_}
 use lib.Dec.{eqb, leb}
-use lib.ListN.{length, take}
+use lib.ListN.{length, take, length-map}
 use lib.Seq.{length-take-le}
 use Rattle.words.specs.Bits.{at}
 use Rattle.words.specs.Answers.{Answer, refused, full, by-tests, lent-after}
 use Rattle.words.proofs.Answers.{none-passed, Numbered}
-use Rattle.words.proofs.Columns.{length-tabulate}
 use Rattle.network.specs.declared.Network.{Network}
-use Rattle.network.proofs.Rows.{nets-admitted}
+use Rattle.network.proofs.Rows.{nets-admitted, receivers-of-board}
 use Rattle.diagnosis.specs.ReadBack.{read-back}
 use Rattle.diagnosis.proofs.ReadingBack.{read-size}
 use Rattle.steps.specs.FirstStep.{first-vectors}
 use Rattle.steps.specs.SecondStep.{unclear, second-vectors, fault-free-state}
 use Rattle.steps.proofs.StepOneWords.{length-bounds, first-size}
 use Rattle.session.specs.declared.Session.{Session}
-use Rattle.session.specs.Record.{held-answers, awaits-first, awaits-second}
+use Rattle.session.specs.Record.{held-owners, held-answers, awaits-first, awaits-second}
 use Rattle.session.specs.Calls.{begin-answer, stepped, first-answer, answered-by, vectors-driven, all-answers, second-answer}
 use Rattle.session.specs.Drive.{front, to-drive}
 use Rattle.session.proofs.Padding.{pad-size}
-use Rattle.session.proofs.Records.{awaits-first-step, awaits-first-is, awaits-second-step, awaits-second-network}
+use Rattle.session.proofs.Records.{awaits-first-step, awaits-first-board, awaits-second-step, awaits-second-board}
 use Rattle.packing.specs.Packed.{session-size, session-words, session-of}
 use Rattle.packing.proofs.Words.{Sized, session-sized, words-size, session-back}
 use Rattle.exports.specs.Exported.{code, in-words, fixed-after}
@@ -32,46 +31,66 @@ use Rattle.exports.proofs.CallLaws.{stepped-words}
 use Rattle.demands.specs.SessionCalls.{Call, begin, first, second, lent}
 use Rattle.demands.specs.Programs.{our-answer, our-new, our-sessions}
 use Rattle.demands.specs.ThroughC.{exported-answer, exported-session, exported, SameInWords, SessionsThroughC}
+use Rattle.demands.proofs.Telling.{begin-in}
 
--- ---- accepted calls leave records with arrays of 8 and 48 words
+-- ---- accepted calls leave records with arrays of 64, 8 and 64 words
 
-answered-sized : (net : Network) (answers nets : List ℕ) → length answers ≤ 8 → net .nets ≤ 48 → Sized (answered-by net answers nets)
+answered-sized : (net : Network) (owners answers nets : List ℕ) → length answers ≤ 8 → length owners ≤ 64
+    → Sized (answered-by net owners answers nets)
 unfolding fault-free-state
-answered-sized net answers [] few most = record {
+answered-sized net owners answers [] few most = record {
+  owners-size = pad-size 64 owners most;
   first-size = refl;
-  reaches-size = pad-size 48 (fault-free-state net) (omega (arith, most, length-tabulate (net .nets) (λ i. 2 ^ i)));
+  reaches-size = pad-size 64 (fault-free-state owners) (omega (arith, most, length-map owners (λ i. 2 ^ i)));
 }
-answered-sized net answers (i ∷ nets) few most = record { first-size = pad-size 8 answers few; reaches-size = refl }
+answered-sized net owners answers (i ∷ nets) few most = record {
+  owners-size = pad-size 64 owners most;
+  first-size = pad-size 8 answers few;
+  reaches-size = refl;
+}
 
 new-sized : (session : Session) (call : Call) (words : List ℕ) → our-answer session call ≡ full words → Sized (our-new session call)
 unfolding first-answer second-answer
-new-sized session (begin net list) words e = record { first-size = refl; reaches-size = refl }
+new-sized session (begin net owners list) words e = record {
+  owners-size = pad-size 64 owners (receivers-of-board net owners (begin-in session net owners list words e .admitted) .most);
+  first-size = refl;
+  reaches-size = refl;
+}
 new-sized session (first answers list) words e =
     let net = session .network in
+    let owners = held-owners session in
     let rows = none-passed _ _ words e .0 in
-    let nets = nets-admitted net (awaits-first-is session (not-false _ (rows .0)) .1 .0) in
+    let board = awaits-first-board session (not-false _ (rows .0)) in
+    let nets = nets-admitted net (board .admitted .0) in
     let size : length answers ≡ length (first-vectors net) = eqb-true _ _ (not-false _ (rows .1 .0)) in
-    answered-sized net answers (unclear net answers)
-    (omega (arith, size, first-size net, length-bounds net (nets .0) (nets .1) .1)) (nets .1)
+    answered-sized net owners answers (unclear net owners answers)
+    (omega (arith, size, first-size net, length-bounds net (nets .0) (nets .1) .1)) (omega (arith, board .count, board .few))
 new-sized session (second answers) words e =
     let net = session .network in
-    let nets = nets-admitted net (awaits-second-network session (not-false _ (none-passed _ _ words e .0 .0)) .0) in
-    let state = read-back net (net .nets) (vectors-driven session) (all-answers session answers) in
-    let one-a-net : length state ≡ net .nets = read-size net (net .nets) (vectors-driven session) (all-answers session answers) in
-    record { first-size = refl; reaches-size = pad-size 48 state (omega (arith, nets .1, one-a-net)) }
+    let owners = held-owners session in
+    let board = awaits-second-board session (not-false _ (none-passed _ _ words e .0 .0)) in
+    let few : length owners ≤ 64 = omega (arith, board .count, board .few) in
+    let state = read-back net (length owners) (net .nets) (vectors-driven session) (all-answers session answers) in
+    let one-a-receiver : length state ≡ length owners =
+    read-size net (length owners) (net .nets) (vectors-driven session) (all-answers session answers) in
+    record {
+      owners-size = pad-size 64 owners few;
+      first-size = refl;
+      reaches-size = pad-size 64 state (omega (arith, few, one-a-receiver));
+    }
 
 -- ---- one call
 
 -- what the interface says of the words is what the call does on their record
 answered : (words : List ℕ) (call : Call) → exported-answer words call ≡ our-answer (session-of words) call
-answered words (begin net list) = refl
+answered words (begin net owners list) = refl
 answered words (first answers list) = refl
 answered words (second answers) = refl
 
 session-is : (words : List ℕ) (call : Call)
     → exported-session words call
     ≡ in-words (λ _. session-words (our-sessions (session-of words) call .session)) (our-answer (session-of words) call)
-session-is words (begin net list) = refl
+session-is words (begin net owners list) = refl
 session-is words (first answers list) = refl
 session-is words (second answers) = refl
 
@@ -116,8 +135,11 @@ zero-full ((number, test) ∷ tests) x (n, more) e = go test e (zero-full tests 
 zero-accepted : (session : Session) (call : Call) → code (our-answer session call) ≡ 0
     → (written : List ℕ) × (our-answer session call ≡ full written)
 unfolding begin-answer first-answer second-answer
-zero-accepted session (begin net list) e =
-    (_, zero-full _ _ (λ q. omega (arith, q), (λ q. omega (arith, q), (λ q. omega (arith, q), (λ q. omega (arith, q), tt)))) e)
+zero-accepted session (begin net owners list) e = (
+  _,
+  zero-full _ _
+      (λ q. omega (arith, q), (λ q. omega (arith, q), (λ q. omega (arith, q), (λ q. omega (arith, q), (λ q. omega (arith, q), tt))))) e,
+)
 zero-accepted session (first answers list) e =
     (_, zero-full _ _ (λ q. omega (arith, q), (λ q. omega (arith, q), (λ q. omega (arith, q), (λ q. omega (arith, q), tt)))) e)
 zero-accepted session (second answers) e =
@@ -137,7 +159,7 @@ module _ (s : Session) (one two : List ℕ) where
   first-part = front (length (first-vectors (s .network))) one
 
   abbrev second-part : List ℕ
-  second-part = front (length (second-vectors (s .network) (held-answers s))) two
+  second-part = front (length (second-vectors (s .network) (held-owners s) (held-answers s))) two
 
   drive-part : take (length (to-drive s one two)) (cond (eqb (s .step) 1) one two) ≡ to-drive s one two
   unfolding to-drive
@@ -148,7 +170,7 @@ module _ (s : Session) (one two : List ℕ) where
           ≡ cond a first-part (cond b second-part [])
       go true b e f = rw (ap (λ (n : ℕ). eqb n 1) (awaits-first-step s e)) (front-part (length (first-vectors (s .network))) one)
       go false true e f = rw (ap (λ (n : ℕ). eqb n 1) (awaits-second-step s f))
-          (front-part (length (second-vectors (s .network) (held-answers s))) two)
+          (front-part (length (second-vectors (s .network) (held-owners s) (held-answers s))) two)
       go false false e f = refl
 
 step-is : (words : List ℕ) → session-of words .step ≡ at words 0

@@ -1,5 +1,6 @@
 -- Inputs on both sides of each bound of rows 4 to 14, for the calls other than the reader and the writer. Theirs are in
--- FileBounds.antt, those of row 17 in LevelCases.antt, and those of row 20 in GateCases.antt.
+-- FileBounds.antt, those of row 17 in LevelCases.antt, those of row 20 in GateCases.antt, and those of row 21
+-- in ReceiverCases.antt.
 use Prim.Native.Nat.{ℕ, _-_, _^_}
 use mathlib.Core.Path.{_≡_}
 use mathlib.Core.List.{List, [], _∷_}
@@ -11,21 +12,35 @@ use Rattle.checker.specs.declared.Verdict.the-variants.{Pass, Pair}
 use Rattle.diagnosis.specs.Diagnosis.{diagnosis-answer}
 use Rattle.findings.specs.declared.Finding.{Finding}
 use Rattle.findings.specs.FindingsTable.{findings-answer}
+use Rattle.session.specs.declared.Session.{Session}
 use Rattle.session.specs.Record.{awaiting-first, awaiting-second}
 use Rattle.session.specs.Calls.{begin-answer, first-answer, second-answer}
-use Rattle.demands.specs.Starred.{check, respond, diagnose, two}
+use Rattle.demands.specs.Starred.{own, check, respond, diagnose, two}
 
 -- *response from a state* with this much room
 abbrev pub respond-into : ℕ → Answer (List ℕ)
-respond-into room = response-answer (network-of 4) 4 (0 ∷ 1 ∷ 2 ∷ 4 ∷ 8 ∷ []) (3 ∷ 3 ∷ 0 ∷ 8 ∷ []) room
+respond-into room = response-answer (network-of 4) (own (network-of 4)) 4 (0 ∷ 1 ∷ 2 ∷ 4 ∷ 8 ∷ []) (3 ∷ 3 ∷ 0 ∷ 8 ∷ []) room
 
 -- *diagnosis* over walking ones with this much room
 abbrev pub diagnose-into : List ℕ → ℕ → Answer (List ℕ)
-diagnose-into responses room = diagnosis-answer (network-of 4) 4 (0 ∷ 1 ∷ 2 ∷ 4 ∷ 8 ∷ []) responses room
+diagnose-into responses room = diagnosis-answer (network-of 4) (own (network-of 4)) 4 (0 ∷ 1 ∷ 2 ∷ 4 ∷ 8 ∷ []) responses room
 
 -- *findings* of n nets with this much room
 abbrev pub find-into : ℕ → (state : List ℕ) → ℕ → Answer (List Finding)
-find-into n state room = findings-answer (network-of n) state room
+find-into n state room = findings-answer (network-of n) (own (network-of n)) state room
+
+-- a record of two nets with a receiver each
+abbrev pub two-record : (step : ℕ) (first reaches : List ℕ) (spent : ℕ) → Session
+two-record step first reaches spent =
+    record {
+      step = step;
+      network = two;
+      receivers = 2;
+      owners = 0 ∷ 1 ∷ replicate 62 0;
+      first = first;
+      reaches = reaches;
+      spent = spent;
+    }
 
 pub record Boundary : Type 0 where
   -- row 5: n
@@ -73,39 +88,39 @@ pub record Boundary : Type 0 where
   pub find-state-long : find-into 2 (1 ∷ 2 ∷ 0 ∷ []) 3 ≡ refused 11
   pub find-room-1 : find-into 2 (2 ∷ 2 ∷ []) 1 ≡ refused 12
   -- *begin*: row 5, n; row 12, the room
-  pub begin-1 : begin-answer (network-of 1) 8 ≡ refused 5
-  pub begin-2 : begin-answer two 2 ≡ full (1 ∷ 2 ∷ [])
-  pub begin-2-short : begin-answer two 1 ≡ refused 12
-  pub begin-48 : count-of (begin-answer (network-of 48) 8) ≡ full 8
-  pub begin-48-short : begin-answer (network-of 48) 7 ≡ refused 12
-  pub begin-49 : begin-answer (network-of 49) 8 ≡ refused 5
+  pub begin-1 : begin-answer (network-of 1) (own (network-of 1)) 8 ≡ refused 5
+  pub begin-2 : begin-answer two (own two) 2 ≡ full (1 ∷ 2 ∷ [])
+  pub begin-2-short : begin-answer two (own two) 1 ≡ refused 12
+  pub begin-48 : count-of (begin-answer (network-of 48) (own (network-of 48)) 8) ≡ full 8
+  pub begin-48-short : begin-answer (network-of 48) (own (network-of 48)) 7 ≡ refused 12
+  pub begin-49 : begin-answer (network-of 49) (own (network-of 49)) 8 ≡ refused 5
   -- *first answers*: row 9, as many as vectors; row 10, a bit at n; row 12, the room, which only unclear nets need
-  pub one-answer-short : first-answer (awaiting-first two) (3 ∷ []) 3 ≡ refused 9
-  pub one-answer-more : first-answer (awaiting-first two) (3 ∷ 3 ∷ 3 ∷ []) 3 ≡ refused 9
-  pub answer-at : first-answer (awaiting-first two) (3 ∷ 4 ∷ []) 3 ≡ refused 10
-  pub second-room-2 : first-answer (awaiting-first two) (3 ∷ 3 ∷ []) 2 ≡ refused 12
-  pub second-room-3 : first-answer (awaiting-first two) (3 ∷ 3 ∷ []) 3 ≡ full (0 ∷ 1 ∷ 2 ∷ [])
-  pub all-clear : first-answer (awaiting-first two) (1 ∷ 2 ∷ []) 0 ≡ full []
+  pub one-answer-short : first-answer (awaiting-first two (own two)) (3 ∷ []) 3 ≡ refused 9
+  pub one-answer-more : first-answer (awaiting-first two (own two)) (3 ∷ 3 ∷ 3 ∷ []) 3 ≡ refused 9
+  pub answer-at : first-answer (awaiting-first two (own two)) (3 ∷ 4 ∷ []) 3 ≡ refused 10
+  pub second-room-2 : first-answer (awaiting-first two (own two)) (3 ∷ 3 ∷ []) 2 ≡ refused 12
+  pub second-room-3 : first-answer (awaiting-first two (own two)) (3 ∷ 3 ∷ []) 3 ≡ full (0 ∷ 1 ∷ 2 ∷ [])
+  pub all-clear : first-answer (awaiting-first two (own two)) (1 ∷ 2 ∷ []) 0 ≡ full []
   -- *second answers*: row 9; row 10; row 14, also where no state explains the first answers
-  pub second-answer-short : second-answer (awaiting-second two (3 ∷ 3 ∷ [])) (3 ∷ 3 ∷ []) ≡ refused 9
-  pub second-answer-at : second-answer (awaiting-second two (3 ∷ 3 ∷ [])) (3 ∷ 3 ∷ 4 ∷ []) ≡ refused 10
-  pub unlike-reaches : second-answer (awaiting-second two (3 ∷ 3 ∷ [])) (0 ∷ 3 ∷ 1 ∷ []) ≡ refused 14
-  pub unexplained : first-answer (awaiting-first two) (0 ∷ 0 ∷ []) 3 ≡ full (0 ∷ 1 ∷ 2 ∷ [])
-  pub unexplained-after : second-answer (awaiting-second two (0 ∷ 0 ∷ [])) (0 ∷ 1 ∷ 2 ∷ []) ≡ refused 14
+  pub second-answer-short : second-answer (awaiting-second two (own two) (3 ∷ 3 ∷ [])) (3 ∷ 3 ∷ []) ≡ refused 9
+  pub second-answer-at : second-answer (awaiting-second two (own two) (3 ∷ 3 ∷ [])) (3 ∷ 3 ∷ 4 ∷ []) ≡ refused 10
+  pub unlike-reaches : second-answer (awaiting-second two (own two) (3 ∷ 3 ∷ [])) (0 ∷ 3 ∷ 1 ∷ []) ≡ refused 14
+  pub unexplained : first-answer (awaiting-first two (own two)) (0 ∷ 0 ∷ []) 3 ≡ full (0 ∷ 1 ∷ 2 ∷ [])
+  pub unexplained-after : second-answer (awaiting-second two (own two) (0 ∷ 0 ∷ [])) (0 ∷ 1 ∷ 2 ∷ []) ≡ refused 14
   -- row 4: junk in an unused entry of the record
   pub junk-spent : first-answer
-      (record { step = 1; network = two; first = replicate 8 0; reaches = replicate 48 0; spent = 1 })
+      (two-record 1 (replicate 8 0) (replicate 64 0) 1)
       (1 ∷ 2 ∷ []) 3 ≡ refused 4
   pub junk-first : first-answer
-      (record { step = 1; network = two; first = 1 ∷ replicate 7 0; reaches = replicate 48 0; spent = 0 })
+      (two-record 1 (1 ∷ replicate 7 0) (replicate 64 0) 0)
       (1 ∷ 2 ∷ []) 3 ≡ refused 4
   pub junk-reach : second-answer
-      (record { step = 2; network = two; first = 3 ∷ 3 ∷ replicate 6 0; reaches = 1 ∷ replicate 47 0; spent = 0 })
+      (two-record 2 (3 ∷ 3 ∷ replicate 6 0) (1 ∷ replicate 63 0) 0)
       (3 ∷ 3 ∷ 3 ∷ []) ≡ refused 4
   pub junk-none : second-answer
-      (record { step = 2; network = two; first = 3 ∷ 3 ∷ replicate 6 0; reaches = replicate 48 0; spent = 0 })
+      (two-record 2 (3 ∷ 3 ∷ replicate 6 0) (replicate 64 0) 0)
       (3 ∷ 3 ∷ 3 ∷ []) ≡ full []
   -- a record that holds answers which leave no net unclear is left by no calls
   pub nothing-unclear : second-answer
-      (record { step = 2; network = two; first = 1 ∷ 2 ∷ replicate 6 0; reaches = replicate 48 0; spent = 0 }) []
+      (two-record 2 (1 ∷ 2 ∷ replicate 6 0) (replicate 64 0) 0) []
       ≡ refused 4

@@ -11,6 +11,7 @@ use Rattle.network.specs.Reading.{Response}
 use Rattle.network.specs.States.{Fits}
 use Rattle.network.specs.Rows.{SetRows, Row9, HighBit, Row12}
 use Rattle.network.specs.Respond.{ResponseRows}
+use Rattle.network.specs.OwnReceivers.{OwnReceivers, OwnReceiversRows}
 use Rattle.checker.specs.declared.Verdict.{Verdict}
 use Rattle.checker.specs.Rule.{Rule}
 use Rattle.diagnosis.specs.Diagnosis.{DiagnosisRows}
@@ -21,6 +22,7 @@ use Rattle.reader.specs.Reader.{ReaderRows, content}
 use Rattle.writer.specs.Writer.{WriterRows, file-of}
 use Rattle.demands.specs.Demand2.{ResponseProgram, DiagnosisProgram}
 use Rattle.demands.specs.FindingsCall.{FindingsProgram}
+use Rattle.demands.specs.OwnReceiversCall.{OwnReceiversProgram}
 use Rattle.demands.specs.JobFiles.{WriterProgram, ReadDone, ReaderProgram}
 use Rattle.demands.specs.SessionCalls.{Call, begin, first, second, lent, SessionProgram, History, none}
 use Rattle.demands.specs.SessionCalls.{waits-first, waits-second, finished-first, finished-second, accepted}
@@ -32,10 +34,12 @@ use Rattle.demands.specs.SessionRecords.{WaitsFor, DriveProgram, DrivesN
 
 -- a public call, with all that it takes and is lent
 pub data PublicCall : Type 0 where
+  own : (nets : ℕ) (list : List ℕ) → PublicCall
   check : (net : Network) (k : ℕ) (vectors : List ℕ) → PublicCall
-  respond : (net : Network) (k : ℕ) (vectors state list : List ℕ) → PublicCall
-  diagnose : (net : Network) (k : ℕ) (vectors responses list : List ℕ) → PublicCall
-  find : (net : Network) (state : List ℕ) (table : List Finding) → PublicCall
+  -- in the next three, and in begin, `owners` has the net of each receiver
+  respond : (net : Network) (owners : List ℕ) (k : ℕ) (vectors state list : List ℕ) → PublicCall
+  diagnose : (net : Network) (owners : List ℕ) (k : ℕ) (vectors responses list : List ℕ) → PublicCall
+  find : (net : Network) (owners state : List ℕ) (table : List Finding) → PublicCall
   read : (file vectors responses : List ℕ) → PublicCall
   write : (net : Network) (k : ℕ) (vectors responses file : List ℕ) → PublicCall
   -- begin, first answers, second answers
@@ -45,6 +49,7 @@ pub data PublicCall : Type 0 where
 
 -- a program for each
 pub record Programs : Type 0 where
+  pub owns : OwnReceiversProgram
   pub checks : CheckProgram
   pub responds : ResponseProgram
   pub diagnoses : DiagnosisProgram
@@ -59,18 +64,18 @@ pub record Programs : Type 0 where
 -- the answers that a session waits for are as many as these vectors
 abbrev pub awaited-vectors : History → List ℕ
 awaited-vectors none = []
-awaited-vectors (waits-first net v1) = v1
-awaited-vectors (waits-second net v1 r1 v2) = v2
-awaited-vectors (finished-first net v1 r1 v2) = []
-awaited-vectors (finished-second net v1 r1 v2 r2) = []
+awaited-vectors (waits-first net owners v1) = v1
+awaited-vectors (waits-second net owners v1 r1 v2) = v2
+awaited-vectors (finished-first net owners v1 r1 v2) = []
+awaited-vectors (finished-second net owners v1 r1 v2 r2) = []
 
--- a word with a bit at or above the session's n
+-- a word with a bit at or above the session's m
 abbrev pub SessionHighBit : History → List ℕ → Type 0
 SessionHighBit none answers = ⊥
-SessionHighBit (waits-first net v1) answers = HighBit net answers
-SessionHighBit (waits-second net v1 r1 v2) answers = HighBit net answers
-SessionHighBit (finished-first net v1 r1 v2) answers = HighBit net answers
-SessionHighBit (finished-second net v1 r1 v2 r2) answers = HighBit net answers
+SessionHighBit (waits-first net owners v1) answers = HighBit (length owners) answers
+SessionHighBit (waits-second net owners v1 r1 v2) answers = HighBit (length owners) answers
+SessionHighBit (finished-first net owners v1 r1 v2) answers = HighBit (length owners) answers
+SessionHighBit (finished-second net owners v1 r1 v2 r2) answers = HighBit (length owners) answers
 
 -- in a session whose accepted calls leave the record
 abbrev pub InSession : SessionProgram → Session → (History → Type 0) → Type 0
@@ -85,7 +90,7 @@ AnswerRows program session call answers =
     ∷ []
 
 abbrev pub SessionRows : SessionProgram → Session → Call → List (ℕ × Type 0)
-SessionRows program session (begin net list) = BeginRows net list
+SessionRows program session (begin net owners list) = BeginRows net owners list
 SessionRows program session (first answers list) =
     AnswerRows program session (first answers list) answers
     ++ (12, InSession program session (λ h. Row12 (length (second-words h answers)) (length list))) ∷ []
@@ -95,10 +100,11 @@ SessionRows program session (second answers) =
     ∷ []
 
 abbrev pub Rows : Programs → PublicCall → List (ℕ × Type 0)
+Rows p (own nets list) = OwnReceiversRows nets (length list)
 Rows p (check net k vectors) = SetRows net k vectors
-Rows p (respond net k vectors state list) = ResponseRows net k vectors state (length list)
-Rows p (diagnose net k vectors responses list) = DiagnosisRows net k vectors responses (length list)
-Rows p (find net state table) = FindingsRows net state (length table)
+Rows p (respond net owners k vectors state list) = ResponseRows net owners k vectors state (length list)
+Rows p (diagnose net owners k vectors responses list) = DiagnosisRows net owners k vectors responses (length list)
+Rows p (find net owners state table) = FindingsRows net owners state (length table)
 Rows p (read file vectors responses) = ReaderRows file (length vectors) (length responses)
 Rows p (write net k vectors responses file) = WriterRows net k vectors responses (length file)
 Rows p (advance session call) = SessionRows (p .advances) session call
@@ -106,15 +112,16 @@ Rows p (drive session one two) = []
 
 -- their numbers, as documents 01 and 02 list them
 abbrev pub session-numbers : Call → List ℕ
-session-numbers (begin net list) = 5 ∷ 17 ∷ 20 ∷ 12 ∷ []
+session-numbers (begin net owners list) = 5 ∷ 21 ∷ 17 ∷ 20 ∷ 12 ∷ []
 session-numbers (first answers list) = 4 ∷ 9 ∷ 10 ∷ 12 ∷ []
 session-numbers (second answers) = 4 ∷ 9 ∷ 10 ∷ 14 ∷ []
 
 abbrev pub numbers : PublicCall → List ℕ
+numbers (own nets list) = 5 ∷ 12 ∷ []
 numbers (check net k vectors) = 5 ∷ 6 ∷ 17 ∷ 20 ∷ 7 ∷ 8 ∷ []
-numbers (respond net k vectors state list) = 5 ∷ 6 ∷ 17 ∷ 20 ∷ 7 ∷ 8 ∷ 11 ∷ 12 ∷ []
-numbers (diagnose net k vectors responses list) = 5 ∷ 6 ∷ 17 ∷ 20 ∷ 7 ∷ 8 ∷ 9 ∷ 10 ∷ 12 ∷ 13 ∷ 14 ∷ []
-numbers (find net state table) = 5 ∷ 17 ∷ 20 ∷ 11 ∷ 12 ∷ []
+numbers (respond net owners k vectors state list) = 5 ∷ 21 ∷ 6 ∷ 17 ∷ 20 ∷ 7 ∷ 8 ∷ 11 ∷ 12 ∷ []
+numbers (diagnose net owners k vectors responses list) = 5 ∷ 21 ∷ 6 ∷ 17 ∷ 20 ∷ 7 ∷ 8 ∷ 9 ∷ 10 ∷ 12 ∷ 13 ∷ 14 ∷ []
+numbers (find net owners state table) = 5 ∷ 21 ∷ 17 ∷ 20 ∷ 11 ∷ 12 ∷ []
 numbers (read file vectors responses) = 1 ∷ 2 ∷ 3 ∷ 5 ∷ 6 ∷ 17 ∷ 20 ∷ 7 ∷ 8 ∷ 9 ∷ 10 ∷ 12 ∷ []
 numbers (write net k vectors responses file) = 5 ∷ 6 ∷ 17 ∷ 20 ∷ 7 ∷ 8 ∷ 9 ∷ 10 ∷ 12 ∷ []
 numbers (advance session call) = session-numbers call
@@ -148,7 +155,7 @@ FullRead file vectors responses did =
 
 -- an accepted call leaves the record in the session that it makes of the one before; begin takes any record
 abbrev pub Before : SessionProgram → Session → Call → History → Type 0
-Before program session (begin net list) h = Unit {0}
+Before program session (begin net owners list) h = Unit {0}
 Before program session (first answers list) h = LeftBy program h session
 Before program session (second answers) h = LeftBy program h session
 
@@ -165,10 +172,12 @@ FullAdvance program session call =
 
 -- this number, and all memory lent as it was
 abbrev pub RefusedWith : Programs → PublicCall → ℕ → Type 0
+RefusedWith p (own nets list) number = RefusedFill list (p .owns nets list) number
 RefusedWith p (check net k vectors) number = p .checks net k vectors ≡ refused number
-RefusedWith p (respond net k vectors state list) number = RefusedFill list (p .responds net k vectors state list) number
-RefusedWith p (diagnose net k vectors responses list) number = RefusedFill list (p .diagnoses net k vectors responses list) number
-RefusedWith p (find net state table) number = RefusedFill table (p .finds net state table) number
+RefusedWith p (respond net owners k vectors state list) number = RefusedFill list (p .responds net owners k vectors state list) number
+RefusedWith p (diagnose net owners k vectors responses list) number =
+    RefusedFill list (p .diagnoses net owners k vectors responses list) number
+RefusedWith p (find net owners state table) number = RefusedFill table (p .finds net owners state table) number
 RefusedWith p (read file vectors responses) number =
     let did = p .reads file vectors responses in
     (did .returned ≡ refused number) × (did .vectors ≡ vectors) × (did .responses ≡ responses)
@@ -180,11 +189,13 @@ RefusedWith p (drive session one two) number = ⊥
 
 -- the whole result, and a longer list keeps its tail
 abbrev pub FullResult : Programs → PublicCall → Type 0
+FullResult p (own nets list) = FullFill (OwnReceivers nets) list (p .owns nets list)
 FullResult p (check net k vectors) = (verdict : Verdict) × Rule net k vectors verdict × (p .checks net k vectors ≡ full verdict)
-FullResult p (respond net k vectors state list) = FullFill (Response net state vectors) list (p .responds net k vectors state list)
-FullResult p (diagnose net k vectors responses list) =
-    FullFill (Fits net k vectors responses) list (p .diagnoses net k vectors responses list)
-FullResult p (find net state table) = FullFill (Findings net state) table (p .finds net state table)
+FullResult p (respond net owners k vectors state list) =
+    FullFill (Response net state vectors) list (p .responds net owners k vectors state list)
+FullResult p (diagnose net owners k vectors responses list) =
+    FullFill (Fits net (length owners) k vectors responses) list (p .diagnoses net owners k vectors responses list)
+FullResult p (find net owners state table) = FullFill (Findings net owners state) table (p .finds net owners state table)
 FullResult p (read file vectors responses) = FullRead file vectors responses (p .reads file vectors responses)
 FullResult p (write net k vectors responses file) =
     FullFill (λ bytes. bytes ≡ file-of net k vectors responses) file (p .writes net k vectors responses file)

@@ -11,6 +11,7 @@ use Rattle.findings.specs.declared.Finding.{Finding}
 use Rattle.session.specs.declared.Session.{Session}
 use Rattle.demands.specs.Demand2.{ResponseProgram, Responds, DiagnosisProgram, Diagnoses}
 use Rattle.demands.specs.FindingsCall.{FindingsProgram, Finds}
+use Rattle.demands.specs.OwnReceiversCall.{OwnReceiversProgram, Owns}
 use Rattle.demands.specs.JobFiles.{WriterProgram, Writes, ReaderProgram, Reads}
 use Rattle.demands.specs.SessionCalls.{Call, begin, SessionProgram, History, none, waits-first, waits-second}
 use Rattle.demands.specs.SessionCalls.{finished-first, finished-second, LeftBy}
@@ -30,28 +31,30 @@ DidAlike p q s u call = (p s call .answer ≡ q u call .answer) × (p s call .li
 
 abbrev pub IsFinished : History → Type 0
 IsFinished none = ⊥
-IsFinished (waits-first net v1) = ⊥
-IsFinished (waits-second net v1 r1 v2) = ⊥
-IsFinished (finished-first net v1 r1 v2) = Unit {0}
-IsFinished (finished-second net v1 r1 v2 r2) = Unit {0}
+IsFinished (waits-first net owners v1) = ⊥
+IsFinished (waits-second net owners v1 r1 v2) = ⊥
+IsFinished (finished-first net owners v1 r1 v2) = Unit {0}
+IsFinished (finished-second net owners v1 r1 v2 r2) = Unit {0}
 
 -- A record's step numbers and what it keeps between the calls are left to the program; all else is not.
 pub record SessionsDetermined (p q : SessionProgram) : Type 0 where
   -- begin takes any record; the other calls go by the session that leaves the record
-  pub begins : (s u : Session) (net : Network) (list : List ℕ) → DidAlike p q s u (begin net list)
+  pub begins : (s u : Session) (net : Network) (owners list : List ℕ) → DidAlike p q s u (begin net owners list)
   pub in-session : (h : History) (s u : Session) (call : Call) → LeftBy p h s → LeftBy q h u → DidAlike p q s u call
   pub reported : (h : History) (s u : Session) → LeftBy p h s → LeftBy q h u → IsFinished h
-      → (s .network ≡ u .network) × (s .reaches ≡ u .reaches) × (s .spent ≡ u .spent)
+      → (s .network ≡ u .network) × (s .receivers ≡ u .receivers) × (s .owners ≡ u .owners) × (s .reaches ≡ u .reaches)
+      × (s .spent ≡ u .spent)
 
 pub record Determined : Type 0 where
-  pub response : (p q : ResponseProgram) → Responds p → Responds q → (net : Network) (k : ℕ) (vectors state lent : List ℕ)
-      → p net k vectors state lent ≡ q net k vectors state lent
+  pub own-receivers : (p q : OwnReceiversProgram) → Owns p → Owns q → (nets : ℕ) (lent : List ℕ) → p nets lent ≡ q nets lent
+  pub response : (p q : ResponseProgram) → Responds p → Responds q → (net : Network) (owners : List ℕ) (k : ℕ)
+      (vectors state lent : List ℕ) → p net owners k vectors state lent ≡ q net owners k vectors state lent
   pub check : (p q : CheckProgram) → ChecksByRule p → ChecksByRule q → (net : Network) (k : ℕ) (vectors : List ℕ)
       → p net k vectors ≡ q net k vectors
-  pub diagnosis : (p q : DiagnosisProgram) → Diagnoses p → Diagnoses q → (net : Network) (k : ℕ) (vectors responses lent : List ℕ)
-      → p net k vectors responses lent ≡ q net k vectors responses lent
-  pub findings : (p q : FindingsProgram) → Finds p → Finds q → (net : Network) (state : List ℕ) (lent : List Finding)
-      → p net state lent ≡ q net state lent
+  pub diagnosis : (p q : DiagnosisProgram) → Diagnoses p → Diagnoses q → (net : Network) (owners : List ℕ) (k : ℕ)
+      (vectors responses lent : List ℕ) → p net owners k vectors responses lent ≡ q net owners k vectors responses lent
+  pub findings : (p q : FindingsProgram) → Finds p → Finds q → (net : Network) (owners state : List ℕ) (lent : List Finding)
+      → p net owners state lent ≡ q net owners state lent
   pub session : (p q : SessionProgram) → Sessions p → Sessions q → SessionsDetermined p q
   pub writer : (p q : WriterProgram) → Writes p → Writes q → (net : Network) (k : ℕ) (vectors responses lent : List ℕ)
       → p net k vectors responses lent ≡ q net k vectors responses lent

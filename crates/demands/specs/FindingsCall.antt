@@ -9,10 +9,10 @@ use Rattle.findings.specs.FindingsTable.{FindingsRows, Findings}
 
 -- what it returns, and the lent table after it
 abbrev pub FindingsProgram : Type 0
-FindingsProgram = Network → (state : List ℕ) → (lent : List Finding) → Filled Finding
+FindingsProgram = Network → (owners state : List ℕ) → (lent : List Finding) → Filled Finding
 
--- On every input it refuses by the first row that holds and leaves the table as it was, or writes a record a net into
--- the front of the table and keeps its tail.
+-- On every input it refuses by the first row that holds and leaves the table as it was, or writes a record a receiver
+-- into the front of the table and keeps its tail.
 abbrev pub Finds : FindingsProgram → Type 0
-Finds program = (net : Network) (state : List ℕ) (lent : List Finding)
-    → FillsByTable (FindingsRows net state (length lent)) (Findings net state) lent (program net state lent)
+Finds program = (net : Network) (owners state : List ℕ) (lent : List Finding)
+    → FillsByTable (FindingsRows net owners state (length lent)) (Findings net owners state) lent (program net owners state lent)

@@ -26,7 +26,7 @@ use Rattle.session.specs.Drive.{to-drive}
 use Rattle.packing.specs.Packed.{session-words, job-words}
 use Rattle.demands.specs.SessionCalls.{Call, begin, first, second, record-after}
 use Rattle.demands.specs.Programs.{our-sessions}
-use Rattle.demands.specs.Starred.{junk, answers-to}
+use Rattle.demands.specs.Starred.{own, junk, answers-to}
 use Rattle.demands.specs.LevelCases.{broken}
 
 -- four nets of an older shelf, at each soft level
@@ -48,11 +48,11 @@ table-2 = 34 ∷ 9 ∷ 49 ∷ 6 ∷ 76 ∷ 86 ∷ 96 ∷ []
 -- list needs room for 4 vectors, at soft level 1 for 3
 abbrev pub and-calls-0 : List Call
 and-calls-0 =
-    begin (network-with 49 2 2) (9 ∷ 9 ∷ 9 ∷ 9 ∷ [])
-    ∷ begin (network-with 4 2 2) (9 ∷ 9 ∷ 9 ∷ [])
-    ∷ begin (network-with 4 0 2) (9 ∷ 9 ∷ 9 ∷ [])
-    ∷ begin shelf-at-0 (9 ∷ 9 ∷ 9 ∷ [])
-    ∷ begin shelf-at-0 (9 ∷ 9 ∷ 9 ∷ 9 ∷ [])
+    begin (network-with 49 2 2) (own (network-with 49 2 2)) (9 ∷ 9 ∷ 9 ∷ 9 ∷ [])
+    ∷ begin (network-with 4 2 2) (own (network-with 4 2 2)) (9 ∷ 9 ∷ 9 ∷ [])
+    ∷ begin (network-with 4 0 2) (own (network-with 4 0 2)) (9 ∷ 9 ∷ 9 ∷ [])
+    ∷ begin shelf-at-0 (own shelf-at-0) (9 ∷ 9 ∷ 9 ∷ [])
+    ∷ begin shelf-at-0 (own shelf-at-0) (9 ∷ 9 ∷ 9 ∷ 9 ∷ [])
     ∷ first (11 ∷ 0 ∷ 0 ∷ 8 ∷ []) (9 ∷ 9 ∷ 9 ∷ [])
     ∷ first (11 ∷ 0 ∷ 0 ∷ 8 ∷ []) (9 ∷ 9 ∷ 9 ∷ 9 ∷ [])
     ∷ second (11 ∷ 8 ∷ 8 ∷ [])
@@ -61,7 +61,7 @@ and-calls-0 =
 
 abbrev pub and-calls-1 : List Call
 and-calls-1 =
-    begin shelf-at-1 (9 ∷ 9 ∷ 9 ∷ 9 ∷ [])
+    begin shelf-at-1 (own shelf-at-1) (9 ∷ 9 ∷ 9 ∷ 9 ∷ [])
     ∷ first (15 ∷ 4 ∷ 4 ∷ 12 ∷ []) (9 ∷ 9 ∷ [])
     ∷ first (15 ∷ 4 ∷ 4 ∷ 12 ∷ []) (9 ∷ 9 ∷ 9 ∷ 9 ∷ [])
     ∷ second (12 ∷ 12 ∷ 15 ∷ 0 ∷ [])
@@ -114,19 +114,19 @@ pub record GateCases : Type 0 where
   pub published-3-1 : check-answer (wired-and 7 1) 3 table-2 ≡ full (Pair 3 5)
   -- ---- responses and reading back
   -- the state 3 3 0 8, there and back
-  pub response-0 : response-answer shelf-at-0 4 walking-zeros broken 5 ≡ full (11 ∷ 8 ∷ 8 ∷ 11 ∷ 3 ∷ [])
-  pub back-0 : diagnosis-answer shelf-at-0 4 walking-zeros (11 ∷ 8 ∷ 8 ∷ 11 ∷ 3 ∷ []) 4 ≡ full broken
-  pub response-1 : response-answer shelf-at-1 4 (14 ∷ 13 ∷ 11 ∷ 7 ∷ []) broken 4 ≡ full (12 ∷ 12 ∷ 15 ∷ 7 ∷ [])
-  pub back-1 : diagnosis-answer shelf-at-1 4 (14 ∷ 13 ∷ 11 ∷ 7 ∷ []) (12 ∷ 12 ∷ 15 ∷ 7 ∷ []) 4 ≡ full broken
+  pub response-0 : response-answer shelf-at-0 (own shelf-at-0) 4 walking-zeros broken 5 ≡ full (11 ∷ 8 ∷ 8 ∷ 11 ∷ 3 ∷ [])
+  pub back-0 : diagnosis-answer shelf-at-0 (own shelf-at-0) 4 walking-zeros (11 ∷ 8 ∷ 8 ∷ 11 ∷ 3 ∷ []) 4 ≡ full broken
+  pub response-1 : response-answer shelf-at-1 (own shelf-at-1) 4 (14 ∷ 13 ∷ 11 ∷ 7 ∷ []) broken 4 ≡ full (12 ∷ 12 ∷ 15 ∷ 7 ∷ [])
+  pub back-1 : diagnosis-answer shelf-at-1 (own shelf-at-1) 4 (14 ∷ 13 ∷ 11 ∷ 7 ∷ []) (12 ∷ 12 ∷ 15 ∷ 7 ∷ []) 4 ≡ full broken
   -- a receiver that reads 0 where all drive 1 floats, and reads 0 on; two reaches that meet and differ
-  pub no-state-0 : diagnosis-answer shelf-at-0 4 walking-zeros (11 ∷ 8 ∷ 8 ∷ 15 ∷ 3 ∷ []) 4 ≡ refused 14
-  pub no-state-1 : diagnosis-answer (wired-and 2 1) 2 (2 ∷ 1 ∷ []) (0 ∷ 2 ∷ []) 2 ≡ refused 14
+  pub no-state-0 : diagnosis-answer shelf-at-0 (own shelf-at-0) 4 walking-zeros (11 ∷ 8 ∷ 8 ∷ 15 ∷ 3 ∷ []) 4 ≡ refused 14
+  pub no-state-1 : diagnosis-answer (wired-and 2 1) (own (wired-and 2 1)) 2 (2 ∷ 1 ∷ []) (0 ∷ 2 ∷ []) 2 ≡ refused 14
   -- ---- sessions
   -- what the state 3 3 0 8 answers in both steps
-  pub first-answers-0 : response-answer shelf-at-0 4 (11 ∷ 5 ∷ 6 ∷ 8 ∷ []) broken 4 ≡ full (11 ∷ 0 ∷ 0 ∷ 8 ∷ [])
-  pub second-answers-0 : response-answer shelf-at-0 4 (15 ∷ 14 ∷ 13 ∷ 11 ∷ []) broken 4 ≡ full (11 ∷ 8 ∷ 8 ∷ 11 ∷ [])
-  pub first-answers-1 : response-answer shelf-at-1 4 (11 ∷ 5 ∷ 6 ∷ 8 ∷ []) broken 4 ≡ full (15 ∷ 4 ∷ 4 ∷ 12 ∷ [])
-  pub second-answers-1 : response-answer shelf-at-1 4 (14 ∷ 13 ∷ 11 ∷ []) broken 3 ≡ full (12 ∷ 12 ∷ 15 ∷ [])
+  pub first-answers-0 : response-answer shelf-at-0 (own shelf-at-0) 4 (11 ∷ 5 ∷ 6 ∷ 8 ∷ []) broken 4 ≡ full (11 ∷ 0 ∷ 0 ∷ 8 ∷ [])
+  pub second-answers-0 : response-answer shelf-at-0 (own shelf-at-0) 4 (15 ∷ 14 ∷ 13 ∷ 11 ∷ []) broken 4 ≡ full (11 ∷ 8 ∷ 8 ∷ 11 ∷ [])
+  pub first-answers-1 : response-answer shelf-at-1 (own shelf-at-1) 4 (11 ∷ 5 ∷ 6 ∷ 8 ∷ []) broken 4 ≡ full (15 ∷ 4 ∷ 4 ∷ 12 ∷ [])
+  pub second-answers-1 : response-answer shelf-at-1 (own shelf-at-1) 4 (14 ∷ 13 ∷ 11 ∷ []) broken 3 ≡ full (12 ∷ 12 ∷ 15 ∷ [])
   -- p = 4 and F = 3, and net 3, which is clear, is held at 1: 8 are spent at soft level 0, 7 at soft level 1
   pub session-answers-0 : answers-to junk and-calls-0
       ≡ refused 5
@@ -139,7 +139,7 @@ pub record GateCases : Type 0 where
       ∷ refused 9
       ∷ full []
       ∷ []
-  pub session-record-0 : record-after our-sessions junk and-calls-0 ≡ finished shelf-at-0 broken 8
+  pub session-record-0 : record-after our-sessions junk and-calls-0 ≡ finished shelf-at-0 (own shelf-at-0) broken 8
   pub session-answers-1 : answers-to junk and-calls-1
       ≡ full (11 ∷ 5 ∷ 6 ∷ 8 ∷ [])
       ∷ refused 12
@@ -147,26 +147,28 @@ pub record GateCases : Type 0 where
       ∷ refused 9
       ∷ full []
       ∷ []
-  pub session-record-1 : record-after our-sessions junk and-calls-1 ≡ finished shelf-at-1 broken 7
+  pub session-record-1 : record-after our-sessions junk and-calls-1 ≡ finished shelf-at-1 (own shelf-at-1) broken 7
   -- whatever the first answers are, step two holds clear nets at 1, and with OR at 0
-  pub clear-held : (n level : ℕ) (answers : List ℕ) (i t : ℕ) → i < n → Clear (wired-and n level) answers i
-      → t < length (second-vectors (wired-and n level) answers) → has (at (second-vectors (wired-and n level) answers) t) i ≡ true
-  pub clear-held-or : (n level : ℕ) (answers : List ℕ) (i t : ℕ) → i < n → Clear (wired-or n level) answers i
-      → t < length (second-vectors (wired-or n level) answers) → has (at (second-vectors (wired-or n level) answers) t) i ≡ false
+  pub clear-held : (n level : ℕ) (owners answers : List ℕ) (i t : ℕ) → i < n → Clear (wired-and n level) owners answers i
+      → t < length (second-vectors (wired-and n level) owners answers)
+      → has (at (second-vectors (wired-and n level) owners answers) t) i ≡ true
+  pub clear-held-or : (n level : ℕ) (owners answers : List ℕ) (i t : ℕ) → i < n → Clear (wired-or n level) owners answers i
+      → t < length (second-vectors (wired-or n level) owners answers)
+      → has (at (second-vectors (wired-or n level) owners answers) t) i ≡ false
   -- two nets: sound; both floating, at each level
-  pub sound-pair : record-after our-sessions junk (begin (wired-and 2 0) (9 ∷ 9 ∷ []) ∷ first (1 ∷ 2 ∷ []) [] ∷ [])
-      ≡ finished (wired-and 2 0) (1 ∷ 2 ∷ []) 2
+  pub sound-pair : record-after our-sessions junk (begin (wired-and 2 0) (own (wired-and 2 0)) (9 ∷ 9 ∷ []) ∷ first (1 ∷ 2 ∷ []) [] ∷ [])
+      ≡ finished (wired-and 2 0) (own (wired-and 2 0)) (1 ∷ 2 ∷ []) 2
   pub floating-pair-0 : record-after our-sessions junk
-      (begin (wired-and 2 0) (9 ∷ 9 ∷ []) ∷ first (0 ∷ 0 ∷ []) (9 ∷ 9 ∷ 9 ∷ []) ∷ second (0 ∷ 0 ∷ 0 ∷ []) ∷ [])
-      ≡ finished (wired-and 2 0) (0 ∷ 0 ∷ []) 5
+      (begin (wired-and 2 0) (own (wired-and 2 0)) (9 ∷ 9 ∷ []) ∷ first (0 ∷ 0 ∷ []) (9 ∷ 9 ∷ 9 ∷ []) ∷ second (0 ∷ 0 ∷ 0 ∷ []) ∷ [])
+      ≡ finished (wired-and 2 0) (own (wired-and 2 0)) (0 ∷ 0 ∷ []) 5
   pub floating-pair-1 : record-after our-sessions junk
-      (begin (wired-and 2 1) (9 ∷ 9 ∷ []) ∷ first (3 ∷ 3 ∷ []) (9 ∷ 9 ∷ []) ∷ second (3 ∷ 3 ∷ []) ∷ [])
-      ≡ finished (wired-and 2 1) (0 ∷ 0 ∷ []) 4
+      (begin (wired-and 2 1) (own (wired-and 2 1)) (9 ∷ 9 ∷ []) ∷ first (3 ∷ 3 ∷ []) (9 ∷ 9 ∷ []) ∷ second (3 ∷ 3 ∷ []) ∷ [])
+      ≡ finished (wired-and 2 1) (own (wired-and 2 1)) (0 ∷ 0 ∷ []) 4
   -- the same first answers: the record's gate decides which vectors follow, and which part is driven
-  pub by-the-gate-or : first-answer (awaiting-first (wired-or 2 1)) (3 ∷ 3 ∷ []) 3 ≡ full (0 ∷ 1 ∷ 2 ∷ [])
-  pub by-the-gate-and : first-answer (awaiting-first (wired-and 2 1)) (3 ∷ 3 ∷ []) 3 ≡ full (2 ∷ 1 ∷ [])
-  pub driven-or : to-drive (awaiting-second (wired-or 2 1) (3 ∷ 3 ∷ [])) (7 ∷ []) (5 ∷ 6 ∷ 7 ∷ 8 ∷ []) ≡ 5 ∷ 6 ∷ 7 ∷ []
-  pub driven-and : to-drive (awaiting-second (wired-and 2 1) (3 ∷ 3 ∷ [])) (7 ∷ []) (5 ∷ 6 ∷ 7 ∷ 8 ∷ []) ≡ 5 ∷ 6 ∷ []
+  pub by-the-gate-or : first-answer (awaiting-first (wired-or 2 1) (own (wired-or 2 1))) (3 ∷ 3 ∷ []) 3 ≡ full (0 ∷ 1 ∷ 2 ∷ [])
+  pub by-the-gate-and : first-answer (awaiting-first (wired-and 2 1) (own (wired-and 2 1))) (3 ∷ 3 ∷ []) 3 ≡ full (2 ∷ 1 ∷ [])
+  pub driven-or : to-drive (awaiting-second (wired-or 2 1) (own (wired-or 2 1)) (3 ∷ 3 ∷ [])) (7 ∷ []) (5 ∷ 6 ∷ 7 ∷ 8 ∷ []) ≡ 5 ∷ 6 ∷ 7 ∷ []
+  pub driven-and : to-drive (awaiting-second (wired-and 2 1) (own (wired-and 2 1)) (3 ∷ 3 ∷ [])) (7 ∷ []) (5 ∷ 6 ∷ 7 ∷ 8 ∷ []) ≡ 5 ∷ 6 ∷ []
   -- ---- row 20: 0 and 1 alone are gates
   pub gate-0 : (n level : ℕ) → ¬ (Row20 (wired-or n level))
   pub gate-1 : (n level : ℕ) → ¬ (Row20 (wired-and n level))
@@ -174,31 +176,35 @@ pub record GateCases : Type 0 where
   -- in the calls: gate 2, and the greatest number
   pub check-2 : check-answer (network-with 4 1 2) 4 walking-zeros ≡ refused 20
   pub check-greatest : check-answer (network-with 4 0 (2 ^ 64 - 1)) 4 walking-zeros ≡ refused 20
-  pub respond-2 : response-answer (network-with 4 0 2) 4 walking-zeros broken 5 ≡ refused 20
-  pub diagnose-2 : diagnosis-answer (network-with 4 0 2) 4 walking-zeros (11 ∷ 8 ∷ 8 ∷ 11 ∷ 3 ∷ []) 4 ≡ refused 20
-  pub find-1 : findings-answer (wired-and 2 1) (1 ∷ 0 ∷ []) 2
+  pub respond-2 : response-answer (network-with 4 0 2) (own (network-with 4 0 2)) 4 walking-zeros broken 5 ≡ refused 20
+  pub diagnose-2 : diagnosis-answer (network-with 4 0 2) (own (network-with 4 0 2)) 4 walking-zeros
+      (11 ∷ 8 ∷ 8 ∷ 11 ∷ 3 ∷ []) 4 ≡ refused 20
+  pub find-1 : findings-answer (wired-and 2 1) (own (wired-and 2 1)) (1 ∷ 0 ∷ []) 2
       ≡ full (record { kind = 0; reach = 1; partners = 0 } ∷ record { kind = 1; reach = 0; partners = 0 } ∷ [])
-  pub find-2 : findings-answer (network-with 2 1 2) (1 ∷ 0 ∷ []) 2 ≡ refused 20
-  pub begin-1 : begin-answer (wired-and 2 0) 2 ≡ full (1 ∷ 2 ∷ [])
-  pub begin-2 : begin-answer (network-with 2 0 2) 2 ≡ refused 20
+  pub find-2 : findings-answer (network-with 2 1 2) (own (network-with 2 1 2)) (1 ∷ 0 ∷ []) 2 ≡ refused 20
+  pub begin-1 : begin-answer (wired-and 2 0) (own (wired-and 2 0)) 2 ≡ full (1 ∷ 2 ∷ [])
+  pub begin-2 : begin-answer (network-with 2 0 2) (own (network-with 2 0 2)) 2 ≡ refused 20
   -- its place: after 5, 6 and 17, before 7, 11 and 12
   pub five-first : check-answer (network-with 49 1 2) 49 walking-zeros ≡ refused 5
   pub six-first : check-answer (network-with 5 1 2) 4 walking-zeros ≡ refused 6
   pub level-first : check-answer (network-with 4 2 2) 4 walking-zeros ≡ refused 17
   pub before-7 : check-answer (network-with 4 1 2) 4 [] ≡ refused 20
-  pub find-level-first : findings-answer (network-with 2 2 2) (1 ∷ 0 ∷ []) 2 ≡ refused 17
-  pub find-before-11 : findings-answer (network-with 2 1 2) (3 ∷ 1 ∷ []) 0 ≡ refused 20
-  pub begin-level-first : begin-answer (network-with 2 2 2) 2 ≡ refused 17
-  pub begin-before-12 : begin-answer (network-with 2 1 2) 0 ≡ refused 20
+  pub find-level-first : findings-answer (network-with 2 2 2) (own (network-with 2 2 2)) (1 ∷ 0 ∷ []) 2 ≡ refused 17
+  pub find-before-11 : findings-answer (network-with 2 1 2) (own (network-with 2 1 2)) (3 ∷ 1 ∷ []) 0 ≡ refused 20
+  pub begin-level-first : begin-answer (network-with 2 2 2) (own (network-with 2 2 2)) 2 ≡ refused 17
+  pub begin-before-12 : begin-answer (network-with 2 1 2) (own (network-with 2 1 2)) 0 ≡ refused 20
   -- row 4: no accepted calls leave a record of another gate
-  pub record-first-1 : first-answer (awaiting-first (wired-and 2 0)) (0 ∷ 0 ∷ []) 3 ≡ full (3 ∷ 2 ∷ 1 ∷ [])
-  pub record-first-2 : first-answer (awaiting-first (network-with 2 0 2)) (0 ∷ 0 ∷ []) 3 ≡ refused 4
-  pub record-second-1 : second-answer (awaiting-second (wired-and 2 0) (0 ∷ 0 ∷ [])) (0 ∷ 0 ∷ 0 ∷ []) ≡ full []
-  pub record-second-2 : second-answer (awaiting-second (network-with 2 0 2) (0 ∷ 0 ∷ [])) (0 ∷ 0 ∷ 0 ∷ []) ≡ refused 4
-  pub record-drive-2 : to-drive (awaiting-second (network-with 2 0 2) (0 ∷ 0 ∷ [])) (7 ∷ []) (3 ∷ 2 ∷ 1 ∷ 9 ∷ []) ≡ []
+  pub record-first-1 : first-answer (awaiting-first (wired-and 2 0) (own (wired-and 2 0))) (0 ∷ 0 ∷ []) 3 ≡ full (3 ∷ 2 ∷ 1 ∷ [])
+  pub record-first-2 : first-answer (awaiting-first (network-with 2 0 2) (own (network-with 2 0 2))) (0 ∷ 0 ∷ []) 3 ≡ refused 4
+  pub record-second-1 : second-answer (awaiting-second (wired-and 2 0) (own (wired-and 2 0)) (0 ∷ 0 ∷ [])) (0 ∷ 0 ∷ 0 ∷ []) ≡ full []
+  pub record-second-2 : second-answer (awaiting-second (network-with 2 0 2) (own (network-with 2 0 2)) (0 ∷ 0 ∷ []))
+      (0 ∷ 0 ∷ 0 ∷ []) ≡ refused 4
+  pub record-drive-2 : to-drive (awaiting-second (network-with 2 0 2) (own (network-with 2 0 2)) (0 ∷ 0 ∷ []))
+      (7 ∷ []) (3 ∷ 2 ∷ 1 ∷ 9 ∷ []) ≡ []
   -- ---- through C: the gate stands after the level
-  pub begun-words : session-words (awaiting-first (wired-and 48 0)) ≡ 1 ∷ 48 ∷ 0 ∷ 1 ∷ replicate 57 0
-  pub finished-words : session-words (finished shelf-at-0 broken 8)
-      ≡ 3 ∷ 4 ∷ 0 ∷ 1 ∷ replicate 8 0 ++ broken ++ replicate 44 0 ++ 8 ∷ []
+  pub begun-words : session-words (awaiting-first (wired-and 48 0) (own (wired-and 48 0)))
+      ≡ 1 ∷ 48 ∷ 0 ∷ 1 ∷ 48 ∷ own (wired-and 48 0) ++ replicate 89 0
+  pub finished-words : session-words (finished shelf-at-0 (own shelf-at-0) broken 8)
+      ≡ 3 ∷ 4 ∷ 0 ∷ 1 ∷ 4 ∷ 0 ∷ 1 ∷ 2 ∷ 3 ∷ replicate 60 0 ++ replicate 8 0 ++ broken ++ replicate 60 0 ++ 8 ∷ []
   pub words-of-a-job : job-words (record { network = shelf-at-0; class = 2; vectors = walking-zeros; responses = 11 ∷ 8 ∷ [] })
       ≡ 4 ∷ 0 ∷ 1 ∷ 2 ∷ 5 ∷ 2 ∷ []

@@ -1,5 +1,6 @@
 pub mod Demand2
 pub mod FindingsCall
+pub mod OwnReceiversCall
 pub mod SessionCalls
 pub mod Demand3
 pub mod SessionRecords
@@ -15,5 +16,7 @@ pub mod Boundary
 pub mod LevelCases
 pub mod GateCases
 pub mod PartnerCases
+pub mod ReceiverCases
 pub mod FileExamples
 pub mod FileBounds
+pub mod SaidAlone

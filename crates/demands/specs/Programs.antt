@@ -5,19 +5,21 @@ use mathlib.Core.List.{List}
 use lib.ListN.{length}
 use Rattle.words.specs.Answers.{Answer, lent-after, count-of}
 use Rattle.network.specs.Respond.{response-answer}
+use Rattle.network.specs.OwnReceivers.{own-receivers-answer}
 use Rattle.checker.specs.Check.{check-answer}
 use Rattle.diagnosis.specs.ReadBack.{read-back}
 use Rattle.diagnosis.specs.Diagnosis.{diagnosis-answer}
 use Rattle.findings.specs.FindingsTable.{findings-answer}
 use Rattle.steps.specs.SecondStep.{unclear}
 use Rattle.session.specs.declared.Session.{Session}
-use Rattle.session.specs.Record.{awaiting-first, finished}
+use Rattle.session.specs.Record.{awaiting-first, finished, held-owners}
 use Rattle.session.specs.Calls.{stepped, begin-answer, first-answer, answered-by, second-answer, vectors-driven, all-answers}
 use Rattle.session.specs.Drive.{to-drive}
 use Rattle.reader.specs.Reader.{read-answer, vectors-read, responses-read, counted}
 use Rattle.writer.specs.Writer.{write-answer}
 use Rattle.listing.specs.Report.{report}
 use Rattle.demands.specs.Demand2.{ResponseProgram, DiagnosisProgram}
+use Rattle.demands.specs.OwnReceiversCall.{OwnReceiversProgram}
 use Rattle.demands.specs.FindingsCall.{FindingsProgram}
 use Rattle.demands.specs.JobFiles.{WriterProgram, ReaderProgram}
 use Rattle.demands.specs.SessionCalls.{Call, begin, first, second, lent, SessionProgram}
@@ -27,21 +29,26 @@ use Rattle.demands.specs.Demand3.{CheckProgram}
 use Rattle.demands.specs.Reports.{ReportProgram}
 
 abbrev pub our-response : ResponseProgram
-our-response net k vectors state lent =
-    let answer = response-answer net k vectors state (length lent) in
+our-response net owners k vectors state lent =
+    let answer = response-answer net owners k vectors state (length lent) in
+    record { returned = count-of answer; list = lent-after answer lent }
+
+abbrev pub our-own-receivers : OwnReceiversProgram
+our-own-receivers nets lent =
+    let answer = own-receivers-answer nets (length lent) in
     record { returned = count-of answer; list = lent-after answer lent }
 
 abbrev pub our-check : CheckProgram
 our-check net k vectors = check-answer net k vectors
 
 abbrev pub our-diagnosis : DiagnosisProgram
-our-diagnosis net k vectors responses lent =
-    let answer = diagnosis-answer net k vectors responses (length lent) in
+our-diagnosis net owners k vectors responses lent =
+    let answer = diagnosis-answer net owners k vectors responses (length lent) in
     record { returned = count-of answer; list = lent-after answer lent }
 
 abbrev pub our-findings : FindingsProgram
-our-findings net state lent =
-    let answer = findings-answer net state (length lent) in
+our-findings net owners state lent =
+    let answer = findings-answer net owners state (length lent) in
     record { returned = count-of answer; list = lent-after answer lent }
 
 abbrev pub our-writer : WriterProgram
@@ -61,17 +68,18 @@ our-reader file vectors responses =
 -- ---- the session's calls
 
 abbrev pub our-answer : Session → Call → Answer (List ℕ)
-our-answer session (begin net list) = begin-answer net (length list)
+our-answer session (begin net owners list) = begin-answer net owners (length list)
 our-answer session (first answers list) = first-answer session answers (length list)
 our-answer session (second answers) = second-answer session answers
 
 -- the record after the call, if it is accepted
 abbrev pub our-new : Session → Call → Session
-our-new session (begin net list) = awaiting-first net
-our-new session (first answers list) = answered-by (session .network) answers (unclear (session .network) answers)
+our-new session (begin net owners list) = awaiting-first net owners
+our-new session (first answers list) =
+    answered-by (session .network) (held-owners session) answers (unclear (session .network) (held-owners session) answers)
 our-new session (second answers) =
-    finished (session .network)
-    (read-back (session .network) (session .network .nets) (vectors-driven session)
+    finished (session .network) (held-owners session)
+    (read-back (session .network) (length (held-owners session)) (session .network .nets) (vectors-driven session)
     (all-answers session answers))
     (length (vectors-driven session))
 
@@ -94,6 +102,7 @@ our-report file = report file
 
 abbrev pub ours : Programs
 ours = record {
+  owns = our-own-receivers;
   checks = our-check;
   responds = our-response;
   diagnoses = our-diagnosis;

@@ -12,7 +12,7 @@ use Rattle.diagnosis.specs.ReadBack.{read-back}
 use Rattle.diagnosis.specs.Diagnosis.{diagnosis-answer}
 use Rattle.findings.specs.FindingsTable.{findings-answer, blank}
 use Rattle.session.specs.declared.Session.{Session}
-use Rattle.session.specs.Record.{awaiting-first, finished, held-answers, awaits-second}
+use Rattle.session.specs.Record.{awaiting-first, finished, held-owners, held-answers, awaits-second}
 use Rattle.session.specs.Calls.{stepped, vectors-driven}
 use Rattle.reader.specs.Reader.{read-answer, vectors-read, responses-read, counted}
 use Rattle.demands.specs.Demand2.{ResponseProgram, Responds, DiagnosisProgram, Diagnoses}
@@ -38,12 +38,13 @@ refuses-every-set number net k vectors = refused number
 
 -- the list is left as lent
 abbrev pub writes-nothing : ResponseProgram
-writes-nothing net k vectors state lent = record { returned = count-of (response-answer net k vectors state (length lent)); list = lent }
+writes-nothing net owners k vectors state lent =
+    record { returned = count-of (response-answer net owners k vectors state (length lent)); list = lent }
 
 -- the tail is cut off
 abbrev pub drops-tail : ResponseProgram
-drops-tail net k vectors state lent =
-    let answer = response-answer net k vectors state (length lent) in
+drops-tail net owners k vectors state lent =
+    let answer = response-answer net owners k vectors state (length lent) in
     record { returned = count-of answer; list = take (length vectors) (lent-after answer lent) }
 
 -- a refused call clears the list
@@ -52,38 +53,38 @@ clears-list blank (refused number) lent = map (λ _. blank) lent
 clears-list blank (full entries) lent = entries ++ drop (length entries) lent
 
 abbrev pub writes-when-refused : ResponseProgram
-writes-when-refused net k vectors state lent =
-    let answer = response-answer net k vectors state (length lent) in
+writes-when-refused net owners k vectors state lent =
+    let answer = response-answer net owners k vectors state (length lent) in
     record { returned = count-of answer; list = clears-list 0 answer lent }
 
 abbrev pub refuses-every-state : ℕ → ResponseProgram
-refuses-every-state number net k vectors state lent = record { returned = refused number; list = lent }
+refuses-every-state number net owners k vectors state lent = record { returned = refused number; list = lent }
 
 -- ---- diagnoses
 
 -- "no state fits" said before looking
 abbrev pub says-14 : DiagnosisProgram
-says-14 net k vectors responses lent = record { returned = refused 14; list = lent }
+says-14 net owners k vectors responses lent = record { returned = refused 14; list = lent }
 
 -- a right answer, and the list left as lent
 abbrev pub reads-nothing-back : DiagnosisProgram
-reads-nothing-back net k vectors responses lent =
-    record { returned = count-of (diagnosis-answer net k vectors responses (length lent)); list = lent }
+reads-nothing-back net owners k vectors responses lent =
+    record { returned = count-of (diagnosis-answer net owners k vectors responses (length lent)); list = lent }
 
 -- reaches that meet and differ are accepted
 abbrev pub accepts-conflicts : DiagnosisProgram
-accepts-conflicts net k vectors responses lent =
-    let answer = full (read-back net k vectors responses) in
+accepts-conflicts net owners k vectors responses lent =
+    let answer = full (read-back net (length owners) k vectors responses) in
     record { returned = count-of answer; list = lent-after answer lent }
 
 abbrev pub refuses-every-response : ℕ → DiagnosisProgram
-refuses-every-response number net k vectors responses lent = record { returned = refused number; list = lent }
+refuses-every-response number net owners k vectors responses lent = record { returned = refused number; list = lent }
 
 -- ---- findings: a right answer, and the table wrong
 
 -- the table is left as lent
 abbrev pub finds-nothing : FindingsProgram
-finds-nothing net state lent = record { returned = count-of (findings-answer net state (length lent)); list = lent }
+finds-nothing net owners state lent = record { returned = count-of (findings-answer net owners state (length lent)); list = lent }
 
 -- the last record is not written
 abbrev pub but-the-last : {A : Type 0} → Answer (List A) → List A → List A
@@ -91,27 +92,29 @@ but-the-last (refused number) lent = lent
 but-the-last (full entries) lent = let count = length entries - 1 in take count entries ++ drop count lent
 
 abbrev pub one-record-short : FindingsProgram
-one-record-short net state lent =
-    let answer = findings-answer net state (length lent) in
+one-record-short net owners state lent =
+    let answer = findings-answer net owners state (length lent) in
     record { returned = count-of answer; list = but-the-last answer lent }
 
 -- a refused call clears the table
 abbrev pub clears-when-refused : FindingsProgram
-clears-when-refused net state lent =
-    let answer = findings-answer net state (length lent) in
+clears-when-refused net owners state lent =
+    let answer = findings-answer net owners state (length lent) in
     record { returned = count-of answer; list = clears-list blank answer lent }
 
 -- ---- sessions
 
 -- the state is guessed from the first answers, whatever the second ones are; what is answered to those is given
 abbrev pub guesses-answering : (Session → List ℕ → Answer (List ℕ)) → (Network → List ℕ → List ℕ) → SessionProgram
-guesses-answering answer-second guess session (begin net list) = our-sessions session (begin net list)
+guesses-answering answer-second guess session (begin net owners list) = our-sessions session (begin net owners list)
 guesses-answering answer-second guess session (first answers list) = our-sessions session (first answers list)
 guesses-answering answer-second guess session (second answers) = record {
   answer = answer-second session answers;
   list = [];
   session = stepped (answer-second session answers)
-      (finished (session .network) (guess (session .network) (held-answers session)) (length (vectors-driven session))) session .session;
+      (finished (session .network) (held-owners session) (guess (session .network) (held-answers session))
+      (length (vectors-driven session)))
+      session .session;
 }
 
 -- our answer: it looks at the second answers to refuse
@@ -127,6 +130,8 @@ abbrev pub recounted : ℕ → Session → Session
 recounted count session = record {
   step = session .step;
   network = session .network;
+  receivers = session .receivers;
+  owners = session .owners;
   first = session .first;
   reaches = session .reaches;
   spent = cond (eqb (session .step) 3) count (session .spent);
@@ -140,7 +145,7 @@ counts-itself count session call = record {
 }
 
 abbrev pub refuses-every-begin : ℕ → SessionProgram
-refuses-every-begin number session (begin net list) = record { answer = refused number; list = list; session = session }
+refuses-every-begin number session (begin net owners list) = record { answer = refused number; list = list; session = session }
 refuses-every-begin number session (first answers list) = our-sessions session (first answers list)
 refuses-every-begin number session (second answers) = our-sessions session (second answers)
 
@@ -151,7 +156,7 @@ one-more (full []) = full (0 ∷ [])
 one-more (full (word ∷ words)) = full (word ∷ words)
 
 abbrev pub writes-uncounted : SessionProgram
-writes-uncounted session (begin net list) = our-sessions session (begin net list)
+writes-uncounted session (begin net owners list) = our-sessions session (begin net owners list)
 writes-uncounted session (first answers list) = record {
   answer = one-more (our-answer session (first answers list));
   list = lent-after (one-more (our-answer session (first answers list))) list;
@@ -167,6 +172,7 @@ writes-no-vectors session call = record { answer = our-answer session call; list
 
 abbrev pub ours-but : ReaderProgram → SessionProgram → Programs
 ours-but reader sessions = record {
+  owns = ours .owns;
   checks = ours .checks;
   responds = ours .responds;
   diagnoses = ours .diagnoses;
@@ -192,7 +198,7 @@ abbrev pub starts-again : SessionProgram
 starts-again session call = record {
   answer = our-answer session call;
   list = our-sessions session call .list;
-  session = stepped (our-answer session call) (our-new session call) (awaiting-first (session .network)) .session;
+  session = stepped (our-answer session call) (our-new session call) (awaiting-first (session .network) (held-owners session)) .session;
 }
 
 pub record Refuted : Type 0 where

@@ -23,10 +23,10 @@ pub data Follows (job : JobContent) : List ℕ → Type 0 where
   nothing : job .responses ≡ [] → Follows job []
   not-passed : job .responses ≢ [] → Row13 (job .network) (job .class) (job .vectors) → Follows job (refused-line 13)
   no-state : job .responses ≢ [] → ¬ (Row13 (job .network) (job .class) (job .vectors))
-      → Row14 (job .network) (job .class) (job .vectors) (job .responses)
+      → Row14 (job .network) (job .network .nets) (job .class) (job .vectors) (job .responses)
       → Follows job (refused-line 14)
   a-line-a-net : job .responses ≢ [] → ¬ (Row13 (job .network) (job .class) (job .vectors)) → (state : List ℕ)
-      → Fits (job .network) (job .class) (job .vectors) (job .responses) state
+      → Fits (job .network) (job .network .nets) (job .class) (job .vectors) (job .responses) state
       → Follows job (net-lines (job .network) state 0 (job .network .nets))
 
 -- line one, with the verdict of the checker's rule, and what follows it

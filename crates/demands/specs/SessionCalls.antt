@@ -14,13 +14,13 @@ use Rattle.session.specs.declared.Session.{Session}
 
 -- a call with what it takes and the list lent to it
 pub data Call : Type 0 where
-  begin : (net : Network) (first-list : List ℕ) → Call
+  begin : (net : Network) (owners first-list : List ℕ) → Call
   first : (answers second-list : List ℕ) → Call
   second : (answers : List ℕ) → Call
 
 -- the list lent; second answers are lent none
 abbrev pub lent : Call → List ℕ
-lent (begin net list) = list
+lent (begin net owners list) = list
 lent (first answers list) = list
 lent (second answers) = []
 
@@ -36,33 +36,33 @@ SessionProgram = Session → Call → Did
 
 -- ---- a session, by the calls
 
--- With the vectors that begin wrote (v1), the first answers (r1), the vectors that first answers wrote (v2), the second
--- answers (r2).
+-- With the receivers that begin was given (owners: the net of each), the vectors that begin wrote (v1), the first
+-- answers (r1), the vectors that first answers wrote (v2), the second answers (r2).
 pub data History : Type 0 where
   none : History
-  waits-first : (net : Network) (v1 : List ℕ) → History
-  waits-second : (net : Network) (v1 r1 v2 : List ℕ) → History
-  finished-first : (net : Network) (v1 r1 v2 : List ℕ) → History
-  finished-second : (net : Network) (v1 r1 v2 r2 : List ℕ) → History
+  waits-first : (net : Network) (owners v1 : List ℕ) → History
+  waits-second : (net : Network) (owners v1 r1 v2 : List ℕ) → History
+  finished-first : (net : Network) (owners v1 r1 v2 : List ℕ) → History
+  finished-second : (net : Network) (owners v1 r1 v2 r2 : List ℕ) → History
 
 -- accepted first answers: finished if no net is unclear
-abbrev pub after-first : Network → (v1 r1 v2 nets : List ℕ) → History
-after-first net v1 r1 v2 [] = finished-first net v1 r1 v2
-after-first net v1 r1 v2 (i ∷ nets) = waits-second net v1 r1 v2
+abbrev pub after-first : Network → (owners v1 r1 v2 nets : List ℕ) → History
+after-first net owners v1 r1 v2 [] = finished-first net owners v1 r1 v2
+after-first net owners v1 r1 v2 (i ∷ nets) = waits-second net owners v1 r1 v2
 
 -- a call that is accepted, with the words it wrote
 abbrev pub accepted : History → Call → List ℕ → History
-accepted h (begin net list) written = waits-first net written
+accepted h (begin net owners list) written = waits-first net owners written
 accepted none (first answers list) written = none
-accepted (waits-first net v1) (first answers list) written = after-first net v1 answers written (unclear net answers)
-accepted (waits-second net v1 r1 v2) (first answers list) written = waits-second net v1 r1 v2
-accepted (finished-first net v1 r1 v2) (first answers list) written = finished-first net v1 r1 v2
-accepted (finished-second net v1 r1 v2 r2) (first answers list) written = finished-second net v1 r1 v2 r2
+accepted (waits-first net owners v1) (first answers list) written = after-first net owners v1 answers written (unclear net owners answers)
+accepted (waits-second net owners v1 r1 v2) (first answers list) written = waits-second net owners v1 r1 v2
+accepted (finished-first net owners v1 r1 v2) (first answers list) written = finished-first net owners v1 r1 v2
+accepted (finished-second net owners v1 r1 v2 r2) (first answers list) written = finished-second net owners v1 r1 v2 r2
 accepted none (second answers) written = none
-accepted (waits-first net v1) (second answers) written = waits-first net v1
-accepted (waits-second net v1 r1 v2) (second answers) written = finished-second net v1 r1 v2 answers
-accepted (finished-first net v1 r1 v2) (second answers) written = finished-first net v1 r1 v2
-accepted (finished-second net v1 r1 v2 r2) (second answers) written = finished-second net v1 r1 v2 r2
+accepted (waits-first net owners v1) (second answers) written = waits-first net owners v1
+accepted (waits-second net owners v1 r1 v2) (second answers) written = finished-second net owners v1 r1 v2 answers
+accepted (finished-first net owners v1 r1 v2) (second answers) written = finished-first net owners v1 r1 v2
+accepted (finished-second net owners v1 r1 v2 r2) (second answers) written = finished-second net owners v1 r1 v2 r2
 
 -- a refused call changes nothing; the words written are read off the list, as many as the answer says
 abbrev pub by-answer : History → Call → Answer (List ℕ) → List ℕ → History
@@ -98,18 +98,19 @@ pub record LeftBy (program : SessionProgram) (h : History) (session : Session) :
 -- ---- what a session waits for, received and spent
 
 abbrev pub Awaits : History → Call → Type 0
-Awaits h (begin net list) = Unit {0}
-Awaits h (first answers list) = (net : Network) × (v1 : List ℕ) × (h ≡ waits-first net v1)
-Awaits h (second answers) = (net : Network) × (v1 : List ℕ) × (r1 : List ℕ) × (v2 : List ℕ) × (h ≡ waits-second net v1 r1 v2)
+Awaits h (begin net owners list) = Unit {0}
+Awaits h (first answers list) = (net : Network) × (owners : List ℕ) × (v1 : List ℕ) × (h ≡ waits-first net owners v1)
+Awaits h (second answers) =
+    (net : Network) × (owners : List ℕ) × (v1 : List ℕ) × (r1 : List ℕ) × (v2 : List ℕ) × (h ≡ waits-second net owners v1 r1 v2)
 
 -- a state of class n that gives the answers received, over the vectors written
 abbrev pub FitsAnswers : History → List ℕ → Type 0
 FitsAnswers none state = ⊥
-FitsAnswers (waits-first net v1) state = State net (net .nets) state
-FitsAnswers (waits-second net v1 r1 v2) state = State net (net .nets) state × (response net state v1 ≡ r1)
-FitsAnswers (finished-first net v1 r1 v2) state = State net (net .nets) state × (response net state v1 ≡ r1)
-FitsAnswers (finished-second net v1 r1 v2 r2) state =
-    State net (net .nets) state × (response net state v1 ≡ r1) × (response net state v2 ≡ r2)
+FitsAnswers (waits-first net owners v1) state = State net (length owners) (net .nets) state
+FitsAnswers (waits-second net owners v1 r1 v2) state = State net (length owners) (net .nets) state × (response net state v1 ≡ r1)
+FitsAnswers (finished-first net owners v1 r1 v2) state = State net (length owners) (net .nets) state × (response net state v1 ≡ r1)
+FitsAnswers (finished-second net owners v1 r1 v2 r2) state =
+    State net (length owners) (net .nets) state × (response net state v1 ≡ r1) × (response net state v2 ≡ r2)
 
 pub record OnlyFit (h : History) (state : List ℕ) : Type 0 where
   pub fits : FitsAnswers h state
@@ -118,7 +119,7 @@ pub record OnlyFit (h : History) (state : List ℕ) : Type 0 where
 -- the vectors spent: all that the session's begin and first answers wrote
 abbrev pub vectors-spent : History → List ℕ
 vectors-spent none = []
-vectors-spent (waits-first net v1) = v1
-vectors-spent (waits-second net v1 r1 v2) = v1 ++ v2
-vectors-spent (finished-first net v1 r1 v2) = v1 ++ v2
-vectors-spent (finished-second net v1 r1 v2 r2) = v1 ++ v2
+vectors-spent (waits-first net owners v1) = v1
+vectors-spent (waits-second net owners v1 r1 v2) = v1 ++ v2
+vectors-spent (finished-first net owners v1 r1 v2) = v1 ++ v2
+vectors-spent (finished-second net owners v1 r1 v2 r2) = v1 ++ v2

@@ -26,8 +26,9 @@ Front count list part = ((count ≤ length list) × (part ≡ take count list)) 
 
 -- the vectors to drive next, of a record and the two lists
 pub record DrivesNext (program : SessionProgram) (session : Session) (one two part : List ℕ) : Type 0 where
-  pub step-one : (net : Network) (v1 : List ℕ) → LeftBy program (waits-first net v1) session → Front (length v1) one part
-  pub step-two : (net : Network) (v1 r1 v2 : List ℕ) → LeftBy program (waits-second net v1 r1 v2) session → Front (length v2) two part
+  pub step-one : (net : Network) (owners v1 : List ℕ) → LeftBy program (waits-first net owners v1) session → Front (length v1) one part
+  pub step-two : (net : Network) (owners v1 r1 v2 : List ℕ)
+      → LeftBy program (waits-second net owners v1 r1 v2) session → Front (length v2) two part
   pub otherwise : ¬ (WaitsFor program session (first [] [])) → ¬ (WaitsFor program session (second [])) → part ≡ []
 
 -- a program for it

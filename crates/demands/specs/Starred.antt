@@ -1,5 +1,6 @@
 -- Document 01's starred cases, as one table of facts about the definitions that the contracts cite. They are of the
--- gate OR and soft level 1; LevelCases.antt has cases of level 0, and GateCases.antt of AND.
+-- gate OR and soft level 1, with one receiver a net; LevelCases.antt has cases of level 0, GateCases.antt of AND, and
+-- ReceiverCases.antt of several receivers a net.
 use Prim.Native.Nat.{ℕ}
 use mathlib.Core.Path.{_≡_}
 use mathlib.Core.List.{List, [], _∷_, _++_}
@@ -7,6 +8,7 @@ use lib.ListN.{length, replicate}
 use Rattle.words.specs.Answers.{Answer, refused, full}
 use Rattle.network.specs.declared.Network.{Network}
 use Rattle.network.specs.Reading.{network-of}
+use Rattle.network.specs.OwnReceivers.{own-receivers}
 use Rattle.network.specs.Respond.{response-answer}
 use Rattle.checker.specs.declared.Verdict.{Verdict}
 use Rattle.checker.specs.declared.Verdict.the-variants.{Pass, Pair}
@@ -18,17 +20,21 @@ use Rattle.session.specs.Record.{finished}
 use Rattle.demands.specs.SessionCalls.{Call, begin, first, second, finished-second, record-after, history, OnlyFit}
 use Rattle.demands.specs.Programs.{our-answer, our-sessions}
 
+-- the receivers of document 01's networks: each net has one, of its own number
+abbrev pub own : Network → List ℕ
+own net = own-receivers (net .nets)
+
 -- *check*: the answer for n, k and the vectors
 abbrev pub check : ℕ → ℕ → List ℕ → Answer Verdict
 check n k vectors = check-answer (network-of n) k vectors
 
 -- *response from a state* of class n, with room for 5 words: the answer for the vectors and the state
 abbrev pub respond : ℕ → (vectors state : List ℕ) → Answer (List ℕ)
-respond n vectors state = response-answer (network-of n) n vectors state 5
+respond n vectors state = response-answer (network-of n) (own (network-of n)) n vectors state 5
 
 -- *diagnosis* for class n, with room for n words: the answer for the vectors and the responses
 abbrev pub diagnose : ℕ → (vectors responses : List ℕ) → Answer (List ℕ)
-diagnose n vectors responses = diagnosis-answer (network-of n) n vectors responses n
+diagnose n vectors responses = diagnosis-answer (network-of n) (own (network-of n)) n vectors responses n
 
 -- source document 004, table II: the set for two shorts
 abbrev pub table-II : List ℕ
@@ -44,7 +50,16 @@ four = network-of 4
 
 -- a record that no accepted calls leave, with something in every field
 abbrev pub junk : Session
-junk = record { step = 7; network = network-of 9; first = replicate 8 5; reaches = replicate 48 3; spent = 4 }
+junk =
+    record {
+      step = 7;
+      network = network-of 9;
+      receivers = 9;
+      owners = replicate 64 6;
+      first = replicate 8 5;
+      reaches = replicate 64 3;
+      spent = 4;
+    }
 
 -- the answers to a list of calls, in order
 abbrev pub answers-to : Session → List Call → List (Answer (List ℕ))
@@ -55,9 +70,9 @@ answers-to session (call ∷ calls) = our-answer session call ∷ answers-to (ou
 abbrev pub four-calls : List Call
 four-calls =
     second (4 ∷ 7 ∷ 7 ∷ 4 ∷ [])
-    ∷ begin (network-of 49) (9 ∷ 9 ∷ 9 ∷ 9 ∷ [])
-    ∷ begin four (9 ∷ 9 ∷ 9 ∷ [])
-    ∷ begin four (9 ∷ 9 ∷ 9 ∷ 9 ∷ 9 ∷ [])
+    ∷ begin (network-of 49) (own (network-of 49)) (9 ∷ 9 ∷ 9 ∷ 9 ∷ [])
+    ∷ begin four (own four) (9 ∷ 9 ∷ 9 ∷ [])
+    ∷ begin four (own four) (9 ∷ 9 ∷ 9 ∷ 9 ∷ 9 ∷ [])
     ∷ second (4 ∷ 7 ∷ 7 ∷ 4 ∷ [])
     ∷ first (15 ∷ 7 ∷ 7 ∷ []) (9 ∷ 9 ∷ 9 ∷ 9 ∷ [])
     ∷ first (15 ∷ 7 ∷ 7 ∷ 16 ∷ []) (9 ∷ 9 ∷ 9 ∷ 9 ∷ [])
@@ -73,7 +88,7 @@ four-calls =
 
 -- two nets and these first answers
 abbrev pub two-calls : List ℕ → List Call
-two-calls answers = begin two (9 ∷ 9 ∷ []) ∷ first answers (9 ∷ 9 ∷ 9 ∷ []) ∷ []
+two-calls answers = begin two (own two) (9 ∷ 9 ∷ []) ∷ first answers (9 ∷ 9 ∷ 9 ∷ []) ∷ []
 
 pub record Starred : Type 0 where
   -- walking ones with vector 0, without it, and without one of them
@@ -114,15 +129,17 @@ pub record Starred : Type 0 where
       ∷ full []
       ∷ refused 4
       ∷ []
-  pub session-record : record-after our-sessions junk four-calls ≡ finished four (3 ∷ 3 ∷ 0 ∷ 8 ∷ []) 8
+  pub session-record : record-after our-sessions junk four-calls ≡ finished four (own four) (3 ∷ 3 ∷ 0 ∷ 8 ∷ []) 8
   pub session-history : history our-sessions junk four-calls
-      ≡ finished-second four (11 ∷ 5 ∷ 6 ∷ 8 ∷ []) (15 ∷ 7 ∷ 7 ∷ 12 ∷ []) (0 ∷ 1 ∷ 2 ∷ 4 ∷ []) (4 ∷ 7 ∷ 7 ∷ 4 ∷ [])
+      ≡ finished-second four (own four) (11 ∷ 5 ∷ 6 ∷ 8 ∷ []) (15 ∷ 7 ∷ 7 ∷ 12 ∷ []) (0 ∷ 1 ∷ 2 ∷ 4 ∷ []) (4 ∷ 7 ∷ 7 ∷ 4 ∷ [])
   -- after its first answers net 3 is clear, and document 01's F, the count of the others, is 3
-  pub net-3-clear : unclear four (15 ∷ 7 ∷ 7 ∷ 12 ∷ []) ≡ 0 ∷ 1 ∷ 2 ∷ []
-  pub three-unclear : length (unclear four (15 ∷ 7 ∷ 7 ∷ 12 ∷ [])) ≡ 3
+  pub net-3-clear : unclear four (own four) (15 ∷ 7 ∷ 7 ∷ 12 ∷ []) ≡ 0 ∷ 1 ∷ 2 ∷ []
+  pub three-unclear : length (unclear four (own four) (15 ∷ 7 ∷ 7 ∷ 12 ∷ [])) ≡ 3
   -- demand 3 applied to it
-  pub session-state : OnlyFit (finished-second four (11 ∷ 5 ∷ 6 ∷ 8 ∷ []) (15 ∷ 7 ∷ 7 ∷ 12 ∷ []) (0 ∷ 1 ∷ 2 ∷ 4 ∷ []) (4 ∷ 7 ∷ 7 ∷ 4 ∷ []))
+  pub session-state : OnlyFit
+      (finished-second four (own four) (11 ∷ 5 ∷ 6 ∷ 8 ∷ []) (15 ∷ 7 ∷ 7 ∷ 12 ∷ []) (0 ∷ 1 ∷ 2 ∷ 4 ∷ []) (4 ∷ 7 ∷ 7 ∷ 4 ∷ []))
       (3 ∷ 3 ∷ 0 ∷ 8 ∷ [])
   -- two nets: sound; both floating
-  pub sound-pair : record-after our-sessions junk (two-calls (1 ∷ 2 ∷ [])) ≡ finished two (1 ∷ 2 ∷ []) 2
-  pub floating-pair : record-after our-sessions junk (two-calls (3 ∷ 3 ∷ []) ++ second (3 ∷ 3 ∷ 3 ∷ []) ∷ []) ≡ finished two (0 ∷ 0 ∷ []) 5
+  pub sound-pair : record-after our-sessions junk (two-calls (1 ∷ 2 ∷ [])) ≡ finished two (own two) (1 ∷ 2 ∷ []) 2
+  pub floating-pair : record-after our-sessions junk (two-calls (3 ∷ 3 ∷ []) ++ second (3 ∷ 3 ∷ 3 ∷ []) ∷ [])
+      ≡ finished two (own two) (0 ∷ 0 ∷ []) 5

@@ -25,12 +25,13 @@ pub record DidInWords : Type 0 where
 
 -- by the contracts of the C interface: the answer, and the session's words if it is accepted
 abbrev pub exported-answer : List ℕ → Call → Answer (List ℕ)
-exported-answer words (begin net list) = begin-answer (network-with (net .nets) (net .level) (net .gate)) (length list)
+exported-answer words (begin net owners list) = begin-answer (network-with (net .nets) (net .level) (net .gate)) owners (length list)
 exported-answer words (first answers list) = first-answer (session-of words) answers (length list)
 exported-answer words (second answers) = second-answer (session-of words) answers
 
 abbrev pub exported-session : List ℕ → Call → Answer (List ℕ)
-exported-session words (begin net list) = session-begun words (network-with (net .nets) (net .level) (net .gate)) (length list)
+exported-session words (begin net owners list) =
+    session-begun words (network-with (net .nets) (net .level) (net .gate)) owners (length list)
 exported-session words (first answers list) = session-first words answers (length list)
 exported-session words (second answers) = session-second words answers
 

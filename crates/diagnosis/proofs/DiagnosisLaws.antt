@@ -9,8 +9,9 @@ use Rattle.words.proofs.Tests.{test-fails, equal-if-not-unequal}
 use Rattle.words.proofs.Answers.{none-front, none-rest, decided-append, tests-by-table, table-determined}
 use Rattle.network.specs.declared.Network.{Network}
 use Rattle.network.specs.States.{Fits}
-use Rattle.network.specs.Rows.{SetRows, Row9, set-tests}
-use Rattle.network.proofs.Rows.{decides-set, decides-row-9, decides-high-bit, decides-row-12, no-high-bit, AdmittedSet, admitted-set}
+use Rattle.network.specs.Rows.{BoardSetRows, Row9, board-set-tests}
+use Rattle.network.proofs.Rows.{decides-board-set, set-of-board-set, decides-row-9, decides-high-bit, decides-row-12}
+use Rattle.network.proofs.Rows.{no-high-bit, AdmittedSet, admitted-set}
 use Rattle.checker.specs.declared.Verdict.{Verdict}
 use Rattle.checker.specs.declared.Verdict.the-variants.{Pass, Pair}
 use Rattle.checker.specs.Rule.{Rule, verdict}
@@ -50,24 +51,28 @@ module _ (net : Network) (k : ℕ) (vectors : List ℕ) where
   passed-apart s h =
       rule-shows net k vectors Pass (s .two) (s .narrow) (passes-rule (test-fails decides-row-13 h))
 
-module _ (net : Network) (k : ℕ) (vectors responses : List ℕ) (room : ℕ) where
-  decides-own : NoneHolds (SetRows net k vectors) → Decided (OwnRows net k vectors responses room) (own-tests net k vectors responses room)
+module _ (net : Network) (owners : List ℕ) (k : ℕ) (vectors responses : List ℕ) (room : ℕ) where
+  decides-own : NoneHolds (BoardSetRows net owners k vectors)
+      → Decided (OwnRows net (length owners) k vectors responses room)
+      (own-tests net (length owners) k vectors responses room)
   decides-own none = (
     refl,
     decides-row-9 (length vectors) (length responses),
     λ nine. (
       refl,
-      decides-high-bit net responses,
+      decides-high-bit (length owners) responses,
       λ ten. (
         refl,
-        decides-row-12 (net .nets) room,
+        decides-row-12 (length owners) room,
         λ _. (
           refl,
           decides-row-13 net k vectors,
           λ thirteen. (
             refl,
-            decides-no-state-fits net k vectors responses (same-count vectors responses nine) (no-high-bit net responses ten)
-                (passed-apart net k vectors (admitted-set net k vectors none) thirteen),
+            decides-no-state-fits net (length owners) k vectors responses (same-count vectors responses nine)
+                (no-high-bit (length owners) responses ten)
+                (passed-apart net k vectors
+                (admitted-set net k vectors (set-of-board-set net owners k vectors none)) thirteen),
             λ _. tt,
           ),
         ),
@@ -75,41 +80,54 @@ module _ (net : Network) (k : ℕ) (vectors responses : List ℕ) (room : ℕ) w
     ),
   )
 
-  decides-rows : Decided (DiagnosisRows net k vectors responses room) (set-tests net k vectors ++ own-tests net k vectors responses room)
+  decides-rows : Decided (DiagnosisRows net owners k vectors responses room)
+      (board-set-tests net owners k vectors ++ own-tests net (length owners) k vectors responses room)
   decides-rows =
-      decided-append (SetRows net k vectors) (OwnRows net k vectors responses room) (set-tests net k vectors)
-      (own-tests net k vectors responses room)
-      (decides-set net k vectors) decides-own
+      decided-append (BoardSetRows net owners k vectors) (OwnRows net (length owners) k vectors responses room)
+      (board-set-tests net owners k vectors)
+      (own-tests net (length owners) k vectors responses room)
+      (decides-board-set net owners k vectors) decides-own
 
   -- where no row holds, the test set is one that is admitted
-  set-of : NoneHolds (DiagnosisRows net k vectors responses room) → AdmittedSet net k vectors
-  set-of none = admitted-set net k vectors (none-front (SetRows net k vectors) (OwnRows net k vectors responses room) none)
+  set-of : NoneHolds (DiagnosisRows net owners k vectors responses room) → AdmittedSet net k vectors
+  set-of none = admitted-set net k vectors (set-of-board-set net owners k vectors
+      (none-front (BoardSetRows net owners k vectors) (OwnRows net (length owners) k vectors responses room) none))
 
-  pub diagnosis-by-table : ByTable (DiagnosisRows net k vectors responses room) (Fits net k vectors responses)
-      (diagnosis-answer net k vectors responses room)
+  pub diagnosis-by-table : ByTable (DiagnosisRows net owners k vectors responses room)
+      (Fits net (length owners) k vectors responses)
+      (diagnosis-answer net owners k vectors responses room)
   unfolding diagnosis-answer
   diagnosis-by-table =
-      tests-by-table (Fits net k vectors responses) (DiagnosisRows net k vectors responses room)
-      (set-tests net k vectors ++ own-tests net k vectors responses room)
-      (read-back net k vectors responses) decides-rows result
+      tests-by-table (Fits net (length owners) k vectors responses) (DiagnosisRows net owners k vectors responses room)
+      (board-set-tests net owners k vectors ++ own-tests net (length owners) k vectors responses room)
+      (read-back net (length owners) k vectors responses) decides-rows result
     where
-      result : NoneHolds (DiagnosisRows net k vectors responses room) → Fits net k vectors responses (read-back net k vectors responses)
+      result : NoneHolds (DiagnosisRows net owners k vectors responses room)
+          → Fits net (length owners) k vectors responses (read-back net (length owners) k vectors responses)
       result none =
-          let own = none-rest (SetRows net k vectors) (OwnRows net k vectors responses room) none in
+          let own = none-rest (BoardSetRows net owners k vectors)
+          (OwnRows net (length owners) k vectors responses room) none in
           let size = same-count vectors responses (own .0) in
-          let narrow = no-high-bit net responses (own .1 .0) in
+          let narrow = no-high-bit (length owners) responses (own .1 .0) in
           let apart = passed-apart net k vectors (set-of none) (own .1 .1 .1 .0) in
-          read-back-fits net k vectors responses size narrow
-          (test-fails (decides-no-state-fits net k vectors responses size narrow apart) (own .1 .1 .1 .1 .0))
+          read-back-fits net (length owners) k vectors responses size narrow
+          (test-fails (decides-no-state-fits net (length owners) k vectors responses size narrow apart)
+          (own .1 .1 .1 .1 .0))
 
-  pub diagnosis-determined : (a b : Answer (List ℕ)) → ByTable (DiagnosisRows net k vectors responses room) (Fits net k vectors responses) a
-      → ByTable (DiagnosisRows net k vectors responses room) (Fits net k vectors responses) b → a ≡ b
+  pub diagnosis-determined : (a b : Answer (List ℕ))
+      → ByTable (DiagnosisRows net owners k vectors responses room) (Fits net (length owners) k vectors responses) a
+      → ByTable (DiagnosisRows net owners k vectors responses room) (Fits net (length owners) k vectors responses) b
+      → a ≡ b
   diagnosis-determined a b =
-      table-determined (Fits net k vectors responses) (DiagnosisRows net k vectors responses room) a b
+      table-determined (Fits net (length owners) k vectors responses)
+      (DiagnosisRows net owners k vectors responses room) a b
       (λ none s u p q. one none s u p q)
     where
-      one : NoneHolds (DiagnosisRows net k vectors responses room) → (s u : List ℕ) → Fits net k vectors responses s
-          → Fits net k vectors responses u → s ≡ u
+      one : NoneHolds (DiagnosisRows net owners k vectors responses room) → (s u : List ℕ)
+          → Fits net (length owners) k vectors responses s
+          → Fits net (length owners) k vectors responses u → s ≡ u
       one none s u p q =
-          let own = none-rest (SetRows net k vectors) (OwnRows net k vectors responses room) none in
-          apart-one-fits net k vectors (passed-apart net k vectors (set-of none) (own .1 .1 .1 .0)) responses s u p q
+          let own = none-rest (BoardSetRows net owners k vectors)
+          (OwnRows net (length owners) k vectors responses room) none in
+          apart-one-fits net (length owners) k vectors (passed-apart net k vectors (set-of none) (own .1 .1 .1 .0))
+          responses s u p q

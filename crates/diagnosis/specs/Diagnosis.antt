@@ -1,4 +1,4 @@
--- The call *diagnosis*: rows 5, 6, 17, 20, 7, 8, 9, 10, 12, 13, 14, then the state.
+-- The call *diagnosis*: rows 5, 21, 6, 17, 20, 7, 8, 9, 10, 12, 13, 14, then the state.
 use Prim.Native.Nat.{ℕ}
 use mathlib.Core.Bool.{Bool, true, false}
 use mathlib.Core.List.{List, [], _∷_, _++_}
@@ -6,7 +6,8 @@ use lib.ListN.{length}
 use Rattle.words.specs.Answers.{Answer, refused, full, by-tests}
 use Rattle.network.specs.declared.Network.{Network}
 use Rattle.network.specs.States.{Fits}
-use Rattle.network.specs.Rows.{SetRows, Row9, HighBit, Row12, set-tests, bad-response-count, has-high-bit, no-room}
+use Rattle.network.specs.Rows.{BoardSetRows, Row9, HighBit, Row12, board-set-tests, bad-response-count, has-high-bit}
+use Rattle.network.specs.Rows.{no-room}
 use Rattle.checker.specs.declared.Verdict.{Verdict}
 use Rattle.checker.specs.declared.Verdict.the-variants.{Pass, Pair}
 use Rattle.checker.specs.Rule.{Rule, verdict}
@@ -19,43 +20,46 @@ abbrev pub Row13 : Network → ℕ → List ℕ → Type 0
 Row13 net k vectors = ¬ (Rule net k vectors Pass)
 
 -- fit: no state of the class fits
-abbrev pub Row14 : Network → ℕ → (vectors responses : List ℕ) → Type 0
-Row14 net k vectors responses = ¬ ((state : List ℕ) × Fits net k vectors responses state)
+abbrev pub Row14 : Network → (m k : ℕ) → (vectors responses : List ℕ) → Type 0
+Row14 net m k vectors responses = ¬ ((state : List ℕ) × Fits net m k vectors responses state)
 
--- the call's own rows: 9, 10, 12, 13 and 14
-abbrev pub OwnRows : Network → ℕ → (vectors responses : List ℕ) → ℕ → List (ℕ × Type 0)
-OwnRows net k vectors responses room =
+-- the call's own rows: 9, 10, 12, 13 and 14, for m receivers
+abbrev pub OwnRows : Network → (m k : ℕ) → (vectors responses : List ℕ) → ℕ → List (ℕ × Type 0)
+OwnRows net m k vectors responses room =
     (9, Row9 (length vectors) (length responses))
-    ∷ (10, HighBit net responses)
-    ∷ (12, Row12 (net .nets) room)
+    ∷ (10, HighBit m responses)
+    ∷ (12, Row12 m room)
     ∷ (13, Row13 net k vectors)
-    ∷ (14, Row14 net k vectors responses)
+    ∷ (14, Row14 net m k vectors responses)
     ∷ []
 
-abbrev pub DiagnosisRows : Network → ℕ → (vectors responses : List ℕ) → ℕ → List (ℕ × Type 0)
-DiagnosisRows net k vectors responses room = SetRows net k vectors ++ OwnRows net k vectors responses room
+abbrev pub DiagnosisRows : Network → (owners : List ℕ) → ℕ → (vectors responses : List ℕ) → ℕ → List (ℕ × Type 0)
+DiagnosisRows net owners k vectors responses room =
+    BoardSetRows net owners k vectors ++ OwnRows net (length owners) k vectors responses room
 
 abbrev pub not-passed : Verdict → Bool
 not-passed Pass = false
 not-passed (Pair a b) = true
 
-abbrev pub own-tests : Network → ℕ → (vectors responses : List ℕ) → ℕ → List (ℕ × Bool)
-own-tests net k vectors responses room =
+abbrev pub own-tests : Network → (m k : ℕ) → (vectors responses : List ℕ) → ℕ → List (ℕ × Bool)
+own-tests net m k vectors responses room =
     (9, bad-response-count (length vectors) (length responses))
-    ∷ (10, has-high-bit net responses)
-    ∷ (12, no-room (net .nets) room)
+    ∷ (10, has-high-bit m responses)
+    ∷ (12, no-room m room)
     ∷ (13, not-passed (verdict net k vectors))
-    ∷ (14, no-state-fits net k vectors responses)
+    ∷ (14, no-state-fits net m k vectors responses)
     ∷ []
 
 -- row 14 alone, and then the state
-unfoldable pub fit-answer : Network → ℕ → (vectors responses : List ℕ) → Answer (List ℕ)
-fit-answer net k vectors responses = by-tests ((14, no-state-fits net k vectors responses) ∷ []) (read-back net k vectors responses)
+unfoldable pub fit-answer : Network → (m k : ℕ) → (vectors responses : List ℕ) → Answer (List ℕ)
+fit-answer net m k vectors responses =
+    by-tests ((14, no-state-fits net m k vectors responses) ∷ []) (read-back net m k vectors responses)
 
 -- the call's answer, computed
-unfoldable pub diagnosis-answer : Network → ℕ → (vectors responses : List ℕ) → ℕ → Answer (List ℕ)
-diagnosis-answer net k vectors responses room =
-    by-tests (set-tests net k vectors ++ own-tests net k vectors responses room) (read-back net k vectors responses)
+unfoldable pub diagnosis-answer : Network → (owners : List ℕ) → ℕ → (vectors responses : List ℕ) → ℕ → Answer (List ℕ)
+diagnosis-answer net owners k vectors responses room =
+    by-tests (board-set-tests net owners k vectors ++ own-tests net (length owners) k vectors responses room)
+    (read-back net (length owners) k vectors responses)
 
 -- document 01's number and values for each case of the answer
 abbrev pub meaning : Diagnosed → Answer ℕ

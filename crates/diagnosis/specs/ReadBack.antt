@@ -19,16 +19,16 @@ unfoldable pub reach-read : Network → ℕ → List ℕ → ℕ → Search
 reach-read net k vectors answered =
     least (2 ^ (net .nets)) 0 (λ set. few-drivers net k set && eqb (sequential-response net vectors set) answered)
 
--- of each receiver the set that reads as it answered, and the empty one, 0, where there is none; bit t of its answer is
--- its bit in response t
-unfoldable pub read-back : Network → ℕ → (vectors responses : List ℕ) → List ℕ
-read-back net k vectors responses = tabulate (net .nets) (λ i. or-zero (reach-read net k vectors (column responses i)))
+-- of each of m receivers the set that reads as it answered, and the empty one, 0, where there is none; bit t of its
+-- answer is its bit in response t
+unfoldable pub read-back : Network → (m k : ℕ) → (vectors responses : List ℕ) → List ℕ
+read-back net m k vectors responses = tabulate m (λ i. or-zero (reach-read net k vectors (column responses i)))
 
 -- a receiver that answered as no set of the class does, or reaches that meet and differ
-unfoldable pub no-state-fits : Network → ℕ → (vectors responses : List ℕ) → Bool
-no-state-fits net k vectors responses =
-    let conflict = has-conflict net (read-back net k vectors responses) in
-    any (net .nets) (λ i. not (is-found (reach-read net k vectors (column responses i)))) || conflict
+unfoldable pub no-state-fits : Network → (m k : ℕ) → (vectors responses : List ℕ) → Bool
+no-state-fits net m k vectors responses =
+    let conflict = has-conflict net (read-back net m k vectors responses) in
+    any m (λ i. not (is-found (reach-read net k vectors (column responses i)))) || conflict
 
 -- a test set that its rows admit and the checker's rule passes
 abbrev pub Passed : Network → ℕ → List ℕ → Type 0

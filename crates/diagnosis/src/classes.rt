@@ -8,13 +8,13 @@ ghost use Rattle.diagnosis.specs.ReadBack.{Passed};
 use network::Network;
 
 // Of each receiver the only set of the class that can have answered so.
-pub fn class_reaches(net: Network, class: u64, vectors: &[u64], answers: &[u64]) -> [u64; 48]
-    requires { ⌜ (class ≤ 3) × (length (now answers) ≡ 48) × Passed net class (now vectors) ⌝ }
-    ensures { λ r. ⌜ (length r ≡ 48)
-        × ((i : ℕ) → i < net .nets
+pub fn class_reaches(net: Network, class: u64, vectors: &[u64], answers: &[u64]) -> [u64; 64]
+    requires { ⌜ (class ≤ 3) × (length (now answers) ≤ 64) × Passed net class (now vectors) ⌝ }
+    ensures { λ r. ⌜ (length r ≡ 64)
+        × ((i : ℕ) → i < length (now (answers .entry))
         → OnlyAnswer net class (now (vectors .entry)) (at (now (answers .entry)) i) (at r i)) ⌝ }
 {
-    let mut reaches = [0u64; 48];
+    let mut reaches = [0u64; 64];
     checker::bounded::sets_read(net, class, vectors, answers, &mut reaches);
     reaches
 }

@@ -1,6 +1,5 @@
-// What each receiver answered, and whether a state gives a response. Helpers between crates: the nets are those that
-// row 5 admits, and there are at most 64 responses; a state is one of the network's, and the vectors are as many as the
-// responses.
+// What each receiver answered, and whether a state gives a response. Helpers between crates: there are at
+// most 64 receivers and 64 responses; a state is one of the network's, and the vectors are as many as the responses.
 ghost use mathlib.Core.Path.{_≡_};
 ghost use Prim.Native.Nat.{ℕ, _<_, _≤_, _^_};
 ghost use lib.ListN.{length};
@@ -12,11 +11,11 @@ use network::Network;
 use words::Ptv;
 
 // The sequential word of each receiver: bit t is its bit in response t.
-pub fn answers_of(net: Network, responses: &[u64]) -> [u64; 48]
-    requires { ⌜ (net .nets ≤ 48) × (length (now responses) ≤ 64) ⌝ }
-    ensures { λ r. ⌜ (length r ≡ 48) × Columns (net .nets) (now (responses .entry)) r ⌝ }
+pub fn answers_of(receivers: usize, responses: &[u64]) -> [u64; 64]
+    requires { ⌜ (receivers ≤ 64) × (length (now responses) ≤ 64) ⌝ }
+    ensures { λ r. ⌜ (length r ≡ 64) × Columns receivers (now (responses .entry)) r ⌝ }
 {
-    words::turning::columns(responses, net.nets)
+    words::turning::columns(responses, receivers as u64)
 }
 
 // The state's response compared with the whole response.

@@ -34,16 +34,15 @@ pub fn walking_reach(net: Network, vectors: &[u64], answered: Stv) -> u64
 }
 
 // The reach of each receiver, from its answers.
-pub fn walking_reaches(net: Network, vectors: &[u64], answers: &[u64]) -> [u64; 48]
-    requires { ⌜ (length (now answers) ≡ 48) × Passed net (net .nets) (now vectors) ⌝ }
-    ensures { λ r. ⌜ (length r ≡ 48)
-        × ((i : ℕ) → i < net .nets
+pub fn walking_reaches(net: Network, vectors: &[u64], answers: &[u64]) -> [u64; 64]
+    requires { ⌜ (length (now answers) ≤ 64) × Passed net (net .nets) (now vectors) ⌝ }
+    ensures { λ r. ⌜ (length r ≡ 64)
+        × ((i : ℕ) → i < length (now (answers .entry))
         → OnlyAnswer net (net .nets) (now (vectors .entry)) (at (now (answers .entry)) i) (at r i)) ⌝ }
 {
-    let n = net.nets as usize;
-    let mut reaches = [0u64; 48];
+    let mut reaches = [0u64; 64];
     let mut i: usize = 0;
-    while i < n {
+    while i < answers.len() {
         reaches[i] = walking_reach(net, vectors, Stv(answers[i]));
         i += 1;
     }

@@ -30,12 +30,13 @@ fixed-after (full words) lent = words
 -- ---- a table's room, a session's words, a count to drive
 
 -- the room in words, 3 a record
-abbrev pub findings-exported : Network → (state : List ℕ) → ℕ → Answer (List Finding)
-findings-exported net state room = findings-answer net state (room / 3)
+abbrev pub findings-exported : Network → (owners state : List ℕ) → ℕ → Answer (List Finding)
+findings-exported net owners state room = findings-answer net owners state (room / 3)
 
 -- the session's words after a call that is accepted
-abbrev pub session-begun : (session : List ℕ) → Network → ℕ → Answer (List ℕ)
-session-begun session net room = in-words (λ _. session-words (begun (session-of session) net room .session)) (begin-answer net room)
+abbrev pub session-begun : (session : List ℕ) → Network → (owners : List ℕ) → ℕ → Answer (List ℕ)
+session-begun session net owners room =
+    in-words (λ _. session-words (begun (session-of session) net owners room .session)) (begin-answer net owners room)
 
 abbrev pub session-first : (session answers : List ℕ) → ℕ → Answer (List ℕ)
 session-first session answers room =

@@ -6,6 +6,7 @@ ghost use lib.ListN.{length};
 ghost use Rattle.words.specs.Answers.{«lent-after»};
 ghost use Rattle.network.specs.Reading.{«network-with»};
 ghost use Rattle.network.specs.Respond.{«response-answer»};
+ghost use Rattle.network.specs.OwnReceivers.{«own-receivers-answer»};
 ghost use Rattle.checker.specs.Check.{«check-answer»};
 ghost use Rattle.diagnosis.specs.Diagnosis.{«diagnosis-answer»};
 ghost use Rattle.session.specs.Calls.{«begin-answer», «first-answer», «second-answer»};
@@ -55,114 +56,137 @@ pub extern "C" fn fontarelga_check(
     }
 }
 
-// The call *response from a state*: one response word a vector into the front of `response`. Rows 5, 6, 17, 20, 7, 8,
-// 11, 12.
+// The call *own receivers*: the list of receivers where each net has one, of its own number, into the front of
+// `receivers`. Rows 5 and 12.
+#[no_mangle]
+pub extern "C" fn fontarelga_own_receivers(nets: u64, receivers: &mut [u64]) -> u64
+    ensures answer { λ r. ⌜ r ≡ code (own-receivers-answer nets (length (now (receivers .entry)))) ⌝ }
+    ensures receivers { λ r. ⌜ now (receivers .exit)
+        ≡ lent-after (own-receivers-answer nets (length (now (receivers .entry)))) (now (receivers .entry)) ⌝ }
+{
+    match network::own_receivers(nets, receivers) {
+        Responded::Wrote(_) => 0,
+        Responded::Refused(number) => number,
+    }
+}
+
+// The call *response from a state*: one response word a vector into the front of `response`. Here and below `receivers`
+// has the net of each receiver. Rows 5, 21, 6, 17, 20, 7, 8, 11, 12.
 #[no_mangle]
 pub extern "C" fn fontarelga_respond(
     nets: u64,
     level: u64,
     gate: u64,
+    receivers: &[u64],
     class: u64,
     vectors: &[u64],
     state: &[u64],
     response: &mut [u64],
 ) -> u64
     ensures answer { λ r. ⌜ r
-        ≡ code (response-answer (network-with nets level gate) class (now (vectors .entry)) (now (state .entry))
-        (length (now (response .entry)))) ⌝ }
+        ≡ code (response-answer (network-with nets level gate) (now (receivers .entry)) class
+        (now (vectors .entry)) (now (state .entry)) (length (now (response .entry)))) ⌝ }
     ensures response { λ r. ⌜ now (response .exit)
-        ≡ lent-after (response-answer (network-with nets level gate) class (now (vectors .entry)) (now (state .entry))
-        (length (now (response .entry)))) (now (response .entry)) ⌝ }
+        ≡ lent-after (response-answer (network-with nets level gate) (now (receivers .entry)) class
+        (now (vectors .entry)) (now (state .entry)) (length (now (response .entry)))) (now (response .entry)) ⌝ }
 {
     let net = Network {
         nets: nets,
         level: level,
         gate: gate,
     };
-    match network::response_from_state(net, class, vectors, state, response) {
+    match network::response_from_state(net, receivers, class, vectors, state, response) {
         Responded::Wrote(_) => 0,
         Responded::Refused(number) => number,
     }
 }
 
-// The call *diagnosis*: the state that gave the responses, into the front of `state`. Rows 5, 6, 17, 20, 7, 8, 9,
+// The call *diagnosis*: the state that gave the responses, into the front of `state`. Rows 5, 21, 6, 17, 20, 7, 8, 9,
 // 10, 12, 13, 14.
 #[no_mangle]
 pub extern "C" fn fontarelga_diagnose(
     nets: u64,
     level: u64,
     gate: u64,
+    receivers: &[u64],
     class: u64,
     vectors: &[u64],
     responses: &[u64],
     state: &mut [u64],
 ) -> u64
     ensures answer { λ r. ⌜ r
-        ≡ code (diagnosis-answer (network-with nets level gate) class (now (vectors .entry)) (now (responses .entry))
-        (length (now (state .entry)))) ⌝ }
+        ≡ code (diagnosis-answer (network-with nets level gate) (now (receivers .entry)) class
+        (now (vectors .entry)) (now (responses .entry)) (length (now (state .entry)))) ⌝ }
     ensures state { λ r. ⌜ now (state .exit)
-        ≡ lent-after (diagnosis-answer (network-with nets level gate) class (now (vectors .entry)) (now (responses .entry))
-        (length (now (state .entry)))) (now (state .entry)) ⌝ }
+        ≡ lent-after (diagnosis-answer (network-with nets level gate) (now (receivers .entry)) class
+        (now (vectors .entry)) (now (responses .entry)) (length (now (state .entry)))) (now (state .entry)) ⌝ }
 {
     let net = Network {
         nets: nets,
         level: level,
         gate: gate,
     };
-    match diagnosis::diagnose(net, class, vectors, responses, state) {
+    match diagnosis::diagnose(net, receivers, class, vectors, responses, state) {
         Diagnosed::Wrote(_) => 0,
         Diagnosed::Refused(number) => number,
     }
 }
 
-// The call *findings*: kind, reach and partners of each net into the front of `table`. Rows 5, 17, 20, 11 with
+// The call *findings*: kind, reach and partners of each receiver into the front of `table`. Rows 5, 21, 17, 20, 11 with
 // k = n, and 12.
 #[no_mangle]
 pub extern "C" fn fontarelga_findings(
     nets: u64,
     level: u64,
     gate: u64,
+    receivers: &[u64],
     state: &[u64],
     table: &mut [u64],
 ) -> u64
-    ensures answer { λ r. ⌜ r ≡ code (findings-exported (network-with nets level gate) (now (state .entry)) (length (now (table .entry)))) ⌝ }
+    ensures answer { λ r. ⌜ r
+        ≡ code (findings-exported (network-with nets level gate) (now (receivers .entry)) (now (state .entry))
+        (length (now (table .entry)))) ⌝ }
     ensures table { λ r. ⌜ now (table .exit)
         ≡ lent-after (in-words finding-words
-        (findings-exported (network-with nets level gate) (now (state .entry)) (length (now (table .entry))))) (now (table .entry)) ⌝ }
+        (findings-exported (network-with nets level gate) (now (receivers .entry)) (now (state .entry))
+        (length (now (table .entry))))) (now (table .entry)) ⌝ }
 {
     let net = Network {
         nets: nets,
         level: level,
         gate: gate,
     };
-    let done = findings::by_value(net, state);
+    let done = findings::by_value(net, receivers, state);
     if done.code != 0 {
         return done.code;
     }
-    let n = nets as usize;
-    if network::refusals::no_room(n, table.len() / 3) {
+    let m = receivers.len();
+    if network::refusals::no_room(m, table.len() / 3) {
         return 12;
     }
     let records = done.table;
-    packing::table::put_findings(records, n, table);
+    packing::table::put_findings(records, m, table);
     0
 }
 
-// The call *begin*: the vectors of step one into the front of `first`. Rows 5, 17, 20 and 12.
+// The call *begin*: the vectors of step one into the front of `first`. Rows 5, 21, 17, 20 and 12.
 #[no_mangle]
 pub extern "C" fn fontarelga_begin(
-    session: &mut [u64; 61],
+    session: &mut [u64; 142],
     nets: u64,
     level: u64,
     gate: u64,
+    receivers: &[u64],
     first: &mut [u64],
 ) -> u64
-    ensures answer { λ r. ⌜ r ≡ code (begin-answer (network-with nets level gate) (length (now (first .entry)))) ⌝ }
+    ensures answer { λ r. ⌜ r
+        ≡ code (begin-answer (network-with nets level gate) (now (receivers .entry)) (length (now (first .entry)))) ⌝ }
     ensures session { λ r. ⌜ now (session .exit)
-        ≡ fixed-after (session-begun (now (session .entry)) (network-with nets level gate) (length (now (first .entry))))
-        (now (session .entry)) ⌝ }
+        ≡ fixed-after (session-begun (now (session .entry)) (network-with nets level gate) (now (receivers .entry))
+        (length (now (first .entry)))) (now (session .entry)) ⌝ }
     ensures first { λ r. ⌜ now (first .exit)
-        ≡ lent-after (begin-answer (network-with nets level gate) (length (now (first .entry)))) (now (first .entry)) ⌝ }
+        ≡ lent-after (begin-answer (network-with nets level gate) (now (receivers .entry))
+        (length (now (first .entry)))) (now (first .entry)) ⌝ }
 {
     let held = packing::record::session_of(session);
     let net = Network {
@@ -170,7 +194,7 @@ pub extern "C" fn fontarelga_begin(
         level: level,
         gate: gate,
     };
-    let done = session::by_value::begin(held, net, first);
+    let done = session::by_value::begin(held, net, receivers, first);
     let words = packing::record::words_of(done.session);
     *session = words;
     done.code
@@ -180,7 +204,7 @@ pub extern "C" fn fontarelga_begin(
 // 12.
 #[no_mangle]
 pub extern "C" fn fontarelga_first_answers(
-    session: &mut [u64; 61],
+    session: &mut [u64; 142],
     answers: &[u64],
     second: &mut [u64],
 ) -> u64
@@ -203,7 +227,7 @@ pub extern "C" fn fontarelga_first_answers(
 
 // The call *second answers*: the only state that fits both steps, into the session. Rows 4, 9, 10 and 14.
 #[no_mangle]
-pub extern "C" fn fontarelga_second_answers(session: &mut [u64; 61], answers: &[u64]) -> u64
+pub extern "C" fn fontarelga_second_answers(session: &mut [u64; 142], answers: &[u64]) -> u64
     ensures answer { λ r. ⌜ r ≡ code (second-answer (session-of (now (session .entry))) (now (answers .entry))) ⌝ }
     ensures session { λ r. ⌜ now (session .exit)
         ≡ fixed-after (session-second (now (session .entry)) (now (answers .entry))) (now (session .entry)) ⌝ }
@@ -218,7 +242,7 @@ pub extern "C" fn fontarelga_second_answers(session: &mut [u64; 61], answers: &[
 // How many words to drive next, from the start of `first` in step 1 or of `second` in step 2; 0 if none.
 #[no_mangle]
 pub extern "C" fn fontarelga_to_drive<'a>(
-    session: &[u64; 61],
+    session: &[u64; 142],
     first: &'a [u64],
     second: &'a [u64],
 ) -> u64

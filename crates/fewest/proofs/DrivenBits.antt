@@ -43,6 +43,6 @@ module _ (net : Network) where
   pub separates-by-bits : (vectors : List ℕ) → Separates net (map (driven-bits net) vectors) → Separates net vectors
   separates-by-bits vectors one responses s u p q = one responses s u (low s p) (low u q)
     where
-      low : (state : List ℕ) → Fits net (net .nets) vectors responses state
-          → Fits net (net .nets) (map (driven-bits net) vectors) responses state
+      low : (state : List ℕ) → Fits net (net .nets) (net .nets) vectors responses state
+          → Fits net (net .nets) (net .nets) (map (driven-bits net) vectors) responses state
       low state f = record { of-class = f .of-class; gives = response-driven-bits state vectors ∙ f .gives }

@@ -60,7 +60,8 @@ module _ (net : Network) where
 
 pub two-states-fit : (net : Network) (vectors : List ℕ) → TwoStates net vectors → ¬ (Separates net vectors)
 two-states-fit net vectors s =
-    not-one-fits net (net .nets) vectors (s .one) (s .other) (s .one-state) (s .other-state) (s .differ) (s .same-response)
+    not-one-fits net (net .nets) (net .nets) vectors (s .one) (s .other) (s .one-state) (s .other-state) (s .differ)
+    (s .same-response)
 
 module _ (net : Network) (admitted : AdmittedNetwork net) where
   nets-listed : length (tabulate (net .nets) (λ i. i)) ≡ net .nets
@@ -103,7 +104,7 @@ module _ (net : Network) (admitted : AdmittedNetwork net) where
           let inside : i < net .nets = omega (arith, l, e, walking-size) in
           moved (length (extra-vectors net) + i) (walking-vector net i) (walking-at i inside) e (walking-next i inside)
 
-  walking-narrow : ¬ (HighBit net (walking-set net))
+  walking-narrow : ¬ (HighBit (net .nets) (walking-set net))
   walking-narrow (u, l, high) = let below = needed-below net u _ (needed-at u l) in omega (arith, high, below)
 
   walking-passes-rule : Rule net (net .nets) (walking-set net) Pass
@@ -143,15 +144,19 @@ module _ (net : Network) (admitted : AdmittedNetwork net) where
       two : 2 ≤ net .nets
       two = nets-admitted net (admitted .0) .0
 
+      some : 1 ≤ net .nets
+      some = omega (arith, two)
+
       shown : (a b : ℕ) → SetsAlike net (net .nets) low a b → TwoStates net vectors
       shown a b s = record {
-        one = shown-state net a;
-        other = shown-state net b;
-        one-state = shown-is-state net (net .nets) two a (s .first-set);
-        other-state = shown-is-state net (net .nets) two b (s .second-set);
-        differ = shown-differ net (net .nets) two a b (s .differ);
-        same-response = sym (response-driven-bits net (shown-state net a) vectors)
-            ∙ shown-alike net (net .nets) two low a b (s .read-alike) ∙ response-driven-bits net (shown-state net b) vectors;
+        one = shown-state (net .nets) a;
+        other = shown-state (net .nets) b;
+        one-state = shown-is-state net (net .nets) (net .nets) some a (s .first-set);
+        other-state = shown-is-state net (net .nets) (net .nets) some b (s .second-set);
+        differ = shown-differ net (net .nets) (net .nets) some a b (s .differ);
+        same-response = sym (response-driven-bits net (shown-state (net .nets) a) vectors)
+            ∙ shown-alike net (net .nets) (net .nets) some low a b (s .read-alike)
+            ∙ response-driven-bits net (shown-state (net .nets) b) vectors;
       }
 
       go : (v : Verdict) → Rule net (net .nets) low v → TwoStates net vectors
@@ -164,10 +169,12 @@ module _ (net : Network) (admitted : AdmittedNetwork net) where
 
   -- ---- and what the call says
 
-  rule-separates : (vectors : List ℕ) → ¬ (HighBit net vectors) → Rule net (net .nets) vectors Pass → Separates net vectors
+  rule-separates : (vectors : List ℕ) → ¬ (HighBit (net .nets) vectors) → Rule net (net .nets) vectors Pass
+      → Separates net vectors
   rule-separates vectors narrow r =
-      apart-one-fits net (net .nets) vectors
-      (rule-shows net (net .nets) vectors Pass (nets-admitted net (admitted .0) .0) (no-high-bit net vectors narrow) r)
+      apart-one-fits net (net .nets) (net .nets) vectors
+      (rule-shows net (net .nets) vectors Pass (nets-admitted net (admitted .0) .0)
+      (no-high-bit (net .nets) vectors narrow) r)
 
   passed-separates : (vectors : List ℕ) → Passes net vectors → Separates net vectors
   passed-separates vectors e =

@@ -52,14 +52,14 @@ Uncovered net vectors = NoneCovers (transpose (net .nets) vectors)
 
 -- with these vectors, whatever the response, at most one state of class n fits
 abbrev pub Separates : Network → List ℕ → Type 0
-Separates net vectors = AtMostOneFits net (net .nets) vectors
+Separates net vectors = AtMostOneFits net (net .nets) (net .nets) vectors
 
 -- two different states of class n with one response
 pub record TwoStates (net : Network) (vectors : List ℕ) : Type 0 where
   pub one : List ℕ
   pub other : List ℕ
-  pub one-state : State net (net .nets) one
-  pub other-state : State net (net .nets) other
+  pub one-state : State net (net .nets) (net .nets) one
+  pub other-state : State net (net .nets) (net .nets) other
   pub differ : one ≢ other
   pub same-response : response net one vectors ≡ response net other vectors
 

@@ -8,7 +8,7 @@ use borrow.Author.Tests.{eqb-true}
 use Rattle.words.specs.Bits.{has, bit-value, at}
 use Rattle.words.proofs.Tests.{passes-either-way}
 use Rattle.network.specs.declared.Network.{Network}
-use Rattle.findings.specs.Findings.{is-open, partners, kind, finding}
+use Rattle.findings.specs.Findings.{net-of, is-open, partners, kind, finding}
 
 sums-to : Bool → Bool → Bool
 sums-to opened shorted = eqb (bit-value opened + 2 * bit-value shorted) (kind opened shorted)
@@ -25,8 +25,9 @@ pub sum-is-kind : (reach i joined : ℕ)
     → bit-value (not (has reach i)) + 2 * bit-value (not (eqb joined 0)) ≡ kind (not (has reach i)) (not (eqb joined 0))
 sum-is-kind reach i joined = sum-of (not (has reach i)) (not (eqb joined 0))
 
--- for every net of every state
-pub finding-kind : (net : Network) (state : List ℕ) (i : ℕ)
-    → finding net state i .kind ≡ bit-value (is-open state i) + 2 * bit-value (not (eqb (partners net state i) 0))
+-- for every receiver of every state
+pub finding-kind : (net : Network) (owners state : List ℕ) (r : ℕ)
+    → finding net owners state r .kind ≡ bit-value (is-open owners state r) + 2 * bit-value
+    (not (eqb (partners net owners state r) 0))
 unfolding finding is-open
-finding-kind net state i = sym (sum-is-kind (at state i) i (partners net state i))
+finding-kind net owners state r = sym (sum-is-kind (at state r) (net-of owners r) (partners net owners state r))

@@ -1,4 +1,4 @@
--- The call *findings*: rows 5, 17, 20, 11 with k = n, and 12, then a record a net.
+-- The call *findings*: rows 5, 21, 17, 20, 11 with k = n, and 12, then a record a receiver.
 use Prim.Native.Nat.{ℕ, zero, suc, _<_}
 use mathlib.Core.Path.{_≡_}
 use mathlib.Core.Bool.{Bool}
@@ -8,45 +8,45 @@ use Rattle.words.specs.Answers.{Answer, refused, full, by-tests}
 use Rattle.words.specs.Turning.{tabulate}
 use Rattle.network.specs.declared.Network.{Network}
 use Rattle.network.specs.States.{not-a-state}
-use Rattle.network.specs.Rows.{NetworkRows, Row11, Row12, network-tests, no-room}
+use Rattle.network.specs.Rows.{BoardRows, Row11, Row12, board-tests, no-room}
 use Rattle.findings.specs.declared.Finding.{Finding}
 use Rattle.findings.specs.Findings.{finding}
 
--- the rows of a network alone, then its own: 11 and 12
-abbrev pub TableRows : Network → (state : List ℕ) → ℕ → List (ℕ × Type 0)
-TableRows net state room = (11, Row11 net (net .nets) state) ∷ (12, Row12 (net .nets) room) ∷ []
+-- the rows of a board alone, then its own: 11 and 12
+abbrev pub TableRows : Network → (m : ℕ) → (state : List ℕ) → ℕ → List (ℕ × Type 0)
+TableRows net m state room = (11, Row11 net m (net .nets) state) ∷ (12, Row12 m room) ∷ []
 
-abbrev pub FindingsRows : Network → (state : List ℕ) → ℕ → List (ℕ × Type 0)
-FindingsRows net state room = NetworkRows net ++ TableRows net state room
+abbrev pub FindingsRows : Network → (owners state : List ℕ) → ℕ → List (ℕ × Type 0)
+FindingsRows net owners state room = BoardRows net owners ++ TableRows net (length owners) state room
 
--- as many records as receivers, and record i is what is found on net i
-pub record Findings (net : Network) (state : List ℕ) (table : List Finding) : Type 0 where
-  pub one-a-net : length table ≡ length state
-  pub found : (i : ℕ) → i < length state → (other : Finding) → getD table i other ≡ finding net state i
+-- as many records as receivers, and record r is what is found at receiver r
+pub record Findings (net : Network) (owners state : List ℕ) (table : List Finding) : Type 0 where
+  pub one-a-receiver : length table ≡ length state
+  pub found : (r : ℕ) → r < length state → (other : Finding) → getD table r other ≡ finding net owners state r
 
-abbrev pub table-tests : Network → (state : List ℕ) → ℕ → List (ℕ × Bool)
-table-tests net state room = (11, not-a-state net (net .nets) state) ∷ (12, no-room (net .nets) room) ∷ []
+abbrev pub table-tests : Network → (m : ℕ) → (state : List ℕ) → ℕ → List (ℕ × Bool)
+table-tests net m state room = (11, not-a-state net m (net .nets) state) ∷ (12, no-room m room) ∷ []
 
-abbrev pub findings-tests : Network → (state : List ℕ) → ℕ → List (ℕ × Bool)
-findings-tests net state room = network-tests net ++ table-tests net state room
+abbrev pub findings-tests : Network → (owners state : List ℕ) → ℕ → List (ℕ × Bool)
+findings-tests net owners state room = board-tests net owners ++ table-tests net (length owners) state room
 
--- the records of all nets, in order
-unfoldable pub findings : Network → List ℕ → List Finding
-findings net state = map (finding net state) (tabulate (length state) (λ i. i))
+-- the records of all receivers, in order
+unfoldable pub findings : Network → (owners state : List ℕ) → List Finding
+findings net owners state = map (finding net owners state) (tabulate (length state) (λ r. r))
 
 -- the call's answer, computed
-unfoldable pub findings-answer : Network → (state : List ℕ) → ℕ → Answer (List Finding)
-findings-answer net state room = by-tests (findings-tests net state room) (findings net state)
+unfoldable pub findings-answer : Network → (owners state : List ℕ) → ℕ → Answer (List Finding)
+findings-answer net owners state room = by-tests (findings-tests net owners state room) (findings net owners state)
 
--- document 01's number and values for the number returned: 0 is accepted, as many records as nets; any other number is
--- the refusal
-unfoldable pub table-meaning : Network → ℕ → Answer ℕ
-table-meaning net zero = full (net .nets)
-table-meaning net (suc number) = refused (suc number)
+-- document 01's number and values for the number returned: 0 is accepted, m records, one a receiver; any other number
+-- is the refusal
+unfoldable pub table-meaning : (m number : ℕ) → Answer ℕ
+table-meaning m zero = full m
+table-meaning m (suc number) = refused (suc number)
 
--- a record with nothing in it, and a table of 48
+-- a record with nothing in it, and a table of 64
 abbrev pub blank : Finding
 blank = record { kind = 0; reach = 0; partners = 0 }
 
 abbrev pub blank-table : List Finding
-blank-table = replicate 48 blank
+blank-table = replicate 64 blank

@@ -3,15 +3,35 @@ use Prim.Native.Nat.{ℕ, suc, _+_, _*_, _-_, _<_, _≤_, zero-le}
 use native.Mathlib.Omega.{arith}
 use mathlib.Core.Path.{_≡_, refl, sym, ap, ap₂, _∙_}
 use mathlib.Core.List.{List, [], _∷_, _++_}
-use lib.ListN.{length, length-append}
+use lib.ListN.{length, getD, length-append}
+use Rattle.words.specs.Answers.{lent-after}
 use Rattle.words.specs.Writing.{written}
 use Rattle.words.proofs.Writing.{written-none, written-length, written-more}
 use Rattle.network.specs.declared.Network.{Network}
+use Rattle.network.specs.OwnReceivers.{own-receivers}
+use Rattle.network.proofs.OwnReceivers.{own-size}
 use Rattle.findings.specs.declared.Finding.{Finding}
 use Rattle.findings.specs.Findings.{finding}
+use Rattle.findings.specs.FindingsTable.{findings-answer, blank, blank-table}
+use Rattle.findings.proofs.FindingsLaws.{Accepted, record-written}
 use Rattle.decimal.specs.Decimal.{decimal, spaced, numbers-end}
 use Rattle.decimal.proofs.Numerals.{decimal-most}
 use Rattle.listing.specs.Report.{net-line, net-lines}
+
+-- what is found at the one receiver of net i
+abbrev pub found-at : Network → List ℕ → ℕ → Finding
+found-at net state i = finding net (own-receivers (net .nets)) state i
+
+-- and it is record i of the table that *findings* has filled
+pub record-at : (net : Network) (receivers state : List ℕ) (table : List Finding)
+    → receivers ≡ own-receivers (net .nets)
+    → Accepted net (own-receivers (net .nets)) state 64
+    → table ≡ lent-after (findings-answer net receivers state 64) blank-table
+    → (i : ℕ) → i < net .nets → getD table i blank ≡ found-at net state i
+record-at net receivers state table own ok e i l =
+    record-written net (own-receivers (net .nets)) state blank-table table ok
+    (e ∙ ap (λ (owners : List ℕ). lent-after (findings-answer net owners state 64) blank-table) own)
+    i (rw (own-size (net .nets)) l) blank
 
 -- a net's line has at most 84 bytes
 line-most : (i : ℕ) (found : Finding) → length (net-line i found) ≤ 84
@@ -42,13 +62,14 @@ module _ (before : List ℕ) (start : ℕ) (net : Network) (state : List ℕ) wh
       record { inside = zero-le; size = refl; bound = omega arith; left = rw all; rest = rw all }
 
   module _ (text : List ℕ) (end i : ℕ) (p : NetsPut before start net state text end i) (room : start + 84 * net .nets ≤ length before) where
-    pub nets-one : (after : List ℕ) (next : ℕ) → i < net .nets → next ≡ end + length (net-line i (finding net state i))
-        → after ≡ written text end (net-line i (finding net state i)) → NetsPut before start net state after next (i + 1)
+    pub nets-one : (after : List ℕ) (next : ℕ) → i < net .nets → next ≡ end + length (net-line i (found-at net state i))
+        → after ≡ written text end (net-line i (found-at net state i))
+        → NetsPut before start net state after next (i + 1)
     unfolding net-lines
     nets-one after next l n e =
-        let line = net-line i (finding net state i) in
+        let line = net-line i (found-at net state i) in
         let others = net-lines net state (suc i) (net .nets - suc i) in
-        let most = line-most i (finding net state i) in
+        let most = line-most i (found-at net state i) in
         let one : i + 1 ≡ suc i = omega arith in
         let more : net .nets - i ≡ suc (net .nets - suc i) = omega arith in
         let now : net-lines net state i (net .nets - i) ≡ line ++ others = ap (net-lines net state i) more in

@@ -11,8 +11,10 @@ use Rattle.words.proofs.Answers.{table-full, front-written, written-fits, count
 use Rattle.words.proofs.Answers.{none-front, none-both}
 use Rattle.network.specs.declared.Network.{Network}
 use Rattle.network.specs.States.{State, Fits}
-use Rattle.network.specs.Rows.{NetworkRows, SetRows}
-use Rattle.network.proofs.Rows.{network-of-set, admitted-set}
+use Rattle.network.specs.Rows.{SetRows, BoardRows, BoardSetRows, AdmittedBoard}
+use Rattle.network.specs.OwnReceivers.{own-receivers}
+use Rattle.network.proofs.Rows.{receivers-of-board}
+use Rattle.network.proofs.OwnReceivers.{own-size}
 use Rattle.checker.specs.declared.Verdict.{Verdict}
 use Rattle.checker.specs.declared.Verdict.the-variants.{Pass, Pair}
 use Rattle.diagnosis.specs.declared.Diagnosed.{Diagnosed}
@@ -33,45 +35,67 @@ use Rattle.listing.specs.Report.{refused-line, verdict-line, diagnosis-t
 
 -- ---- the diagnosis
 
+-- a list that own receivers are written into has them at its front
+pub own-front : (nets : ℕ) (lent list : List ℕ) → list ≡ lent-after (full (own-receivers nets)) lent
+    → take nets list ≡ own-receivers nets
+own-front nets lent list e =
+    ap (λ (a : List ℕ). take nets a) e
+    ∙ ap (λ (n : ℕ). take n (lent-after (full (own-receivers nets)) lent)) (sym (own-size nets))
+    ∙ front-written (own-receivers nets) lent
+
 -- a state of any class is one of class n
-wider : (net : Network) (k : ℕ) (state : List ℕ) → State net k state → State net (net .nets) state
-wider net k state s = record {
+wider : (net : Network) (m k : ℕ) (state : List ℕ) → State net m k state → State net m (net .nets) state
+wider net m k state s = record {
   size = s .size;
   reach = λ i l. record { inside = s .reach i l .inside; few = ones-at-most (net .nets) _ };
   meet-only-if-equal = s .meet-only-if-equal;
 }
 
+-- the board of a test set that is admitted
+board-of-set : (net : Network) (owners : List ℕ) (k : ℕ) (vectors : List ℕ)
+    → NoneHolds (BoardSetRows net owners k vectors)
+    → AdmittedBoard net owners
+board-of-set net owners k vectors (five, (receivers, (_, (level, (gate, _))))) =
+    (five, (receivers, (level, (gate, tt))))
+
+-- the call's answer, for nets with one receiver each
 module _ (net : Network) (k : ℕ) (vectors responses lent list : List ℕ) (answer : Diagnosed) where
+  abbrev own : List ℕ
+  own = own-receivers (net .nets)
+
   abbrev outcome : Answer (List ℕ)
-  outcome = diagnosis-answer net k vectors responses (length lent)
+  outcome = diagnosis-answer net own k vectors responses (length lent)
 
   pub diagnosis-refused : (number : ℕ) → meaning answer ≡ count-of outcome → answer ≡ Refused number → outcome ≡ refused number
   diagnosis-refused number e r = counted-refused outcome number (sym e ∙ ap meaning r)
 
   -- an accepted diagnosis: what was written is a state, and *findings* accepts it
   pub diagnosis-wrote : (count : ℕ) → meaning answer ≡ count-of outcome → list ≡ lent-after outcome lent → answer ≡ Wrote count
-      → (outcome ≡ full (take (net .nets) list)) × NoneHolds (FindingsRows net (take (net .nets) list) 48)
+      → (outcome ≡ full (take (net .nets) list)) × NoneHolds (FindingsRows net own (take (net .nets) list) 64)
   diagnosis-wrote count e l w =
-      let rows = DiagnosisRows net k vectors responses (length lent) in
+      let m = length own in
+      let rows = DiagnosisRows net own k vectors responses (length lent) in
       let found = counted-full outcome count (sym e ∙ ap meaning w) in
       let state : List ℕ = found .0 in
-      let allowed : ByTable rows (Fits net k vectors responses) (full state) =
-      subst (ByTable rows (Fits net k vectors responses)) (found .1) (diagnosis-by-table net k vectors responses (length lent)) in
-      let fits : Fits net k vectors responses state = table-full (Fits net k vectors responses) rows state allowed in
+      let allowed : ByTable rows (Fits net m k vectors responses) (full state) =
+      subst (ByTable rows (Fits net m k vectors responses)) (found .1)
+      (diagnosis-by-table net own k vectors responses (length lent)) in
+      let fits : Fits net m k vectors responses state =
+      table-full (Fits net m k vectors responses) rows state allowed in
       let front : take (net .nets) list ≡ state =
       ap (λ (a : List ℕ). take (net .nets) a) (l ∙ ap (λ (a : Answer (List ℕ)). lent-after a lent) (found .1))
-      ∙ ap (λ (n : ℕ). take n (lent-after (full state) lent)) (sym (fits .of-class .size))
+      ∙ ap (λ (n : ℕ). take n (lent-after (full state) lent)) (sym (fits .of-class .size ∙ own-size (net .nets)))
       ∙ front-written state lent in
-      let is-state : State net (net .nets) (take (net .nets) list) =
-      subst (State net (net .nets)) (sym front) (wider net k state (fits .of-class)) in
-      let set = none-front (SetRows net k vectors) (OwnRows net k vectors responses (length lent))
-      (table-none-holds (Fits net k vectors responses) rows state allowed) in
-      let most : net .nets ≤ 48 = admitted-set net k vectors set .most in
-      let table : NoneHolds (TableRows net (take (net .nets) list) 48) =
+      let is-state : State net m (net .nets) (take (net .nets) list) =
+      subst (State net m (net .nets)) (sym front) (wider net m k state (fits .of-class)) in
+      let board = board-of-set net own k vectors
+      (none-front (BoardSetRows net own k vectors) (OwnRows net m k vectors responses (length lent))
+      (table-none-holds (Fits net m k vectors responses) rows state allowed)) in
+      let most : m ≤ 64 = receivers-of-board net own board .most in
+      let table : NoneHolds (TableRows net m (take (net .nets) list) 64) =
       (λ eleven. eleven is-state, (λ twelve. omega (arith, most, twelve), tt)) in (
         found .1 ∙ ap full (sym front),
-        none-both (NetworkRows net) (TableRows net (take (net .nets) list) 48)
-            (network-of-set net k vectors set) table,
+        none-both (BoardRows net own) (TableRows net m (take (net .nets) list) 64) board table,
       )
 
 -- ---- line one
@@ -108,7 +132,8 @@ module _ (net : Network) (k : ℕ) (vectors : List ℕ) where
   nothing-follows (word ∷ words) e = absurd (omega arith)
 
   pub diagnosis-follows : (responses : List ℕ) → length responses ≢ 0
-      → responses-text net k vectors responses ≡ diagnosis-text net (diagnosis-answer net k vectors responses 48)
+      → responses-text net k vectors responses
+      ≡ diagnosis-text net (diagnosis-answer net (own-receivers (net .nets)) k vectors responses 48)
   diagnosis-follows [] e = absurd (e refl)
   diagnosis-follows (word ∷ words) e = refl
 

@@ -5,6 +5,7 @@ ghost use lib.ListN.{length, replicate};
 ghost use Rattle.words.specs.Answers.{full, NoneHolds, «lent-after»};
 ghost use Rattle.words.specs.Writing.{written};
 ghost use Rattle.network.specs.Rows.{SetRows};
+ghost use Rattle.network.specs.OwnReceivers.{«own-receivers»};
 ghost use Rattle.diagnosis.specs.Diagnosis.{«diagnosis-answer»};
 ghost use Rattle.listing.specs.Report.{«diagnosis-text», «content-text», report};
 
@@ -21,8 +22,8 @@ pub struct Text {
     pub bytes: [u8; 4142],
 }
 
-// What the diagnosis says, from an index on; returns the index past it. A helper: the text has room, and row 5 admits
-// the nets.
+// What the diagnosis says of nets with one receiver each, from an index on; returns the index past it. A helper: the
+// text has room, and row 5 admits the nets.
 fn put_diagnosis(
     text: &mut [u8],
     at: usize,
@@ -32,17 +33,20 @@ fn put_diagnosis(
     responses: &[u64],
 ) -> usize
     requires { ⌜ (net .nets ≤ 48) × (at + 4032 ≤ length (now text)) ⌝ }
-    ensures { λ r. ⌜ (r ≡ at + length
-        (diagnosis-text net (diagnosis-answer net class (now (vectors .entry)) (now (responses .entry)) 48)))
-        × (now (text .exit) ≡ written (now (text .entry)) at
-        (diagnosis-text net (diagnosis-answer net class (now (vectors .entry)) (now (responses .entry)) 48))) ⌝ }
+    ensures { λ r. ⌜ (r ≡ at + length (diagnosis-text net
+        (diagnosis-answer net (own-receivers (net .nets)) class (now (vectors .entry)) (now (responses .entry)) 48)))
+        × (now (text .exit) ≡ written (now (text .entry)) at (diagnosis-text net
+        (diagnosis-answer net (own-receivers (net .nets)) class (now (vectors .entry)) (now (responses .entry))
+        48))) ⌝ }
 {
     let n = net.nets as usize;
+    let mut own = [0u64; 48];
+    network::receivers::fill_own(net.nets, &mut own);
     let mut state = [0u64; 48];
-    let answer = diagnosis::diagnose(net, class, vectors, responses, &mut state);
+    let answer = diagnosis::diagnose(net, &own[..n], class, vectors, responses, &mut state);
     match answer {
         Diagnosed::Refused(number) => lines::put_refused(text, at, number),
-        Diagnosed::Wrote(_) => lines::put_nets(text, at, net, &state[..n]),
+        Diagnosed::Wrote(_) => lines::put_nets(text, at, net, &own[..n], &state[..n]),
     }
 }
 

@@ -4,6 +4,7 @@ ghost use Prim.Native.Nat.{_+_, _*_, _≤_};
 ghost use lib.ListN.{length};
 ghost use Rattle.words.specs.Answers.{NoneHolds};
 ghost use Rattle.words.specs.Writing.{written};
+ghost use Rattle.network.specs.OwnReceivers.{«own-receivers»};
 ghost use Rattle.findings.specs.FindingsTable.{FindingsRows};
 ghost use Rattle.listing.specs.Report.{«refused-line», «verdict-line», «net-line», «net-lines»};
 use checker::Verdict;
@@ -54,13 +55,16 @@ fn put_net(text: &mut [u8], at: usize, net: u64, found: Finding) -> usize
     decimal::put_numbers(text, end, &numbers)
 }
 
-// The lines of all nets of a state that *findings* accepts, from its table; returns the index past them.
-pub fn put_nets(text: &mut [u8], at: usize, net: Network, state: &[u64]) -> usize
-    requires { ⌜ NoneHolds (FindingsRows net (now state) 48) × (at + 84 * net .nets ≤ length (now text)) ⌝ }
+// The lines of all nets of a state that *findings* accepts, from its table; returns the index past them. The receivers
+// are one a net, so that the table has a record a net.
+pub fn put_nets(text: &mut [u8], at: usize, net: Network, receivers: &[u64], state: &[u64]) -> usize
+    requires { ⌜ (now receivers ≡ own-receivers (net .nets))
+        × NoneHolds (FindingsRows net (own-receivers (net .nets)) (now state) 64)
+        × (at + 84 * net .nets ≤ length (now text)) ⌝ }
     ensures { λ r. ⌜ (r ≡ at + length (net-lines net (now (state .entry)) 0 (net .nets)))
         × (now (text .exit) ≡ written (now (text .entry)) at (net-lines net (now (state .entry)) 0 (net .nets))) ⌝ }
 {
-    let tabled = findings::by_value(net, state);
+    let tabled = findings::by_value(net, receivers, state);
     let table = tabled.table;
     let mut end = at;
     let mut i: u64 = 0;

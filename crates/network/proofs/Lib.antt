@@ -3,5 +3,7 @@ pub mod Joint
 pub mod Walking
 pub mod States
 pub mod Owners
+pub mod NamedNets
 pub mod Rows
 pub mod Respond
+pub mod OwnReceivers

@@ -1,6 +1,6 @@
 -- Each row's test decides the row, and what rows that do not hold tell.
 use mathlib.Core.Path.{_≡_, refl}
-use mathlib.Core.Bool.{Bool, _||_}
+use mathlib.Core.Bool.{Bool, not, _||_}
 use mathlib.Core.Logic.{_⊎_, inl, inr, ⊎-elim, _≢_}
 use mathlib.Core.List.{List, [], _++_}
 use Prim.Native.Nat.{ℕ, _^_, _≤_, _<_}
@@ -11,16 +11,30 @@ use lib.Dec.{leb, eqb}
 use lib.ListN.{length}
 use Rattle.words.specs.Bits.{at}
 use Rattle.words.specs.Answers.{Decides, Decided, NoneHolds, refused, full, by-tests}
+use Rattle.words.specs.Searching.{among}
 use Rattle.words.proofs.Tests.{cases, decides-less, decides-at-most, decides-equal, decides-or, decides-not, test-fails}
-use Rattle.words.proofs.Searching.{decides-any}
+use Rattle.words.proofs.Searching.{decides-any, decides-among}
 use Rattle.words.proofs.Answers.{let-through, first-refuses, first-passes, shared-refuse, shared-pass}
 use Rattle.network.specs.declared.Network.{Network}
+use Rattle.network.specs.Rows.{HasReceiver, Row21, bad-receivers, ClassRows, class-tests, BoardRows, board-tests}
+use Rattle.network.specs.Rows.{board-refusal}
+use Rattle.network.specs.Rows.{AdmittedBoard, BoardSetRows, board-set-tests, board-admission}
 use Rattle.network.specs.Rows.{NoBit, no-bit, Row5, Row6, Row17, Row20, Row7, HighBit, Row9, Row12, bad-net-count, bad-class, bad-level, bad-gate}
-use Rattle.network.specs.Rows.{bad-vector-count, has-high-bit, bad-response-count, no-room, NetworkRows, network-tests, network-refusal}
+use Rattle.network.specs.Rows.{bad-vector-count, has-high-bit, bad-response-count, no-room}
 use Rattle.network.specs.Rows.{AdmittedNetwork, SetRows, set-tests, set-admission}
 
 pub decides-row-5 : (net : Network) → Decides (bad-net-count net) (Row5 net)
 decides-row-5 net = decides-or (decides-less (net .nets) 2) (decides-less 48 (net .nets))
+
+pub decides-row-21 : (net : Network) (owners : List ℕ) → Decides (bad-receivers net owners) (Row21 net owners)
+unfolding bad-receivers
+decides-row-21 net owners =
+    decides-or (decides-or (decides-less (length owners) (net .nets)) (decides-less 64 (length owners)))
+    (decides-or
+    (decides-any (λ r. leb (net .nets) (at owners r)) (λ r. net .nets ≤ at owners r) (length owners)
+    (λ r. decides-at-most (net .nets) (at owners r)))
+    (decides-any (λ i. not (among i owners)) (λ i. ¬ (HasReceiver owners i)) (net .nets)
+    (λ i. decides-not (decides-among i owners))))
 
 decides-class : (net : Network) (k : ℕ)
     → Decides (eqb k 1 || (eqb k 2 || (eqb k 3 || eqb k (net .nets)))) ((k ≡ 1) ⊎ ((k ≡ 2) ⊎ ((k ≡ 3) ⊎ (k ≡ net .nets))))
@@ -42,11 +56,11 @@ decides-row-20 net = decides-no-bit (net .gate)
 pub decides-row-7 : (vectors : List ℕ) → Decides (bad-vector-count vectors) (Row7 vectors)
 decides-row-7 vectors = decides-or (decides-less (length vectors) 1) (decides-less 64 (length vectors))
 
-pub decides-high-bit : (net : Network) (words : List ℕ) → Decides (has-high-bit net words) (HighBit net words)
+pub decides-high-bit : (width : ℕ) (words : List ℕ) → Decides (has-high-bit width words) (HighBit width words)
 unfolding has-high-bit
-decides-high-bit net words =
-    decides-any (λ t. leb (2 ^ (net .nets)) (at words t)) (λ t. 2 ^ (net .nets) ≤ at words t) (length words)
-    (λ t. decides-at-most (2 ^ (net .nets)) (at words t))
+decides-high-bit width words =
+    decides-any (λ t. leb (2 ^ width) (at words t)) (λ t. 2 ^ width ≤ at words t) (length words)
+    (λ t. decides-at-most (2 ^ width) (at words t))
 
 pub decides-row-9 : (vectors responses : ℕ) → Decides (bad-response-count vectors responses) (Row9 vectors responses)
 decides-row-9 vectors responses = decides-not (decides-equal responses vectors)
@@ -59,6 +73,30 @@ decides-row-12 result room = decides-less room result
 pub nets-admitted : (net : Network) → ¬ (Row5 net) → (2 ≤ net .nets) × (net .nets ≤ 48)
 nets-admitted net h = let low : net .nets < 2 → ⊥ = λ l. h (inl l) in let high : 48 < net .nets → ⊥ = λ l. h (inr l) in
     (omega (arith, low), omega (arith, high))
+
+-- what receivers have that row 21 lets through, and they are all that it asks for
+pub record AdmittedReceivers (net : Network) (owners : List ℕ) : Type 0 where
+  pub least : net .nets ≤ length owners
+  pub most : length owners ≤ 64
+  pub owner : (r : ℕ) → r < length owners → at owners r < net .nets
+  pub receiver : (i : ℕ) → i < net .nets → HasReceiver owners i
+
+pub receivers-admitted : (net : Network) (owners : List ℕ) → ¬ (Row21 net owners) → AdmittedReceivers net owners
+receivers-admitted net owners h =
+    let low : length owners < net .nets → ⊥ = λ l. h (inl (inl l)) in
+    let high : 64 < length owners → ⊥ = λ l. h (inl (inr l)) in record {
+      least = omega (arith, low);
+      most = omega (arith, high);
+      owner = λ r l. lt-of-not-le (λ e. h (inr (inl (r, l, e))));
+      receiver = λ i l. ⊎-elim (decides-among i owners .0)
+          (λ e. absurd (h (inr (inr (i, l, decides-among i owners .1 e)))))
+          (cases (among i owners));
+    }
+
+pub admitted-receivers : (net : Network) (owners : List ℕ) → AdmittedReceivers net owners → ¬ (Row21 net owners)
+admitted-receivers net owners a =
+    ⊎-elim (⊎-elim (λ l. omega (arith, l, a .least)) (λ l. omega (arith, l, a .most)))
+    (⊎-elim (λ w. let l = a .owner (w .0) (w .1) in omega (arith, l, w .2)) (λ w. w .2 (a .receiver (w .0) (w .1))))
 
 -- what rows 17 and 20 do not refuse is 0 or 1; these they do not refuse, and a greater number they do
 bit-admitted : (x : ℕ) → ¬ (NoBit x) → x ≤ 1
@@ -73,48 +111,89 @@ above-bits x high = ⊎-elim (λ e. omega (arith, e, high)) (λ e. omega (arith,
 pub vectors-admitted : (vectors : List ℕ) → ¬ (Row7 vectors) → length vectors ≤ 64
 vectors-admitted vectors h = let high : 64 < length vectors → ⊥ = λ l. h (inr l) in omega (arith, high)
 
-pub no-high-bit : (net : Network) (words : List ℕ) → ¬ (HighBit net words) → (t : ℕ) → t < length words → at words t < 2 ^ (net .nets)
-no-high-bit net words h t l = lt-of-not-le (λ e. h (t, l, e))
+pub no-high-bit : (width : ℕ) (words : List ℕ) → ¬ (HighBit width words) → (t : ℕ) → t < length words
+    → at words t < 2 ^ width
+no-high-bit width words h t l = lt-of-not-le (λ e. h (t, l, e))
 
--- ---- the rows of a network alone
+-- ---- the rows of a board alone
 
-pub decides-network : (net : Network) → Decided (NetworkRows net) (network-tests net)
-decides-network net = (refl, decides-row-5 net, λ _. (refl, decides-row-17 net, λ _. (refl, decides-row-20 net, λ _. tt)))
-
--- a call that begins with them, where one holds and where none does
-module _ (net : Network) {A : Type 0} (more : List (ℕ × Bool)) (x : A) where
-  pub network-refuses : network-refusal net ≢ 0 → by-tests (network-tests net ++ more) x ≡ refused (network-refusal net)
-  network-refuses some = first-refuses more x (network-tests net) some
-
-  pub network-admits : network-refusal net ≡ 0 → by-tests (network-tests net ++ more) x ≡ by-tests more x
-  network-admits none = first-passes more x (network-tests net) (λ q. omega (arith, q), (λ q. omega (arith, q), (λ q. omega (arith, q), tt))) none
-
-module _ (net : Network) where
-  pub network-admitted : network-refusal net ≡ 0 → AdmittedNetwork net
-  unfolding by-tests
-  network-admitted e =
-      let-through {A = Unit {0}} (NetworkRows net) (network-tests net) tt tt (decides-network net) (network-admits net [] tt e)
-
-  pub admitted-refusal : AdmittedNetwork net → network-refusal net ≡ 0
-  admitted-refusal (five, (level, (gate, _))) =
-      rw (test-fails (decides-row-5 net) five, test-fails (decides-row-17 net) level, test-fails (decides-row-20 net) gate)
-
--- ---- rows 5, 6, 17, 20, 7 and 8
-
-pub decides-set : (net : Network) (k : ℕ) (vectors : List ℕ) → Decided (SetRows net k vectors) (set-tests net k vectors)
-decides-set net k vectors = (
+pub decides-board : (net : Network) (owners : List ℕ) → Decided (BoardRows net owners) (board-tests net owners)
+decides-board net owners = (
   refl,
   decides-row-5 net,
+  λ _. (refl, decides-row-21 net owners, λ _. (refl, decides-row-17 net, λ _. (refl, decides-row-20 net, λ _. tt))),
+)
+
+-- a call that begins with them, where one holds and where none does
+module _ (net : Network) (owners : List ℕ) {A : Type 0} (more : List (ℕ × Bool)) (x : A) where
+  pub board-refuses : board-refusal net owners ≢ 0
+      → by-tests (board-tests net owners ++ more) x ≡ refused (board-refusal net owners)
+  board-refuses some = first-refuses more x (board-tests net owners) some
+
+  pub board-admits : board-refusal net owners ≡ 0 → by-tests (board-tests net owners ++ more) x ≡ by-tests more x
+  board-admits none =
+      first-passes more x (board-tests net owners)
+      (λ q. omega (arith, q), (λ q. omega (arith, q), (λ q. omega (arith, q), (λ q. omega (arith, q), tt)))) none
+
+module _ (net : Network) (owners : List ℕ) where
+  pub board-admitted : board-refusal net owners ≡ 0 → AdmittedBoard net owners
+  unfolding by-tests
+  board-admitted e =
+      let-through {A = Unit {0}} (BoardRows net owners) (board-tests net owners) tt tt (decides-board net owners)
+      (board-admits net owners [] tt e)
+
+  pub admitted-refusal : AdmittedBoard net owners → board-refusal net owners ≡ 0
+  admitted-refusal (five, (receivers, (level, (gate, _)))) =
+      rw (
+        test-fails (decides-row-5 net) five,
+        test-fails (decides-row-21 net owners) receivers,
+        test-fails (decides-row-17 net) level,
+        test-fails (decides-row-20 net) gate,
+      )
+
+  -- the network and the receivers of a board that is admitted
+  pub network-of-board : AdmittedBoard net owners → AdmittedNetwork net
+  network-of-board (five, (_, (level, (gate, _)))) = (five, (level, (gate, tt)))
+
+  pub receivers-of-board : AdmittedBoard net owners → AdmittedReceivers net owners
+  receivers-of-board (_, (receivers, _)) = receivers-admitted net owners receivers
+
+-- ---- rows 5, 6, 17, 20, 7 and 8, and 21
+
+decides-class-rows : (net : Network) (k : ℕ) (vectors : List ℕ)
+    → Decided (ClassRows net k vectors) (class-tests net k vectors)
+decides-class-rows net k vectors = (
+  refl,
+  decides-row-6 net k,
   λ _. (
     refl,
-    decides-row-6 net k,
+    decides-row-17 net,
     λ _. (
       refl,
-      decides-row-17 net,
-      λ _. (refl, decides-row-20 net, λ _. (refl, decides-row-7 vectors, λ _. (refl, decides-high-bit net vectors, λ _. tt))),
+      decides-row-20 net,
+      λ _. (refl, decides-row-7 vectors, λ _. (refl, decides-high-bit (net .nets) vectors, λ _. tt)),
     ),
   ),
 )
+
+pub decides-set : (net : Network) (k : ℕ) (vectors : List ℕ) → Decided (SetRows net k vectors) (set-tests net k vectors)
+decides-set net k vectors = (refl, decides-row-5 net, λ _. decides-class-rows net k vectors)
+
+pub decides-board-set : (net : Network) (owners : List ℕ) (k : ℕ) (vectors : List ℕ)
+    → Decided (BoardSetRows net owners k vectors) (board-set-tests net owners k vectors)
+decides-board-set net owners k vectors =
+    (refl, decides-row-5 net, λ _. (refl, decides-row-21 net owners, λ _. decides-class-rows net k vectors))
+
+-- a call that takes receivers has tested all that one without them tests
+pub set-of-board-set : (net : Network) (owners : List ℕ) (k : ℕ) (vectors : List ℕ)
+    → NoneHolds (BoardSetRows net owners k vectors)
+    → NoneHolds (SetRows net k vectors)
+set-of-board-set net owners k vectors (five, (_, rest)) = (five, rest)
+
+pub receivers-of-board-set : (net : Network) (owners : List ℕ) (k : ℕ) (vectors : List ℕ)
+    → NoneHolds (BoardSetRows net owners k vectors)
+    → AdmittedReceivers net owners
+receivers-of-board-set net owners k vectors (_, (receivers, _)) = receivers-admitted net owners receivers
 
 -- what a test set that they admit has
 pub record AdmittedSet (net : Network) (k : ℕ) (vectors : List ℕ) : Type 0 where
@@ -147,7 +226,7 @@ admitted-set net k vectors (a, (b, (level, (gate, (c, (d, e)))))) =
       level-byte = bit-admitted (net .level) level;
       gate-byte = bit-admitted (net .gate) gate;
       vectors-most = vectors-admitted vectors c;
-      narrow = no-high-bit net vectors d;
+      narrow = no-high-bit (net .nets) vectors d;
     }
   where
     small : (k ≡ 1) ⊎ ((k ≡ 2) ⊎ ((k ≡ 3) ⊎ (k ≡ net .nets))) → (k ≤ 3) ⊎ (k ≡ net .nets)
@@ -177,3 +256,20 @@ module _ (net : Network) (k : ℕ) (vectors : List ℕ) where
 
   pub set-admitted : set-admission net k vectors ≡ full tt → AdmittedSet net k vectors
   set-admitted e = admitted-set net k vectors (set-none-holds e)
+
+-- and a call on receivers too
+module _ (net : Network) (owners : List ℕ) (k : ℕ) (vectors : List ℕ) where
+  pub board-set-refuses : {A : Type 0} (more : List (ℕ × Bool)) (x : A) (number : ℕ)
+      → board-admission net owners k vectors ≡ refused number
+      → by-tests (board-set-tests net owners k vectors ++ more) x ≡ refused number
+  board-set-refuses more x number e = shared-refuse tt x (board-set-tests net owners k vectors) more number e
+
+  pub board-set-admits : {A : Type 0} (more : List (ℕ × Bool)) (x : A) → board-admission net owners k vectors ≡ full tt
+      → by-tests (board-set-tests net owners k vectors ++ more) x ≡ by-tests more x
+  board-set-admits more x e = shared-pass tt x (board-set-tests net owners k vectors) more tt e
+
+  pub board-set-none-holds : board-admission net owners k vectors ≡ full tt
+      → NoneHolds (BoardSetRows net owners k vectors)
+  board-set-none-holds e =
+      let-through (BoardSetRows net owners k vectors) (board-set-tests net owners k vectors) tt tt
+      (decides-board-set net owners k vectors) e

@@ -82,33 +82,33 @@ module _ (net : Network) (state : List ℕ) where
           rw (e, eq-eqb (at state i) (at state j) (h i j (r .0) l m (r .1) (r .2) (r .3)))
       agree i j l m (inr e) = rw e
 
-module _ (net : Network) (k : ℕ) (state : List ℕ) where
+module _ (net : Network) (m k : ℕ) (state : List ℕ) where
   reach-test : ℕ → Bool
   reach-test i = not (ltb (at state i) (2 ^ (net .nets)) && few-drivers net k (at state i))
 
-  pub test→state : not-a-state net k state ≡ false → State net k state
+  pub test→state : not-a-state net m k state ≡ false → State net m k state
   unfolding not-a-state has-wrong-reach reach-test
   test→state e =
-      let size = neither (not (eqb (length state) (net .nets))) _ e in
+      let size = neither (not (eqb (length state) m)) _ e in
       let rest = neither (has-wrong-reach net k state) (has-conflict net state) (size .1) in record {
-        size = eqb-true (length state) (net .nets) (not-false _ (size .0));
+        size = eqb-true (length state) m (not-false _ (size .0));
         reach = λ i l. few→set net k (at state i) (not-false _ (any-false reach-test (length state) i l (rest .0)));
         meet-only-if-equal = no-conflict net state (rest .1);
       }
 
-  pub state→test : State net k state → not-a-state net k state ≡ false
+  pub state→test : State net m k state → not-a-state net m k state ≡ false
   unfolding not-a-state has-wrong-reach reach-test
   state→test h =
       rw (
-        eq-eqb (length state) (net .nets) (h .size),
+        eq-eqb (length state) m (h .size),
         any-none reach-test (length state) (λ i l. ap not (set→few net k (at state i) (h .reach i l))),
         conflict-free net state (h .meet-only-if-equal),
       )
 
-  pub decides-not-a-state : Decides (not-a-state net k state) (¬ (State net k state))
+  pub decides-not-a-state : Decides (not-a-state net m k state) (¬ (State net m k state))
   decides-not-a-state = (λ e h. contrary e (state→test h), λ e h. h (test→state e))
 
 -- two states of a class with the same reaches are one
-pub states-equal : (net : Network) (k : ℕ) (s u : List ℕ) → State net k s → State net k u
+pub states-equal : (net : Network) (m k : ℕ) (s u : List ℕ) → State net m k s → State net m k u
     → ((i : ℕ) → i < length s → at s i ≡ at u i) → s ≡ u
-states-equal net k s u p q h = ext-getD 0 s u (p .size ∙ sym (q .size)) h
+states-equal net m k s u p q h = ext-getD 0 s u (p .size ∙ sym (q .size)) h

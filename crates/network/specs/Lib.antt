@@ -3,4 +3,5 @@ pub mod Joint
 pub mod States
 pub mod Rows
 pub mod Respond
+pub mod OwnReceivers
 pub mod Open

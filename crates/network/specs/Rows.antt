@@ -7,7 +7,7 @@ use mathlib.Core.List.{List, [], _∷_}
 use lib.Dec.{eqb, leb, ltb}
 use lib.ListN.{length}
 use Rattle.words.specs.Bits.{at}
-use Rattle.words.specs.Searching.{any}
+use Rattle.words.specs.Searching.{any, among}
 use Rattle.words.specs.Answers.{Answer, refused, full, NoneHolds, by-tests, first-number}
 use Rattle.network.specs.declared.Network.{Network}
 use Rattle.network.specs.declared.Admission.{Admission}
@@ -19,6 +19,17 @@ use Rattle.network.specs.States.{State}
 -- net count: n below 2 or above 48
 abbrev pub Row5 : Network → Type 0
 Row5 net = (net .nets < 2) ⊎ (48 < net .nets)
+
+-- some receiver is on net i; here and below `owners` has the net of each receiver, and m is its length
+abbrev pub HasReceiver : List ℕ → ℕ → Type 0
+HasReceiver owners i = (r : ℕ) × (r < length owners) × (at owners r ≡ i)
+
+-- receivers: m below n or above 64, a receiver that names no net, or a net that has none
+abbrev pub Row21 : Network → List ℕ → Type 0
+Row21 net owners =
+    ((length owners < net .nets) ⊎ (64 < length owners))
+    ⊎ (((r : ℕ) × (r < length owners) × (net .nets ≤ at owners r))
+    ⊎ ((i : ℕ) × (i < net .nets) × (¬ (HasReceiver owners i))))
 
 -- class: k not 1, 2, 3 or n, or above n
 abbrev pub Row6 : Network → ℕ → Type 0
@@ -40,17 +51,17 @@ Row20 net = NoBit (net .gate)
 abbrev pub Row7 : List ℕ → Type 0
 Row7 vectors = (length vectors < 1) ⊎ (64 < length vectors)
 
--- rows 8 and 10: a bit at or above n
-abbrev pub HighBit : Network → List ℕ → Type 0
-HighBit net words = (t : ℕ) × (t < length words) × (2 ^ (net .nets) ≤ at words t)
+-- rows 8 and 10: a bit at or above the width, the number of drivers or of receivers
+abbrev pub HighBit : ℕ → List ℕ → Type 0
+HighBit width words = (t : ℕ) × (t < length words) × (2 ^ width ≤ at words t)
 
 -- responses: not as many as vectors
 abbrev pub Row9 : (vectors responses : ℕ) → Type 0
 Row9 vectors responses = responses ≢ vectors
 
 -- wiring state: not one of the class
-abbrev pub Row11 : Network → ℕ → List ℕ → Type 0
-Row11 net k state = ¬ (State net k state)
+abbrev pub Row11 : Network → (m k : ℕ) → List ℕ → Type 0
+Row11 net m k state = ¬ (State net m k state)
 
 -- lent list: shorter than the result
 abbrev pub Row12 : ℕ → ℕ → Type 0
@@ -60,6 +71,12 @@ Row12 result room = room < result
 
 abbrev pub bad-net-count : Network → Bool
 bad-net-count net = ltb (net .nets) 2 || ltb 48 (net .nets)
+
+unfoldable pub bad-receivers : Network → List ℕ → Bool
+bad-receivers net owners =
+    let no-net = any (length owners) (λ r. leb (net .nets) (at owners r)) in
+    let no-receiver = any (net .nets) (λ i. not (among i owners)) in
+    (ltb (length owners) (net .nets) || ltb 64 (length owners)) || (no-net || no-receiver)
 
 abbrev pub bad-class : Network → ℕ → Bool
 bad-class net k = not (eqb k 1 || (eqb k 2 || (eqb k 3 || eqb k (net .nets)))) || ltb (net .nets) k
@@ -76,8 +93,8 @@ bad-gate net = no-bit (net .gate)
 abbrev pub bad-vector-count : List ℕ → Bool
 bad-vector-count vectors = ltb (length vectors) 1 || ltb 64 (length vectors)
 
-unfoldable pub has-high-bit : Network → List ℕ → Bool
-has-high-bit net words = any (length words) (λ t. leb (2 ^ (net .nets)) (at words t))
+unfoldable pub has-high-bit : ℕ → List ℕ → Bool
+has-high-bit width words = any (length words) (λ t. leb (2 ^ width) (at words t))
 
 abbrev pub bad-response-count : (vectors responses : ℕ) → Bool
 bad-response-count vectors responses = not (eqb responses vectors)
@@ -85,36 +102,58 @@ bad-response-count vectors responses = not (eqb responses vectors)
 abbrev pub no-room : ℕ → ℕ → Bool
 no-room result room = ltb room result
 
--- ---- the rows of a network alone: a call that takes no class begins with them, and a session's record keeps to them
+-- ---- the rows of a board alone, a network and its receivers: a call that takes receivers and no class begins with
+-- them, and a session's record keeps to them
 
-abbrev pub NetworkRows : Network → List (ℕ × Type 0)
-NetworkRows net = (5, Row5 net) ∷ (17, Row17 net) ∷ (20, Row20 net) ∷ []
+abbrev pub BoardRows : Network → List ℕ → List (ℕ × Type 0)
+BoardRows net owners = (5, Row5 net) ∷ (21, Row21 net owners) ∷ (17, Row17 net) ∷ (20, Row20 net) ∷ []
 
-abbrev pub network-tests : Network → List (ℕ × Bool)
-network-tests net = (5, bad-net-count net) ∷ (17, bad-level net) ∷ (20, bad-gate net) ∷ []
+abbrev pub board-tests : Network → List ℕ → List (ℕ × Bool)
+board-tests net owners =
+    (5, bad-net-count net) ∷ (21, bad-receivers net owners) ∷ (17, bad-level net) ∷ (20, bad-gate net) ∷ []
 
 -- the number of the first that holds, or 0
-abbrev pub network-refusal : Network → ℕ
-network-refusal net = first-number (network-tests net)
+abbrev pub board-refusal : Network → List ℕ → ℕ
+board-refusal net owners = first-number (board-tests net owners)
 
--- a network that they let through
+-- a board that they let through
+abbrev pub AdmittedBoard : Network → List ℕ → Type 0
+AdmittedBoard net owners = NoneHolds (BoardRows net owners)
+
+-- and a network that those of them let through which ask for no receivers
 abbrev pub AdmittedNetwork : Network → Type 0
-AdmittedNetwork net = NoneHolds (NetworkRows net)
+AdmittedNetwork net = NoneHolds ((5, Row5 net) ∷ (17, Row17 net) ∷ (20, Row20 net) ∷ [])
 
--- ---- rows 5, 6, 17, 20, 7 and 8, with which every call on a test set begins
+-- ---- rows 5, 6, 17, 20, 7 and 8, with which every call on a test set begins; 21 after 5 if it takes receivers
+
+abbrev pub ClassRows : Network → ℕ → List ℕ → List (ℕ × Type 0)
+ClassRows net k vectors =
+    (6, Row6 net k) ∷ (17, Row17 net) ∷ (20, Row20 net) ∷ (7, Row7 vectors) ∷ (8, HighBit (net .nets) vectors) ∷ []
 
 abbrev pub SetRows : Network → ℕ → List ℕ → List (ℕ × Type 0)
-SetRows net k vectors =
-    (5, Row5 net) ∷ (6, Row6 net k) ∷ (17, Row17 net) ∷ (20, Row20 net) ∷ (7, Row7 vectors) ∷ (8, HighBit net vectors) ∷ []
+SetRows net k vectors = (5, Row5 net) ∷ ClassRows net k vectors
+
+abbrev pub BoardSetRows : Network → List ℕ → ℕ → List ℕ → List (ℕ × Type 0)
+BoardSetRows net owners k vectors = (5, Row5 net) ∷ (21, Row21 net owners) ∷ ClassRows net k vectors
+
+abbrev pub class-tests : Network → ℕ → List ℕ → List (ℕ × Bool)
+class-tests net k vectors =
+    (6, bad-class net k) ∷ (17, bad-level net) ∷ (20, bad-gate net)
+    ∷ (7, bad-vector-count vectors) ∷ (8, has-high-bit (net .nets) vectors) ∷ []
 
 abbrev pub set-tests : Network → ℕ → List ℕ → List (ℕ × Bool)
-set-tests net k vectors =
-    (5, bad-net-count net) ∷ (6, bad-class net k) ∷ (17, bad-level net) ∷ (20, bad-gate net)
-    ∷ (7, bad-vector-count vectors) ∷ (8, has-high-bit net vectors) ∷ []
+set-tests net k vectors = (5, bad-net-count net) ∷ class-tests net k vectors
+
+abbrev pub board-set-tests : Network → List ℕ → ℕ → List ℕ → List (ℕ × Bool)
+board-set-tests net owners k vectors =
+    (5, bad-net-count net) ∷ (21, bad-receivers net owners) ∷ class-tests net k vectors
 
 -- what they say alone, computed, and as the code's enum means it
 abbrev pub set-admission : Network → ℕ → List ℕ → Answer (Unit {0})
 set-admission net k vectors = by-tests (set-tests net k vectors) tt
+
+abbrev pub board-admission : Network → List ℕ → ℕ → List ℕ → Answer (Unit {0})
+board-admission net owners k vectors = by-tests (board-set-tests net owners k vectors) tt
 
 abbrev pub admission : Admission → Answer (Unit {0})
 admission Admitted = full tt

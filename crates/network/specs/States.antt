@@ -19,23 +19,24 @@ pub record DriverSet (net : Network) (k set : ℕ) : Type 0 where
   pub inside : set < 2 ^ (net .nets)
   pub few : driver-count net set ≤ k
 
--- A wiring state of class k: a reach for each receiver, each a set of at most k drivers, and two reaches with a driver
--- in common are equal.
-pub record State (net : Network) (k : ℕ) (state : List ℕ) : Type 0 where
-  pub size : length state ≡ net .nets
+-- A wiring state of m receivers and class k: a reach for each receiver, each a set of at most k drivers, and two
+-- reaches with a driver in common are equal.
+pub record State (net : Network) (m k : ℕ) (state : List ℕ) : Type 0 where
+  pub size : length state ≡ m
   pub reach : (i : ℕ) → i < length state → DriverSet net k (at state i)
   pub meet-only-if-equal : (i j x : ℕ) → i < length state → j < length state → x < net .nets → has (at state i) x ≡ true
       → has (at state j) x ≡ true
       → at state i ≡ at state j
 
 -- document 01's "a state fits a response": it is of the class, and gives exactly that response
-pub record Fits (net : Network) (k : ℕ) (vectors responses state : List ℕ) : Type 0 where
-  pub of-class : State net k state
+pub record Fits (net : Network) (m k : ℕ) (vectors responses state : List ℕ) : Type 0 where
+  pub of-class : State net m k state
   pub gives : response net state vectors ≡ responses
 
 -- whatever the response, at most one state of the class fits it
-abbrev pub AtMostOneFits : Network → ℕ → List ℕ → Type 0
-AtMostOneFits net k vectors = (responses s u : List ℕ) → Fits net k vectors responses s → Fits net k vectors responses u → s ≡ u
+abbrev pub AtMostOneFits : Network → (m k : ℕ) → List ℕ → Type 0
+AtMostOneFits net m k vectors =
+    (responses s u : List ℕ) → Fits net m k vectors responses s → Fits net m k vectors responses u → s ≡ u
 
 -- ---- a wiring state as a test, in the words of row 11
 
@@ -54,9 +55,9 @@ conflicts net state reach = any (length state) (λ j. meet-and-differ net reach 
 unfoldable pub has-conflict : Network → List ℕ → Bool
 has-conflict net state = any (length state) (λ i. conflicts net state (at state i))
 
--- not n words; a bit at or above n, or more than k drivers; or two reaches that meet and differ
-unfoldable pub not-a-state : Network → ℕ → List ℕ → Bool
-not-a-state net k state =
+-- not m words; a bit at or above n, or more than k drivers; or two reaches that meet and differ
+unfoldable pub not-a-state : Network → (m k : ℕ) → List ℕ → Bool
+not-a-state net m k state =
     let wrong = has-wrong-reach net k state in
     let conflict = has-conflict net state in
-    not (eqb (length state) (net .nets)) || (wrong || conflict)
+    not (eqb (length state) m) || (wrong || conflict)

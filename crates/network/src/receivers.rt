@@ -7,6 +7,7 @@ ghost use Rattle.words.specs.Bits.{at};
 ghost use Rattle.words.specs.Answers.{«lent-after», full};
 ghost use Rattle.network.specs.Joint.{ActiveBits, «no-drivers», «with-driver»};
 ghost use Rattle.network.specs.Reading.{active, «needs-extra», meets, reads, «sequential-response», «response-word», response};
+ghost use Rattle.network.specs.OwnReceivers.{«own-receivers»};
 use crate::Network;
 use words::Ptv;
 use words::Stv;
@@ -85,6 +86,18 @@ pub fn response_word(net: Network, state: &[u64], vector: Ptv) -> Ptv
         i += 1;
     }
     Ptv(crate::drivers::active_bits(net, w, state.len() as u64))
+}
+
+// The number of each net into the front of `out`; the rest of `out` is kept.
+pub fn fill_own(nets: u64, out: &mut [u64])
+    requires { ⌜ nets ≤ length (now out) ⌝ }
+    ensures { λ r. ⌜ now (out .exit) ≡ lent-after (full (own-receivers nets)) (now (out .entry)) ⌝ }
+{
+    let mut i: u64 = 0;
+    while i < nets {
+        out[i as usize] = i;
+        i += 1;
+    }
 }
 
 // One response word a vector into the front of `out`; the rest of `out` is kept.

@@ -6,17 +6,40 @@ ghost use lib.ListN.{length};
 ghost use Rattle.words.specs.Bits.{at};
 ghost use Rattle.network.specs.States.{«few-drivers», «has-wrong-reach», «has-conflict», «not-a-state»};
 ghost use Rattle.network.specs.Rows.{«bad-net-count», «bad-class», «bad-level», «bad-gate», «bad-vector-count»};
-ghost use Rattle.network.specs.Rows.{«has-high-bit», «bad-response-count», «no-room», «network-refusal», «set-admission»};
-ghost use Rattle.network.specs.Rows.{admission};
+ghost use Rattle.network.specs.Rows.{«bad-receivers», «has-high-bit», «bad-response-count», «no-room»};
+ghost use Rattle.network.specs.Rows.{«board-refusal», «set-admission», «board-admission», admission};
 use crate::Admission;
 use crate::Network;
 
 // Row 5: n below 2 or above 48.
-fn bad_net_count(net: Network) -> bool
+pub fn bad_net_count(net: Network) -> bool
     ensures { λ r. ⌜ r ≡ bad-net-count net ⌝ }
 {
     let n = net.nets;
     (n < 2) | (48 < n)
+}
+
+// Row 21: m below n or above 64, a receiver that names no net, or a net that has none. `named` has the nets of the
+// receivers so far.
+fn bad_receivers(net: Network, receivers: &[u64]) -> bool
+    requires { ⌜ net .nets ≤ 48 ⌝ }
+    ensures { λ r. ⌜ r ≡ bad-receivers net (now (receivers .entry)) ⌝ }
+{
+    let count = receivers.len() as u64;
+    if (count < net.nets) | (64 < count) {
+        return true;
+    }
+    let mut named: u64 = 0;
+    let mut r: usize = 0;
+    while r < receivers.len() {
+        let owner = receivers[r];
+        if net.nets <= owner {
+            return true;
+        }
+        named |= words::sets::bit_word(owner);
+        r += 1;
+    }
+    named != crate::drivers::all_drivers(net)
 }
 
 // Row 6: k not 1, 2, 3 or n, or above n.
@@ -51,15 +74,15 @@ fn bad_vector_count(vectors: &[u64]) -> bool
     (count < 1) | (64 < count)
 }
 
-// Rows 8 and 10: a bit at or above n.
-pub fn has_high_bit(net: Network, words: &[u64]) -> bool
-    requires { ⌜ net .nets ≤ 48 ⌝ }
-    ensures { λ r. ⌜ r ≡ has-high-bit net (now (words .entry)) ⌝ }
+// Rows 8 and 10: a bit at or above the width. No word has one at or above 64.
+pub fn has_high_bit(width: u64, words: &[u64]) -> bool
+    requires { ⌜ width ≤ 64 ⌝ }
+    ensures { λ r. ⌜ r ≡ has-high-bit width (now (words .entry)) ⌝ }
 {
-    let end = words::sets::bit_word(net.nets);
+    let last = words::sets::low_ones(width);
     let mut t: usize = 0;
     while t < words.len() {
-        if end <= words[t] {
+        if last < words[t] {
             return true;
         }
         t += 1;
@@ -67,12 +90,15 @@ pub fn has_high_bit(net: Network, words: &[u64]) -> bool
     false
 }
 
-// The first of a network's own rows, 5, 17 and 20, that holds, or 0.
-pub fn network_refusal(net: Network) -> u64
-    ensures { λ r. ⌜ r ≡ network-refusal net ⌝ }
+// The first of a board's own rows, 5, 21, 17 and 20, that holds, or 0.
+pub fn board_refusal(net: Network, receivers: &[u64]) -> u64
+    ensures { λ r. ⌜ r ≡ board-refusal net (now (receivers .entry)) ⌝ }
 {
     if bad_net_count(net) {
         return 5;
+    }
+    if bad_receivers(net, receivers) {
+        return 21;
     }
     if bad_level(net) {
         return 17;
@@ -102,10 +128,23 @@ pub fn admit_set(net: Network, class: u64, vectors: &[u64]) -> Admission
     if bad_vector_count(vectors) {
         return Admission::Refused(7);
     }
-    if has_high_bit(net, vectors) {
+    if has_high_bit(net.nets, vectors) {
         return Admission::Refused(8);
     }
     Admission::Admitted
+}
+
+// The same with row 21 after 5, for a call that takes receivers.
+pub fn admit_board(net: Network, receivers: &[u64], class: u64, vectors: &[u64]) -> Admission
+    ensures { λ r. ⌜ admission r ≡ board-admission net (now (receivers .entry)) class (now (vectors .entry)) ⌝ }
+{
+    if bad_net_count(net) {
+        return Admission::Refused(5);
+    }
+    if bad_receivers(net, receivers) {
+        return Admission::Refused(21);
+    }
+    admit_set(net, class, vectors)
 }
 
 // At most k drivers: the count of ones decides.
@@ -162,12 +201,12 @@ fn has_conflict(net: Network, state: &[u64]) -> bool
     false
 }
 
-// Row 11: not a wiring state of the class.
-pub fn not_a_state(net: Network, class: u64, state: &[u64]) -> bool
+// Row 11: not a wiring state of this many receivers and this class.
+pub fn not_a_state(net: Network, receivers: usize, class: u64, state: &[u64]) -> bool
     requires { ⌜ net .nets ≤ 48 ⌝ }
-    ensures { λ r. ⌜ r ≡ not-a-state net class (now (state .entry)) ⌝ }
+    ensures { λ r. ⌜ r ≡ not-a-state net receivers class (now (state .entry)) ⌝ }
 {
-    if state.len() as u64 != net.nets {
+    if state.len() != receivers {
         return true;
     }
     if has_wrong_reach(net, class, state) {

@@ -10,7 +10,8 @@ use Rattle.words.specs.Answers.{full, lent-after}
 use Rattle.words.specs.Writing.{written}
 use Rattle.words.proofs.Writing.{written-next, written-front}
 use Rattle.session.specs.declared.Session.{Session}
-use Rattle.packing.specs.Packed.{first-place, reaches-place, spent-place, session-size, session-head, session-words, session-of}
+use Rattle.packing.specs.Packed.{owners-place, first-place, reaches-place, spent-place, session-size}
+use Rattle.packing.specs.Packed.{session-head, session-words, session-of}
 
 -- words put into the part of a list from a place on
 pub part-written : (out from part : List ℕ) (place : ℕ) → part ≡ lent-after (full from) (take (length out - place) (drop place out))
@@ -36,68 +37,98 @@ all-written words lent e =
     ap (λ (rest : List ℕ). words ++ rest) (drop-of-length-le lent {i = length words} (omega arith))
     ∙ append-nil words
 
--- the four parts of a record, put one after the other
-pub session-written : (session : Session) (lent headed answered reached all : List ℕ) → length (session .first) ≡ 8
-    → length (session .reaches) ≡ 48
-    → headed ≡ written lent 0 (session-head session) → answered ≡ written headed first-place (session .first)
+-- the five parts of a record, put one after the other
+pub session-written : (session : Session) (lent headed owned answered reached all : List ℕ)
+    → length (session .owners) ≡ 64
+    → length (session .first) ≡ 8 → length (session .reaches) ≡ 64
+    → headed ≡ written lent 0 (session-head session) → owned ≡ written headed owners-place (session .owners)
+    → answered ≡ written owned first-place (session .first)
     → reached ≡ written answered reaches-place (session .reaches) → all ≡ written reached spent-place (session .spent ∷ [])
     → all ≡ lent-after (full (session-words session)) lent
 unfolding session-words
-session-written session lent headed answered reached all first-size reaches-size a b c d =
+session-written session lent headed owned answered reached all owners-size first-size reaches-size a b c d e =
     let head = session-head session in
-    let two : answered ≡ written lent 0 (head ++ session .first) =
-    written-next lent headed answered 0 first-place head (session .first) a b (omega arith) (omega arith) in
-    let three : reached ≡ written lent 0 (head ++ session .first ++ session .reaches) =
-    written-next lent answered reached 0 reaches-place (head ++ session .first) (session .reaches) two c (omega arith) (omega arith) in
-    let size = length-append (session .first) (session .reaches) in
-    written-next lent reached all 0 spent-place (head ++ session .first ++ session .reaches) (session .spent ∷ []) three d
-    (omega arith) (omega arith)
+    let two : owned ≡ written lent 0 (head ++ session .owners) =
+    written-next lent headed owned 0 owners-place head (session .owners) a b (omega arith) (omega arith) in
+    let three : answered ≡ written lent 0 (head ++ session .owners ++ session .first) =
+    written-next lent owned answered 0 first-place (head ++ session .owners) (session .first) two c (omega arith)
+    (omega arith) in
+    let lists = length-append (session .owners) (session .first) in
+    let four : reached ≡ written lent 0 (head ++ session .owners ++ session .first ++ session .reaches) =
+    written-next lent answered reached 0 reaches-place (head ++ session .owners ++ session .first)
+    (session .reaches) three d
+    (omega arith) (omega arith) in
+    let size = length-append (session .owners ++ session .first) (session .reaches) in
+    written-next lent reached all 0 spent-place (head ++ session .owners ++ session .first ++ session .reaches)
+    (session .spent ∷ [])
+    four e (omega arith) (omega arith)
     ∙ written-front lent (session-words session)
+
+-- lists appended one after the other, and each to what comes after it
+appended : (owners first reaches rest : List ℕ)
+    → owners ++ first ++ reaches ++ rest ≡ owners ++ (first ++ (reaches ++ rest))
+appended owners first reaches rest =
+    append-assoc (owners ++ first) reaches rest ∙ append-assoc owners first (reaches ++ rest)
 
 -- the words of the record that so many words are
 pub session-there : (words : List ℕ) → length words ≡ session-size → session-words (session-of words) ≡ words
 unfolding session-words session-of
 session-there words e =
+    let owners = take 64 (drop owners-place words) in
     let answers = take 8 (drop first-place words) in
-    let states = take 48 (drop reaches-place words) in
-    let front : words ≡ at words 0 ∷ at words 1 ∷ at words 2 ∷ at words 3 ∷ drop first-place words =
+    let states = take 64 (drop reaches-place words) in
+    let front : words ≡ at words 0 ∷ at words 1 ∷ at words 2 ∷ at words 3 ∷ at words 4 ∷ drop owners-place words =
     drop-cons words 0 0 (omega arith)
     ∙ ap (λ (rest : List ℕ). at words 0 ∷ rest)
     (drop-cons words 1 0 (omega arith) ∙ ap (λ (rest : List ℕ). at words 1 ∷ rest)
-    (drop-cons words 2 0 (omega arith) ∙ ap (λ (rest : List ℕ). at words 2 ∷ rest) (drop-cons words 3 0 (omega arith)))) in
-    let first : answers ++ drop reaches-place words ≡ drop first-place words =
-    ap (λ (rest : List ℕ). answers ++ rest) (sym (drop-drop 8 first-place words)) ∙ take-append-drop 8 (drop first-place words) in
-    let reaches : states ++ drop spent-place words ≡ drop reaches-place words =
-    ap (λ (rest : List ℕ). states ++ rest) (sym (drop-drop 48 reaches-place words)) ∙ take-append-drop 48 (drop reaches-place words) in
+    (drop-cons words 2 0 (omega arith) ∙ ap (λ (rest : List ℕ). at words 2 ∷ rest)
+    (drop-cons words 3 0 (omega arith) ∙ ap (λ (rest : List ℕ). at words 3 ∷ rest)
+    (drop-cons words 4 0 (omega arith))))) in
     let spent : drop spent-place words ≡ at words spent-place ∷ [] =
     drop-cons words spent-place 0 (omega arith)
     ∙ ap (λ (rest : List ℕ). at words spent-place ∷ rest) (drop-of-length-le words {i = session-size} (omega arith)) in
-    let tail : answers ++ states ++ at words spent-place ∷ [] ≡ drop first-place words =
-    append-assoc answers states (at words spent-place ∷ []) ∙ ap (λ (rest : List ℕ). answers ++ (states ++ rest)) (sym spent)
-    ∙ ap (λ (rest : List ℕ). answers ++ rest) reaches ∙ first in
-    ap (λ (rest : List ℕ). at words 0 ∷ at words 1 ∷ at words 2 ∷ at words 3 ∷ rest) tail ∙ sym front
+    let tail : owners ++ answers ++ states ++ at words spent-place ∷ [] ≡ drop owners-place words =
+    appended owners answers states (at words spent-place ∷ [])
+    ∙ ap (λ (rest : List ℕ). owners ++ (answers ++ (states ++ rest))) (sym spent)
+    ∙ ap (λ (rest : List ℕ). owners ++ (answers ++ rest)) (together 64 reaches-place words)
+    ∙ ap (λ (rest : List ℕ). owners ++ rest) (together 8 first-place words) ∙ together 64 owners-place words in
+    ap (λ (rest : List ℕ). at words 0 ∷ at words 1 ∷ at words 2 ∷ at words 3 ∷ at words 4 ∷ rest) tail ∙ sym front
+  where
+    -- so many words from a place on, and the rest
+    together : (count place : ℕ) (words : List ℕ)
+        → take count (drop place words) ++ drop (place + count) words ≡ drop place words
+    together count place words =
+        ap (λ (rest : List ℕ). take count (drop place words) ++ rest) (sym (drop-drop count place words))
+        ∙ take-append-drop count (drop place words)
 
--- ---- a record with arrays of 8 and 48 words
+-- ---- a record with arrays of 64, 8 and 64 words
 
 pub record Sized (session : Session) : Type 0 where
+  pub owners-size : length (session .owners) ≡ 64
   pub first-size : length (session .first) ≡ 8
-  pub reaches-size : length (session .reaches) ≡ 48
+  pub reaches-size : length (session .reaches) ≡ 64
 
 -- the record that so many words are is such
 pub session-sized : (words : List ℕ) → length words ≡ session-size → Sized (session-of words)
 unfolding session-of
 session-sized words e = record {
+  owners-size = length-take-le 64 (drop owners-place words) (omega (arith, length-drop owners-place words));
   first-size = length-take-le 8 (drop first-place words) (omega (arith, length-drop first-place words));
-  reaches-size = length-take-le 48 (drop reaches-place words) (omega (arith, length-drop reaches-place words));
+  reaches-size = length-take-le 64 (drop reaches-place words) (omega (arith, length-drop reaches-place words));
 }
 
 module _ (session : Session) (sized : Sized session) where
+  lists-size : length (session .owners ++ session .first ++ session .reaches) ≡ 136
+  lists-size =
+      let lists = length-append (session .owners) (session .first) in
+      length-append (session .owners ++ session .first) (session .reaches)
+      ∙ omega (arith, sized .owners-size, sized .first-size, sized .reaches-size)
+
   pub words-size : length (session-words session) ≡ session-size
   unfolding session-words
   words-size =
-      let lists = length-append (session .first) (session .reaches) in
-      let all = length-append (session .first ++ session .reaches) (session .spent ∷ []) in
-      omega (arith, sized .first-size, sized .reaches-size)
+      let all = length-append (session .owners ++ session .first ++ session .reaches) (session .spent ∷ []) in
+      omega (arith, lists-size)
 
   -- the record that its words are
   pub session-back : session-of (session-words session) ≡ session
@@ -105,22 +136,33 @@ module _ (session : Session) (sized : Sized session) where
   session-back j = record {
     step = session .step;
     network = session .network;
+    receivers = session .receivers;
+    owners = owners-back j;
     first = first-back j;
     reaches = reaches-back j;
-    spent = getD-at (session .first ++ session .reaches) (session .spent) [] 0 56 lists-size j;
+    spent = getD-at (session .owners ++ session .first ++ session .reaches) (session .spent) [] 0 136 lists-size j;
   }
     where
-      lists-size : length (session .first ++ session .reaches) ≡ 56
-      lists-size = length-append (session .first) (session .reaches) ∙ omega (arith, sized .first-size, sized .reaches-size)
+      apart : session .owners ++ session .first ++ session .reaches ++ session .spent ∷ []
+          ≡ session .owners ++ (session .first ++ (session .reaches ++ session .spent ∷ []))
+      apart = appended (session .owners) (session .first) (session .reaches) (session .spent ∷ [])
 
-      apart : session .first ++ session .reaches ++ session .spent ∷ [] ≡ session .first ++ (session .reaches ++ session .spent ∷ [])
-      apart = append-assoc (session .first) (session .reaches) (session .spent ∷ [])
+      owners-back : take 64 (session .owners ++ session .first ++ session .reaches ++ session .spent ∷ [])
+          ≡ session .owners
+      owners-back = ap (take 64) apart ∙ take-at (session .owners) _ 64 (sized .owners-size)
 
-      first-back : take 8 (session .first ++ session .reaches ++ session .spent ∷ []) ≡ session .first
-      first-back = ap (take 8) apart ∙ take-at (session .first) (session .reaches ++ session .spent ∷ []) 8 (sized .first-size)
+      after-owners : drop 64 (session .owners ++ session .first ++ session .reaches ++ session .spent ∷ [])
+          ≡ session .first ++ (session .reaches ++ session .spent ∷ [])
+      after-owners = ap (drop 64) apart ∙ drop-at (session .owners) _ 64 (sized .owners-size)
 
-      reaches-back : take 48 (drop 8 (session .first ++ session .reaches ++ session .spent ∷ [])) ≡ session .reaches
+      first-back : take 8 (drop 64 (session .owners ++ session .first ++ session .reaches ++ session .spent ∷ []))
+          ≡ session .first
+      first-back = ap (take 8) after-owners ∙ take-at (session .first) _ 8 (sized .first-size)
+
+      reaches-back : take 64 (drop 72 (session .owners ++ session .first ++ session .reaches ++ session .spent ∷ []))
+          ≡ session .reaches
       reaches-back =
-          ap (λ (l : List ℕ). take 48 (drop 8 l)) apart
-          ∙ ap (take 48) (drop-at (session .first) (session .reaches ++ session .spent ∷ []) 8 (sized .first-size))
-          ∙ take-at (session .reaches) (session .spent ∷ []) 48 (sized .reaches-size)
+          ap (take 64)
+          (sym (drop-drop 8 64 (session .owners ++ session .first ++ session .reaches ++ session .spent ∷ []))
+          ∙ ap (drop 8) after-owners ∙ drop-at (session .first) _ 8 (sized .first-size))
+          ∙ take-at (session .reaches) (session .spent ∷ []) 64 (sized .reaches-size)

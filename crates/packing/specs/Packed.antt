@@ -15,7 +15,7 @@ unfoldable pub verdict-words : Verdict → List ℕ
 verdict-words Pass = 0 ∷ 0 ∷ 0 ∷ []
 verdict-words (Pair a b) = 1 ∷ a ∷ b ∷ []
 
--- kind, reach and partners of each net
+-- kind, reach and partners of each receiver
 unfoldable pub finding-words : List Finding → List ℕ
 finding-words [] = []
 finding-words (found ∷ table) = found .kind ∷ found .reach ∷ found .partners ∷ finding-words table
@@ -30,25 +30,30 @@ abbrev pub size-words : List ℕ → List ℕ
 size-words file = length file ∷ []
 
 -- where the parts of a session's record stand among its words, and how many words it has
+abbrev pub owners-place : ℕ
+owners-place = 5
+
 abbrev pub first-place : ℕ
-first-place = 4
+first-place = owners-place + 64
 
 abbrev pub reaches-place : ℕ
 reaches-place = first-place + 8
 
 abbrev pub spent-place : ℕ
-spent-place = reaches-place + 48
+spent-place = reaches-place + 64
 
 abbrev pub session-size : ℕ
 session-size = spent-place + 1
 
--- step, nets, level, gate
+-- step, nets, level, gate, number of receivers
 abbrev pub session-head : Session → List ℕ
-session-head session = session .step ∷ session .network .nets ∷ session .network .level ∷ session .network .gate ∷ []
+session-head session =
+    session .step ∷ session .network .nets ∷ session .network .level ∷ session .network .gate ∷ session .receivers ∷ []
 
--- then 8 words of first answers, 48 reaches, vectors spent
+-- then the nets of 64 receivers, 8 words of first answers, 64 reaches, vectors spent
 unfoldable pub session-words : Session → List ℕ
-session-words session = session-head session ++ session .first ++ session .reaches ++ session .spent ∷ []
+session-words session =
+    session-head session ++ session .owners ++ session .first ++ session .reaches ++ session .spent ∷ []
 
 -- the record that so many words are
 unfoldable pub session-of : List ℕ → Session
@@ -56,7 +61,9 @@ session-of words =
     record {
       step = at words 0;
       network = network-with (at words 1) (at words 2) (at words 3);
+      receivers = at words 4;
+      owners = take 64 (drop owners-place words);
       first = take 8 (drop first-place words);
-      reaches = take 48 (drop reaches-place words);
+      reaches = take 64 (drop reaches-place words);
       spent = at words spent-place;
     }

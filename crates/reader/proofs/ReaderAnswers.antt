@@ -17,7 +17,7 @@ abbrev pub content-tests : Network → ℕ → (vectors responses : List ℕ) �
 content-tests net k vectors responses given =
     set-tests net k vectors
     ++ (9, given && bad-response-count (length vectors) (length responses))
-    ∷ (10, given && has-high-bit net responses)
+    ∷ (10, given && has-high-bit (net .nets) responses)
     ∷ []
 
 abbrev pub content-admission : Network → ℕ → (vectors responses : List ℕ) → Bool → Answer (Unit {0})

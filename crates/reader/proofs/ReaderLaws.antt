@@ -36,7 +36,7 @@ module _ (file : List ℕ) (vectors-room responses-room : ℕ) where
     decides-given-row file (decides-row-9 (length (job .vectors)) (length (job .responses))),
     λ _. (
       refl,
-      decides-given-row file (decides-high-bit (job .network) (job .responses)),
+      decides-given-row file (decides-high-bit (job .network .nets) (job .responses)),
       λ _. (refl, decides-either-room (length (job .vectors)) vectors-room (length (job .responses)) responses-room, λ _. tt),
     ),
   )

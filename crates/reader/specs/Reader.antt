@@ -31,7 +31,7 @@ FileRows file = (1, Row1 file) ∷ (2, Row2 file) ∷ (3, Row3 file) ∷ []
 abbrev pub ListRows : List ℕ → JobContent → (vectors-room responses-room : ℕ) → List (ℕ × Type 0)
 ListRows file job vectors-room responses-room =
     (9, (has-responses file ≡ true) × Row9 (length (job .vectors)) (length (job .responses)))
-    ∷ (10, (has-responses file ≡ true) × HighBit (job .network) (job .responses))
+    ∷ (10, (has-responses file ≡ true) × HighBit (job .network .nets) (job .responses))
     ∷ (12, Row12 (length (job .vectors)) vectors-room ⊎ Row12 (length (job .responses)) responses-room)
     ∷ []
 
@@ -46,7 +46,7 @@ file-tests file = (1, bad-mark file) ∷ (2, bad-layout file) ∷ (3, bad-bodies
 abbrev pub list-tests : List ℕ → JobContent → (vectors-room responses-room : ℕ) → List (ℕ × Bool)
 list-tests file job vectors-room responses-room =
     (9, has-responses file && bad-response-count (length (job .vectors)) (length (job .responses)))
-    ∷ (10, has-responses file && has-high-bit (job .network) (job .responses))
+    ∷ (10, has-responses file && has-high-bit (job .network .nets) (job .responses))
     ∷ (12, no-room (length (job .vectors)) vectors-room || no-room (length (job .responses)) responses-room)
     ∷ []
 

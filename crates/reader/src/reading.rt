@@ -212,7 +212,7 @@ pub fn admit_job(
     ensures { λ r. ⌜ admission r
         ≡ by-tests (set-tests network class (now (vectors .entry))
         ++ (9, given && bad-response-count (length (now (vectors .entry))) (length (now (responses .entry))))
-        ∷ (10, given && has-high-bit network (now (responses .entry))) ∷ []) tt ⌝ }
+        ∷ (10, given && has-high-bit (network .nets) (now (responses .entry))) ∷ []) tt ⌝ }
 {
     let admission = network::refusals::admit_set(network, class, vectors);
     if let Admission::Refused(number) = admission {
@@ -221,7 +221,7 @@ pub fn admit_job(
     if given & network::refusals::bad_response_count(vectors.len(), responses.len()) {
         return Admission::Refused(9);
     }
-    if given & network::refusals::has_high_bit(network, responses) {
+    if given & network::refusals::has_high_bit(network.nets, responses) {
         return Admission::Refused(10);
     }
     Admission::Admitted

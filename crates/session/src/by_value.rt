@@ -8,13 +8,15 @@ use crate::Stepped;
 use network::Network;
 
 // The call *begin*.
-pub fn begin(session: Session, net: Network, list: &mut [u64]) -> Stepped
-    ensures session { λ r. ⌜ r .session ≡ begun session net (length (now (list .entry))) .session ⌝ }
-    ensures code { λ r. ⌜ r .code ≡ begun session net (length (now (list .entry))) .code ⌝ }
-    ensures list { λ r. ⌜ now (list .exit) ≡ lent-after (begin-answer net (length (now (list .entry)))) (now (list .entry)) ⌝ }
+pub fn begin(session: Session, net: Network, receivers: &[u64], list: &mut [u64]) -> Stepped
+    ensures session { λ r. ⌜ r .session
+        ≡ begun session net (now (receivers .entry)) (length (now (list .entry))) .session ⌝ }
+    ensures code { λ r. ⌜ r .code ≡ begun session net (now (receivers .entry)) (length (now (list .entry))) .code ⌝ }
+    ensures list { λ r. ⌜ now (list .exit)
+        ≡ lent-after (begin-answer net (now (receivers .entry)) (length (now (list .entry)))) (now (list .entry)) ⌝ }
 {
     let mut record = session;
-    let code = crate::begin(&mut record, net, list);
+    let code = crate::begin(&mut record, net, receivers, list);
     Stepped {
         code: code,
         session: record,

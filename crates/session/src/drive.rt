@@ -22,7 +22,9 @@ pub fn to_drive<'a>(session: Session, first: &'a [u64], second: &'a [u64]) -> &'
         return front(p, first);
     }
     if crate::record::awaits_second(session) {
-        let count = crate::record::second_count(session.network, &session.first);
+        let m = session.receivers as usize;
+        let owners = session.owners;
+        let count = crate::record::second_count(session.network, &owners[..m], &session.first);
         return front(count, second);
     }
     &first[..0]

@@ -12,12 +12,14 @@ mod record;
 use network::Network;
 
 // A session's record. Step 1 waits for first answers, 2 for second answers, 3 is finished; what a step does not use is
-// 0.
+// 0. `owners` begins with the net of each of the receivers.
 pub struct Session {
     pub step: u64,
     pub network: Network,
+    pub receivers: u64,
+    pub owners: [u64; 64],
     pub first: [u64; 8],
-    pub reaches: [u64; 48],
+    pub reaches: [u64; 64],
     pub spent: u64,
 }
 
@@ -38,13 +40,15 @@ fn refused(number: u64, session: Session) -> Stepped
     }
 }
 
-// The step of *begin*, by value: the vectors of step one into the front of `list`. Rows 5, 17, 20 and 12.
-fn begin_step(session: Session, net: Network, list: &mut [u64]) -> Stepped
-    ensures session { λ r. ⌜ r .session ≡ begun session net (length (now (list .entry))) .session ⌝ }
-    ensures code { λ r. ⌜ r .code ≡ begun session net (length (now (list .entry))) .code ⌝ }
-    ensures list { λ r. ⌜ now (list .exit) ≡ lent-after (begin-answer net (length (now (list .entry)))) (now (list .entry)) ⌝ }
+// The step of *begin*, by value: the vectors of step one into the front of `list`. Rows 5, 21, 17, 20 and 12.
+fn begin_step(session: Session, net: Network, receivers: &[u64], list: &mut [u64]) -> Stepped
+    ensures session { λ r. ⌜ r .session
+        ≡ begun session net (now (receivers .entry)) (length (now (list .entry))) .session ⌝ }
+    ensures code { λ r. ⌜ r .code ≡ begun session net (now (receivers .entry)) (length (now (list .entry))) .code ⌝ }
+    ensures list { λ r. ⌜ now (list .exit)
+        ≡ lent-after (begin-answer net (now (receivers .entry)) (length (now (list .entry)))) (now (list .entry)) ⌝ }
 {
-    let code = network::refusals::network_refusal(net);
+    let code = network::refusals::board_refusal(net, receivers);
     if code != 0 {
         return refused(code, session);
     }
@@ -55,7 +59,7 @@ fn begin_step(session: Session, net: Network, list: &mut [u64]) -> Stepped
     steps::first::first_vectors(net, list);
     Stepped {
         code: 0,
-        session: new_record::awaiting_first(net),
+        session: new_record::awaiting_first(net, receivers),
     }
 }
 
@@ -71,14 +75,16 @@ fn first_step(session: Session, answers: &[u64], list: &mut [u64]) -> Stepped
         return refused(4, session);
     }
     let net = session.network;
+    let m = session.receivers as usize;
+    let owners = session.owners;
     let p = steps::first::word_length(net) as usize;
     if network::refusals::bad_response_count(p, answers.len()) {
         return refused(9, session);
     }
-    if network::refusals::has_high_bit(net, answers) {
+    if network::refusals::has_high_bit(session.receivers, answers) {
         return refused(10, session);
     }
-    let second = steps::second::second_vectors(net, answers);
+    let second = steps::second::second_vectors(net, &owners[..m], answers);
     let vectors = second.words;
     let count = second.count;
     if network::refusals::no_room(count, list.len()) {
@@ -87,7 +93,7 @@ fn first_step(session: Session, answers: &[u64], list: &mut [u64]) -> Stepped
     words::lists::copy_words(&vectors[..count], list);
     Stepped {
         code: 0,
-        session: new_record::answered(net, answers, count),
+        session: new_record::answered(net, &owners[..m], answers, count),
     }
 }
 
@@ -100,36 +106,46 @@ fn second_step(session: Session, answers: &[u64]) -> Stepped
         return refused(4, session);
     }
     let net = session.network;
+    let m = session.receivers as usize;
+    let owners = session.owners;
     let p = steps::first::word_length(net) as usize;
     let first = session.first;
-    let second = steps::second::second_vectors(net, &first[..p]);
+    let second = steps::second::second_vectors(net, &owners[..m], &first[..p]);
     let vectors = second.words;
     let count = second.count;
     if network::refusals::bad_response_count(count, answers.len()) {
         return refused(9, session);
     }
-    if network::refusals::has_high_bit(net, answers) {
+    if network::refusals::has_high_bit(session.receivers, answers) {
         return refused(10, session);
     }
-    let settled = steps::settling::settled(net, &first[..p], &vectors[..count], answers);
+    let settled = steps::settling::settled(
+        net,
+        &owners[..m],
+        &first[..p],
+        &vectors[..count],
+        answers,
+    );
     if !settled.fits {
         return refused(14, session);
     }
     let state = settled.state;
-    let n = net.nets as usize;
     Stepped {
         code: 0,
-        session: new_record::finished(net, &state[..n], (p + count) as u64),
+        session: new_record::finished(net, &owners[..m], &state[..m], (p + count) as u64),
     }
 }
 
-// The call *begin* on a lent record.
-pub fn begin(session: &mut Session, net: Network, list: &mut [u64]) -> u64
-    ensures session { λ r. ⌜ now (session .exit) ≡ begun (now (session .entry)) net (length (now (list .entry))) .session ⌝ }
-    ensures code { λ r. ⌜ r ≡ begun (now (session .entry)) net (length (now (list .entry))) .code ⌝ }
-    ensures list { λ r. ⌜ now (list .exit) ≡ lent-after (begin-answer net (length (now (list .entry)))) (now (list .entry)) ⌝ }
+// The call *begin* on a lent record. `receivers` has the net of each receiver.
+pub fn begin(session: &mut Session, net: Network, receivers: &[u64], list: &mut [u64]) -> u64
+    ensures session { λ r. ⌜ now (session .exit)
+        ≡ begun (now (session .entry)) net (now (receivers .entry)) (length (now (list .entry))) .session ⌝ }
+    ensures code { λ r. ⌜ r
+        ≡ begun (now (session .entry)) net (now (receivers .entry)) (length (now (list .entry))) .code ⌝ }
+    ensures list { λ r. ⌜ now (list .exit)
+        ≡ lent-after (begin-answer net (now (receivers .entry)) (length (now (list .entry)))) (now (list .entry)) ⌝ }
 {
-    let done = begin_step(*session, net, list);
+    let done = begin_step(*session, net, receivers, list);
     *session = done.session;
     done.code
 }

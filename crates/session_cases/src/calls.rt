@@ -1,10 +1,12 @@
 // The calls on a session's record. A line is one of these:
-//     1 n room                    begin, at the soft level and with the gate set; `room` is the length of the list
-//                                 lent, at most 64
+//     1 n room                    begin, with the soft level, the gate and the receivers set; `room` is the length of
+//                                 the list lent, at most 64
 //     2 room: answers             first answers
 //     3: answers                  second answers
 //     4: words; words             the vectors to drive next, of these two lists
-//     5 step n first reach spent  no call: the record is filled with these numbers, and with the level and gate set
+//     5 step n first reach spent  no call: the record is filled with these numbers, and with the level, the gate and
+//                                 the receivers set, the owners after them 0; a seventh number is m, the number of
+//                                 receivers, in place of the length of their list
 ghost use mathlib.Core.Path.{_≡_};
 ghost use Prim.Native.Nat.{_≤_};
 ghost use lib.ListN.{length};
@@ -15,39 +17,78 @@ use trials::lent::MARKER;
 use trials::read;
 use trials::read::END;
 use trials::read::MOST;
+use trials::receivers;
 use trials::setting;
 use trials::setting::Setting;
 use trials::show;
 
-// A record with these numbers, in every entry of its lists too.
-fn filled(step: u64, net: Network, first: u64, reach: u64, spent: u64) -> Session {
-    Session {
-        step: step,
-        network: net,
-        first: [first; 8],
-        reaches: [reach; 48],
-        spent: spent,
+// How many receivers a record has room for.
+const MOST_RECEIVERS: usize = 64;
+
+// The owners of a record: those that a list begins with, and 0 in the entries after it.
+fn owners_of(list: &[u64]) -> [u64; MOST_RECEIVERS] {
+    let mut owners = [0u64; MOST_RECEIVERS];
+    let mut i: usize = 0;
+    while i < MOST_RECEIVERS {
+        if i < list.len() {
+            owners[i] = list[i];
+        }
+        i += 1;
     }
+    owners
 }
 
 // A record that is no call's.
 pub fn junk() -> Session {
-    let net = Network {
-        nets: 9,
-        level: 6,
-        gate: 8,
-    };
-    filled(7, net, 5, 3, 4)
+    Session {
+        step: 7,
+        network: Network {
+            nets: 9,
+            level: 6,
+            gate: 8,
+        },
+        receivers: 2,
+        owners: [1; MOST_RECEIVERS],
+        first: [5; 8],
+        reaches: [3; MOST_RECEIVERS],
+        spent: 4,
+    }
 }
 
-// The record, shown and filled.
-fn try_record(step: u64, net: Network, first: u64, reach: u64, spent: u64) -> Session {
-    show::entry(b"record: step", step);
+// The number of receivers of a record, if its line gives one.
+fn shown_count(is_given: bool, count: u64) {
+    if is_given {
+        show::entry(b", m", count);
+    }
+}
+
+// The record of a line, shown and filled; each entry of its first answers and of its reaches is the same.
+fn try_record(setting: Setting, numbers: &[u64; MOST], has_count: bool) -> Session
+    requires { ⌜ length (now numbers) ≡ 65 ⌝ }
+{
+    let net = setting::network_in(setting, numbers[2]);
+    let mut list = [0u64; MOST];
+    let listed = receivers::fill(setting.receivers, net.nets, &mut list);
+    let mut count = listed as u64;
+    if has_count {
+        count = numbers[6];
+    }
+    show::entry(b"record: step", numbers[1]);
     show::entry(b", nets", net.nets);
-    show::entry(b", first answers all", first);
-    show::entry(b", reaches all", reach);
-    show::entry(b", spent", spent);
-    filled(step, net, first, reach, spent)
+    shown_count(has_count, count);
+    show::entry(b", first answers all", numbers[3]);
+    show::entry(b", reaches all", numbers[4]);
+    show::entry(b", spent", numbers[5]);
+    receivers::shown(setting.receivers, &list[0..listed]);
+    Session {
+        step: numbers[1],
+        network: net,
+        receivers: count,
+        owners: owners_of(&list[0..listed]),
+        first: [numbers[3]; 8],
+        reaches: [numbers[4]; MOST_RECEIVERS],
+        spent: numbers[5],
+    }
 }
 
 fn answer_words(words: &[u64]) {
@@ -66,7 +107,7 @@ fn standing(after: Session) {
     }
     let reaches = after.reaches;
     show::text(b" finished");
-    show::part(&reaches, 0, after.network.nets as usize);
+    show::part(&reaches, 0, after.receivers as usize);
     show::entry(b", spent", after.spent);
 }
 
@@ -112,8 +153,8 @@ fn answered(after: Session, list: &[u64]) {
 }
 
 // Makes the call *begin* and shows its answer and the lent list.
-fn begin_into(before: Session, net: Network, list: &mut [u64]) -> Session {
-    let done = session::by_value::begin(before, net, list);
+fn begin_into(before: Session, net: Network, receivers: &[u64], list: &mut [u64]) -> Session {
+    let done = session::by_value::begin(before, net, receivers, list);
     if done.code != 0 {
         lent::refused(done.code, list);
     } else {
@@ -134,13 +175,17 @@ fn first_into(before: Session, answers: &[u64], list: &mut [u64]) -> Session {
 }
 
 // The call *begin*, with `room` entries lent.
-fn try_begin(before: Session, net: Network, room: usize) -> Session
+fn try_begin(before: Session, setting: Setting, nets: u64, room: usize) -> Session
     requires { ⌜ room ≤ 64 ⌝ }
 {
     let mut list = [MARKER; 64];
-    show::entry(b"begin", net.nets);
+    let net = setting::network_in(setting, nets);
+    let mut owners = [0u64; MOST];
+    let count = receivers::fill(setting.receivers, nets, &mut owners);
+    show::entry(b"begin", nets);
+    receivers::shown(setting.receivers, &owners[0..count]);
     lent::room(room);
-    begin_into(before, net, &mut list[0..room])
+    begin_into(before, net, &owners[0..count], &mut list[0..room])
 }
 
 // The call *first answers*, with `room` entries lent.
@@ -187,16 +232,10 @@ fn try_numbers(before: Session, setting: Setting, head: &[u64; MOST], count: usi
 {
     let room = head[2];
     if (count == 3) & (head[0] == 1) && room <= 64 {
-        return try_begin(before, setting::network_in(setting, head[1]), room as usize);
+        return try_begin(before, setting, head[1], room as usize);
     }
-    if (count == 6) & (head[0] == 5) {
-        return try_record(
-            head[1],
-            setting::network_in(setting, head[2]),
-            head[3],
-            head[4],
-            head[5],
-        );
+    if ((count == 6) | (count == 7)) & (head[0] == 5) {
+        return try_record(setting, head, count == 7);
     }
     show::unreadable();
     before

@@ -1,10 +1,12 @@
 // The bench examples of document 01 for the session, its refusals, and records that no calls leave, with both gates at
-// both soft levels. Standard input has them, a call a line (calls.rt). After a line `session`, the lines are calls on
-// one record, which is junk at first, and the soft level is 1 and the gate 0; a line `level L` or `gate G` gives that
-// of the lines after it, up to the next line of its name. A line a call: what it was given, and what it answered;
-// `session`, `level` and `gate` lines are shown too, and what has not its form as unreadable. `lent` gives the length
-// of the list lent, and after `kept` stand its entries that the call left as they were; after an accepted call stand
-// what the record then says, and the vectors to drive next.
+// both soft levels, and with one receiver a net and several. Standard input has them, a call a line (calls.rt). After a
+// line `session`, the lines are calls on one record, which is junk at first, the soft level is 1, the gate 0, and there
+// is one receiver a net; a line `level L`, `gate G`, or `receivers` with the net of each receiver gives that of the
+// lines after it, up to the next line of its name, and `receivers own` is one receiver a net. A line a call: what it
+// was given, and what it answered; `session`, `level`, `gate` and `receivers` lines are shown too, and what has not its
+// form as unreadable. The receivers of a call or of a record are shown unless they are one a net. `lent` gives the
+// length of the list lent, and after `kept` stand its entries that the call left as they were; after an accepted call
+// stand what the record then says, and the vectors to drive next.
 mod calls;
 
 use session::Session;

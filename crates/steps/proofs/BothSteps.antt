@@ -1,6 +1,6 @@
 -- The two steps together: at most one state fits the answers to both, and it is the one that is read back.
 use mathlib.Core.Path.{_≡_, refl, sym, ap, ap₂, _∙_, subst}
-use mathlib.Core.Bool.{Bool, true, false, not, _&&_, cond}
+use mathlib.Core.Bool.{Bool, true, false, not, cond}
 use mathlib.Core.Logic.{⊎-elim, _≢_}
 use mathlib.Core.List.{List, [], _∷_, _++_, map, map-append}
 use Prim.Native.Nat.{ℕ, _+_, _-_, _^_, _≤_, _<_, zero-le}
@@ -17,15 +17,16 @@ use Rattle.words.specs.Searching.{passing, any}
 use Rattle.words.specs.Turning.{column, transpose}
 use Rattle.words.proofs.Bits.{words-equal, subset-at-most, has-own, has-only, has-not-zero, some-bit}
 use Rattle.words.proofs.Classes.{ones-at-most}
-use Rattle.words.proofs.Columns.{length-tabulate, tabulate-at, transpose-size, transpose-at}
+use Rattle.words.proofs.Columns.{transpose-at}
 use Rattle.words.proofs.Making.{map-at}
 use Rattle.words.proofs.Passing.{count-most, count-grows-past, larger-by-count, entry-of, entry-is}
-use Rattle.words.proofs.Searching.{any-at, any-none}
-use Rattle.words.proofs.Tests.{cases, contrary, and-left, and-right, and-both, same-truth, less-or-not, test-fails}
+use Rattle.words.proofs.Searching.{any-none, any-false}
+use Rattle.words.proofs.Tests.{cases, contrary, same-truth, less-or-not, test-fails}
 use Rattle.network.specs.declared.Network.{Network}
 use Rattle.network.specs.Reading.{soft-level, is-and, active, walking-vector, extra-vector, needs-extra, extra-vectors, reads}
 use Rattle.network.specs.Reading.{ReadAlike, sequential-response, response-word, response}
 use Rattle.network.specs.States.{DriverSet, State, Fits}
+use Rattle.network.proofs.Rows.{AdmittedReceivers}
 use Rattle.network.proofs.Reading.{extra-one, extra-most, reads-floating, reads-active, reads-alone, reads-walking}
 use Rattle.network.proofs.Reading.{reads-walking-all, reads-extra, has-sequential, active-answers, sequential-below}
 use Rattle.network.proofs.Reading.{alike-sequential, response-is}
@@ -34,7 +35,7 @@ use Rattle.diagnosis.specs.Walking.{Walked}
 use Rattle.diagnosis.proofs.Gathering.{walked-is}
 use Rattle.diagnosis.proofs.ReadingBack.{fits-answers, answers-fit, read-back-fits, smallest-read-back, candidate-fails}
 use Rattle.steps.specs.FirstStep.{word-length, sequential-words, first-vectors}
-use Rattle.steps.specs.SecondStep.{only-at, is-clear, Clear, unclear, UnclearNets, settling-vectors}
+use Rattle.steps.specs.SecondStep.{only-from, is-clear, Clear, unclear, UnclearNets, settling-vectors}
 use Rattle.steps.specs.SecondStep.{second-vectors, session-vectors, fault-free-state}
 use Rattle.steps.proofs.WordsApart.{WordsApart}
 use Rattle.steps.proofs.StepOneWords.{first-size, first-has}
@@ -65,10 +66,10 @@ module _ (net : Network) (before after : List ℕ) where
   response-parts state = map-append (response-word net state) before after
 
   -- a state fits both answers exactly where it fits each
-  pub fits-parts : (k : ℕ) (first second state : List ℕ) → length first ≡ length before
-      → Fits net k (before ++ after) (first ++ second) state
-      → Fits net k before first state × Fits net k after second state
-  fits-parts k first second state size h = (
+  pub fits-parts : (m k : ℕ) (first second state : List ℕ) → length first ≡ length before
+      → Fits net m k (before ++ after) (first ++ second) state
+      → Fits net m k before first state × Fits net m k after second state
+  fits-parts m k first second state size h = (
     record {
       of-class = h .of-class;
       gives = sym (take-at _ (response net state after) _ length-of)
@@ -87,20 +88,23 @@ module _ (net : Network) (before after : List ℕ) where
       both : response net state before ++ response net state after ≡ first ++ second
       both = sym (response-parts state) ∙ h .gives
 
-  pub fits-both : (k : ℕ) (first second state : List ℕ) → Fits net k before first state → Fits net k after second state
-      → Fits net k (before ++ after) (first ++ second) state
-  fits-both k first second state f g = record { of-class = f .of-class; gives = response-parts state ∙ ap₂ _++_ (f .gives) (g .gives) }
+  pub fits-both : (m k : ℕ) (first second state : List ℕ) → Fits net m k before first state
+      → Fits net m k after second state
+      → Fits net m k (before ++ after) (first ++ second) state
+  fits-both m k first second state f g =
+      record { of-class = f .of-class; gives = response-parts state ∙ ap₂ _++_ (f .gives) (g .gives) }
 
 -- a state that fits gives as many words as there are vectors, and each reach answers as its receiver did
-module _ (net : Network) (k : ℕ) (vectors responses state : List ℕ) (fits : Fits net k vectors responses state) where
+module _ (net : Network) (m k : ℕ) (vectors responses state : List ℕ)
+    (fits : Fits net m k vectors responses state) where
   fits-size : length responses ≡ length vectors
   fits-size = ap length (sym (fits .gives)) ∙ response-is net state vectors .one-a-vector
 
-  reach-inside : (i : ℕ) → i < net .nets → at state i < 2 ^ (net .nets)
+  reach-inside : (i : ℕ) → i < m → at state i < 2 ^ (net .nets)
   reach-inside i l = fits .of-class .reach i (rw (fits .of-class .size) l) .inside
 
-  reach-answers : (i : ℕ) → i < net .nets → sequential-response net vectors (at state i) ≡ column responses i
-  reach-answers i l = fits-answers net vectors responses fits-size k state fits i (rw (fits .of-class .size) l)
+  reach-answers : (i : ℕ) → i < m → sequential-response net vectors (at state i) ≡ column responses i
+  reach-answers i l = fits-answers net vectors responses fits-size m k state fits i (rw (fits .of-class .size) l)
 
 -- ---- the vectors of step one
 
@@ -169,46 +173,61 @@ module _ (net : Network) (apart : WordsApart net) where
 
 -- ---- clear nets
 
-decides-only : (word : ℕ) (words : List ℕ) (i : ℕ)
-    → Decides (only-at word words i) ((at words i ≡ word) × ((j : ℕ) → j < length words → at words j ≡ word → j ≡ i))
-unfolding only-at
-decides-only word words i = (there, back)
+-- nothing is against it exactly where the two are alike
+against-alike : (own returned : Bool) → cond own (not returned) returned ≡ false → own ≡ returned
+against-alike true true e = refl
+against-alike true false e = e
+against-alike false true e = sym e
+against-alike false false e = refl
+
+alike-against : (own returned : Bool) → own ≡ returned → cond own (not returned) returned ≡ false
+alike-against true true e = refl
+alike-against true false e = e
+alike-against false true e = sym e
+alike-against false false e = refl
+
+-- all receivers of net i returned the word, and no other did
+abbrev OnlyFrom : ℕ → (words owners : List ℕ) → ℕ → Type 0
+OnlyFrom word words owners i =
+    ((r : ℕ) → r < length owners → at owners r ≡ i → at words r ≡ word)
+    × ((r : ℕ) → r < length owners → at words r ≡ word → at owners r ≡ i)
+
+decides-only : (word : ℕ) (words owners : List ℕ) (i : ℕ)
+    → Decides (only-from word words owners i) (OnlyFrom word words owners i)
+unfolding only-from
+decides-only word words owners i = (there, back)
   where
-    other : ℕ → Bool
-    other j = not (eqb j i) && eqb (at words j) word
+    against : ℕ → Bool
+    against r = cond (eqb (at owners r) i) (not (eqb (at words r) word)) (eqb (at words r) word)
 
-    there : eqb (at words i) word && not (any (length words) other) ≡ true
-        → (at words i ≡ word) × ((j : ℕ) → j < length words → at words j ≡ word → j ≡ i)
-    there e = (
-      eqb-true _ word (and-left (eqb (at words i) word) _ e),
-      λ j l q. ⊎-elim (λ f. eqb-true j i f)
-          (λ f. contrary (any-at other (length words) j l (and-both (ap not f) (eq-eqb (at words j) word q)))
-          (not-true _ (and-right (eqb (at words i) word) _ e))) (cases (eqb j i)),
-    )
-
-    back : eqb (at words i) word && not (any (length words) other) ≡ false
-        → ¬ ((at words i ≡ word) × ((j : ℕ) → j < length words → at words j ≡ word → j ≡ i))
-    back e (own, alone) =
-        contrary (and-both (eq-eqb (at words i) word own)
-        (ap not (any-none other (length words) (λ j l. ⊎-elim (same j l) (λ f. f) (cases (other j)))))) e
+    there : not (any (length owners) against) ≡ true → OnlyFrom word words owners i
+    there e =
+        (λ r l q. eqb-true _ word (sym (alike r l) ∙ eq-eqb _ i q), λ r l q. eqb-true _ i (alike r l ∙ eq-eqb _ word q))
       where
-        same : (j : ℕ) → j < length words → other j ≡ true → other j ≡ false
-        same j l f = contrary (eq-eqb j i (alone j l (eqb-true _ word (and-right (not (eqb j i)) _ f))))
-            (not-true _ (and-left (not (eqb j i)) _ f))
+        alike : (r : ℕ) → r < length owners → eqb (at owners r) i ≡ eqb (at words r) word
+        alike r l = against-alike _ _ (any-false against (length owners) r l (not-true _ e))
 
-module _ (net : Network) (answers : List ℕ) where
-  decides-clear : (i : ℕ) → i < net .nets → Decides (is-clear net answers i) (Clear net answers i)
+    back : not (any (length owners) against) ≡ false → ¬ (OnlyFrom word words owners i)
+    back e (own, alone) = contrary (ap not (any-none against (length owners) none)) e
+      where
+        none : (r : ℕ) → r < length owners → against r ≡ false
+        none r l =
+            alike-against _ _
+            (same-truth (eqb (at owners r) i) (eqb (at words r) word) (λ q. eq-eqb _ word (own r l (eqb-true _ i q)))
+            (λ q. eq-eqb _ i (alone r l (eqb-true _ word q))))
+
+module _ (net : Network) (owners answers : List ℕ) where
+  pub decides-clear : (i : ℕ) → Decides (is-clear net owners answers i) (Clear net owners answers i)
   unfolding is-clear
-  decides-clear i l =
-      let d = decides-only (at (sequential-words net) i) (transpose (net .nets) answers) i in (
-        λ e. let r = d .0 e in record {
-          own = sym (transpose-at (net .nets) answers i l) ∙ r .0;
-          alone = λ j m q. r .1 j (rw (transpose-size (net .nets) answers) m) (transpose-at (net .nets) answers j m ∙ q);
+  decides-clear i =
+      let d = decides-only (at (sequential-words net) i) (transpose (length owners) answers) owners i in (
+        λ e. let c = d .0 e in record {
+          own = λ r l q. sym (transpose-at (length owners) answers r l) ∙ c .0 r l q;
+          alone = λ r l q. c .1 r l (transpose-at (length owners) answers r l ∙ q);
         },
         λ e c. d .1 e (
-          transpose-at (net .nets) answers i l ∙ c .own,
-          λ j m q. let n : j < net .nets = rw (transpose-size (net .nets) answers) at m in
-              c .alone j n (sym (transpose-at (net .nets) answers j n) ∙ q),
+          λ r l q. transpose-at (length owners) answers r l ∙ c .own r l q,
+          λ r l q. c .alone r l (sym (transpose-at (length owners) answers r l) ∙ q),
         ),
       )
 
@@ -245,13 +264,13 @@ module _ (net : Network) where
       let e = settling-size (i ∷ nets) (λ q. absurd (not-suc-le-zero {n = 0} (omega (arith, q)))) in
       omega (arith, e, extra-most net)
 
-module _ (net : Network) (answers : List ℕ) where
+module _ (net : Network) (owners answers : List ℕ) where
   is-unclear : ℕ → Bool
-  is-unclear i = not (is-clear net answers i)
+  is-unclear i = not (is-clear net owners answers i)
 
   -- an unclear net's place among them
-  unclear-place : (j : ℕ) → j < net .nets → is-clear net answers j ≡ false
-      → (u : ℕ) × (u < length (unclear net answers)) × (at (unclear net answers) u ≡ j)
+  unclear-place : (j : ℕ) → j < net .nets → is-clear net owners answers j ≡ false
+      → (u : ℕ) × (u < length (unclear net owners answers)) × (at (unclear net owners answers) u ≡ j)
   unfolding unclear is-unclear
   unclear-place j l e = (
     length (passing is-unclear j),
@@ -261,252 +280,302 @@ module _ (net : Network) (answers : List ℕ) where
   )
 
   -- they are just those that are not clear, ascending
-  pub unclear-nets : UnclearNets net answers (unclear net answers)
+  pub unclear-nets : UnclearNets net owners answers (unclear net owners answers)
   unfolding unclear is-unclear
   unclear-nets = record {
     below = λ u l. entry-is is-unclear (net .nets) u l .below;
     ascending = λ u v l m. larger-by-count is-unclear _ _
         (rw (entry-is is-unclear (net .nets) u (omega arith) .index, entry-is is-unclear (net .nets) v m .index) l);
     not-clear = λ i l. (
-      λ r. decides-clear net answers i l .1 (not-true _ (rw (r .2) at (entry-is is-unclear (net .nets) (r .0) (r .1) .passes))),
-      λ c. unclear-place i l (test-fails (decides-clear net answers i l) c),
+      λ r. decides-clear net owners answers i .1
+          (not-true _ (rw (r .2) at (entry-is is-unclear (net .nets) (r .0) (r .1) .passes))),
+      λ c. unclear-place i l (test-fails (decides-clear net owners answers i) c),
     );
   }
 
   -- where none is unclear, each is clear
-  all-clear : length (unclear net answers) ≡ 0 → (i : ℕ) → i < net .nets → is-clear net answers i ≡ true
+  all-clear : length (unclear net owners answers) ≡ 0 → (i : ℕ) → i < net .nets → is-clear net owners answers i ≡ true
   all-clear none i l =
       ⊎-elim (λ e. e) (λ e. let r = unclear-place i l e in absurd (not-suc-le-zero {n = 0} (omega (arith, none, r .1))))
-      (cases (is-clear net answers i))
+      (cases (is-clear net owners answers i))
 
-  some-unclear : (j : ℕ) → j < net .nets → is-clear net answers j ≡ false → length (unclear net answers) ≢ 0
+  some-unclear : (j : ℕ) → j < net .nets → is-clear net owners answers j ≡ false
+      → length (unclear net owners answers) ≢ 0
   some-unclear j l e none = contrary (all-clear none j l) e
 
-  pub second-size : length (unclear net answers) ≢ 0
-      → length (second-vectors net answers) ≡ length (unclear net answers) + length (extra-vectors net)
+  pub second-size : length (unclear net owners answers) ≢ 0
+      → length (second-vectors net owners answers) ≡ length (unclear net owners answers) + length (extra-vectors net)
   unfolding second-vectors
-  second-size some = settling-size net (unclear net answers) some
+  second-size some = settling-size net (unclear net owners answers) some
 
-  pub second-none : length (unclear net answers) ≡ 0 → second-vectors net answers ≡ []
+  pub second-none : length (unclear net owners answers) ≡ 0 → second-vectors net owners answers ≡ []
   unfolding second-vectors
-  second-none none = settling-none net (unclear net answers) none
+  second-none none = settling-none net (unclear net owners answers) none
 
   -- the extra vector comes first, if there is one
-  extra-in : length (unclear net answers) ≢ 0 → needs-extra net ≡ true
-      → (0 < length (second-vectors net answers)) × (at (second-vectors net answers) 0 ≡ extra-vector net)
+  extra-in : length (unclear net owners answers) ≢ 0 → needs-extra net ≡ true
+      → (0 < length (second-vectors net owners answers)) × (at (second-vectors net owners answers) 0 ≡ extra-vector net)
   unfolding second-vectors
   extra-in some e = (
-    omega (arith, settling-size net (unclear net answers) some, ap length (extra-one net e)),
-    settling-extra net e (unclear net answers) some,
+    omega (arith, settling-size net (unclear net owners answers) some, ap length (extra-one net e)),
+    settling-extra net e (unclear net owners answers) some,
   )
 
   -- then the walking vector of each unclear net
-  unclear-in : (j : ℕ) → j < net .nets → is-clear net answers j ≡ false
-      → (u : ℕ) × (u < length (second-vectors net answers)) × (at (second-vectors net answers) u ≡ walking-vector net j)
+  unclear-in : (j : ℕ) → j < net .nets → is-clear net owners answers j ≡ false
+      → (u : ℕ) × (u < length (second-vectors net owners answers))
+      × (at (second-vectors net owners answers) u ≡ walking-vector net j)
   unfolding second-vectors
   unclear-in j l e =
       let r = unclear-place j l e in (
         length (extra-vectors net) + r .0,
-        omega (arith, r .1, settling-size net (unclear net answers) (some-unclear j l e)),
-        settling-walking net (unclear net answers) (r .0) (r .1) ∙ ap (walking-vector net) (r .2),
+        omega (arith, r .1, settling-size net (unclear net owners answers) (some-unclear j l e)),
+        settling-walking net (unclear net owners answers) (r .0) (r .1) ∙ ap (walking-vector net) (r .2),
       )
 
-  unclear-most : length (unclear net answers) ≤ net .nets
+  unclear-most : length (unclear net owners answers) ≤ net .nets
   unfolding unclear is-unclear
   unclear-most = count-most is-unclear (net .nets)
 
-  pub second-most : length (second-vectors net answers) ≤ net .nets + 1
+  pub second-most : length (second-vectors net owners answers) ≤ net .nets + 1
   unfolding second-vectors
-  second-most = omega (arith, settling-most net (unclear net answers), unclear-most)
+  second-most = omega (arith, settling-most net (unclear net owners answers), unclear-most)
 
 -- ---- what the answers to step one say of a state that fits them
 
-module _ (net : Network) (apart : WordsApart net) (first state : List ℕ) (fits : Fits net (net .nets) (first-vectors net) first state) where
-  returned : (i : ℕ) → i < net .nets → sequential-response net (first-vectors net) (at state i) ≡ column first i
-  returned i l = reach-answers net (net .nets) (first-vectors net) first state fits i l
+module _ (net : Network) (apart : WordsApart net) (owners : List ℕ) (board : AdmittedReceivers net owners)
+    (first state : List ℕ)
+    (fits : Fits net (length owners) (net .nets) (first-vectors net) first state) where
+  returned : (r : ℕ) → r < length owners → sequential-response net (first-vectors net) (at state r) ≡ column first r
+  returned r l = reach-answers net (length owners) (net .nets) (first-vectors net) first state fits r l
 
-  -- a clear net's reach is its own driver
-  pub clear-reach : (i : ℕ) → i < net .nets → is-clear net first i ≡ true → at state i ≡ 2 ^ i
-  clear-reach i l e = own-word net apart i (at state i) l
-      (reach-inside net (net .nets) (first-vectors net) first state fits i l)
-      (returned i l ∙ decides-clear net first i l .0 e .own)
+  -- a receiver of a clear net has that net's driver as its reach
+  pub clear-reach : (r : ℕ) → r < length owners → is-clear net owners first (at owners r) ≡ true
+      → at state r ≡ 2 ^ at owners r
+  clear-reach r l e = own-word net apart (at owners r) (at state r) (board .owner r l)
+      (reach-inside net (length owners) (net .nets) (first-vectors net) first state fits r l)
+      (returned r l ∙ decides-clear net owners first (at owners r) .0 e .own r l refl)
 
-  -- which is in no unclear net's reach
-  clear-alone : (i j : ℕ) → i < net .nets → j < net .nets → is-clear net first i ≡ false → is-clear net first j ≡ true
-      → has (at state i) j ≡ false
-  clear-alone i j l m unclear clear = ⊎-elim meet (λ e. e) (cases (has (at state i) j))
+  -- which is in the reach of no receiver of another net. The clear net has a receiver of its own, and the two reaches
+  -- would meet.
+  clear-alone : (r j : ℕ) → r < length owners → j < net .nets → is-clear net owners first (at owners r) ≡ false
+      → is-clear net owners first j ≡ true → has (at state r) j ≡ false
+  clear-alone r j l m unclear clear = ⊎-elim meet (λ e. e) (cases (has (at state r) j))
     where
-      meet : has (at state i) j ≡ true → has (at state i) j ≡ false
+      meet : has (at state r) j ≡ true → has (at state r) j ≡ false
       meet e =
-          let own : at state j ≡ 2 ^ j = clear-reach j m clear in
+          let s = board .receiver j m in
+          let own : at state (s .0) ≡ 2 ^ j =
+          clear-reach (s .0) (s .1) (ap (is-clear net owners first) (s .2) ∙ clear) ∙ ap (λ (x : ℕ). 2 ^ x) (s .2) in
           let size = fits .of-class .size in
-          let same : at state i ≡ 2 ^ j =
-          fits .of-class .meet-only-if-equal i j j (rw size l) (rw size m) m e
+          let same : at state r ≡ 2 ^ j =
+          fits .of-class .meet-only-if-equal r (s .0) j (rw size l) (rw size (s .1)) m e
           (ap (λ (x : ℕ). has x j) own ∙ has-own j) ∙ own in
-          let q : i ≡ j = decides-clear net first j m .0 clear .alone i l
-          (sym (returned i l) ∙ ap (sequential-response net (first-vectors net)) same
+          let q : at owners r ≡ j = decides-clear net owners first j .0 clear .alone r l
+          (sym (returned r l) ∙ ap (sequential-response net (first-vectors net)) same
           ∙ own-returns net apart j m) in
-          contrary (ap (is-clear net first) q ∙ clear) unclear
+          contrary (ap (is-clear net owners first) q ∙ clear) unclear
 
 -- ---- and of one that fits the answers to both
 
-module _ (net : Network) (apart : WordsApart net) (first second state : List ℕ) (size : length first ≡ word-length net)
-    (fits : Fits net (net .nets) (session-vectors net first) (first ++ second) state) where
-  pub fits-first : Fits net (net .nets) (first-vectors net) first state
-  fits-first = fits-parts net (first-vectors net) (second-vectors net first) (net .nets) first second state
+module _ (net : Network) (apart : WordsApart net) (owners : List ℕ) (board : AdmittedReceivers net owners)
+    (first second state : List ℕ) (size : length first ≡ word-length net)
+    (fits : Fits net (length owners) (net .nets) (session-vectors net owners first) (first ++ second) state) where
+  pub fits-first : Fits net (length owners) (net .nets) (first-vectors net) first state
+  fits-first = fits-parts net (first-vectors net) (second-vectors net owners first) (length owners)
+      (net .nets) first second state
       (size ∙ sym (first-size net)) fits .0
 
-  fits-second : Fits net (net .nets) (second-vectors net first) second state
-  fits-second = fits-parts net (first-vectors net) (second-vectors net first) (net .nets) first second state
+  fits-second : Fits net (length owners) (net .nets) (second-vectors net owners first) second state
+  fits-second = fits-parts net (first-vectors net) (second-vectors net owners first) (length owners)
+      (net .nets) first second state
       (size ∙ sym (first-size net)) fits .1
 
-  -- an unclear receiver's reach has unclear drivers only, each with its walking vector
-  unclear-drivers : (i j : ℕ) → i < net .nets → j < net .nets → is-clear net first i ≡ false → has (at state i) j ≡ true
-      → (u : ℕ) × (u < length (second-vectors net first)) × (at (second-vectors net first) u ≡ walking-vector net j)
-  unclear-drivers i j l m e on =
-      unclear-in net first j m
-      (⊎-elim (λ f. contrary on (clear-alone net apart first state fits-first i j l m e f)) (λ f. f) (cases (is-clear net first j)))
+  -- the reach of an unclear net's receiver has unclear drivers only, each with its walking vector
+  unclear-drivers : (r j : ℕ) → r < length owners → j < net .nets → is-clear net owners first (at owners r) ≡ false
+      → has (at state r) j ≡ true
+      → (u : ℕ) × (u < length (second-vectors net owners first))
+      × (at (second-vectors net owners first) u ≡ walking-vector net j)
+  unclear-drivers r j l m e on =
+      unclear-in net owners first j m
+      (⊎-elim (λ f. contrary on (clear-alone net apart owners board first state fits-first r j l m e f)) (λ f. f)
+      (cases (is-clear net owners first j)))
 
   -- each reach is the smallest set that reads so
-  reach-smallest : (i set : ℕ) → i < net .nets → DriverSet net (net .nets) set
-      → ReadAlike net (session-vectors net first) set (at state i) → at state i ≤ set
-  reach-smallest i set l d alike = ⊎-elim by-word by-drivers (cases (is-clear net first i))
+  reach-smallest : (r set : ℕ) → r < length owners → DriverSet net (net .nets) set
+      → ReadAlike net (session-vectors net owners first) set (at state r) → at state r ≤ set
+  reach-smallest r set l d alike = ⊎-elim by-word by-drivers (cases (is-clear net owners first (at owners r)))
     where
-      parts : ReadAlike net (first-vectors net) set (at state i) × ReadAlike net (second-vectors net first) set (at state i)
-      parts = alike-parts net (first-vectors net) (second-vectors net first) set (at state i) alike
+      parts : ReadAlike net (first-vectors net) set (at state r)
+          × ReadAlike net (second-vectors net owners first) set (at state r)
+      parts = alike-parts net (first-vectors net) (second-vectors net owners first) set (at state r) alike
 
-      by-word : is-clear net first i ≡ true → at state i ≤ set
+      by-word : is-clear net owners first (at owners r) ≡ true → at state r ≤ set
       by-word e =
-          let own : at state i ≡ 2 ^ i = clear-reach net apart first state fits-first i l e in
-          let q : set ≡ 2 ^ i =
-          own-word net apart i set l (d .inside)
-          (alike-sequential net (first-vectors net) set (at state i) (parts .0)
-          ∙ ap (sequential-response net (first-vectors net)) own ∙ own-returns net apart i l) in
+          let own : at state r ≡ 2 ^ at owners r = clear-reach net apart owners board first state fits-first r l e in
+          let q : set ≡ 2 ^ at owners r =
+          own-word net apart (at owners r) set (board .owner r l) (d .inside)
+          (alike-sequential net (first-vectors net) set (at state r) (parts .0)
+          ∙ ap (sequential-response net (first-vectors net)) own
+          ∙ own-returns net apart (at owners r) (board .owner r l)) in
           omega (arith, own, q)
 
-      by-drivers : is-clear net first i ≡ false → at state i ≤ set
-      by-drivers e = subset-at-most (net .nets) (at state i) set
-          (reach-inside net (net .nets) (session-vectors net first) (first ++ second) state fits i l)
-          (λ j m on. also j m on (unclear-drivers i j l m e on))
+      by-drivers : is-clear net owners first (at owners r) ≡ false → at state r ≤ set
+      by-drivers e = subset-at-most (net .nets) (at state r) set
+          (reach-inside net (length owners) (net .nets) (session-vectors net owners first)
+          (first ++ second) state fits r l)
+          (λ j m on. also j m on (unclear-drivers r j l m e on))
         where
-          extra : needs-extra net ≡ true → reads net set (extra-vector net) ≡ reads net (at state i) (extra-vector net)
+          extra : needs-extra net ≡ true → reads net set (extra-vector net) ≡ reads net (at state r) (extra-vector net)
           extra s =
-              let r = extra-in net first (some-unclear net first i l e) s in
-              ap (reads net set) (sym (r .1)) ∙ parts .1 0 (r .0) ∙ ap (reads net (at state i)) (r .1)
+              let x = extra-in net owners first (some-unclear net owners first (at owners r) (board .owner r l) e) s in
+              ap (reads net set) (sym (x .1)) ∙ parts .1 0 (x .0) ∙ ap (reads net (at state r)) (x .1)
 
-          also-driven : at state i ≢ 0 → needs-extra net ≡ true → set ≢ 0
+          also-driven : at state r ≢ 0 → needs-extra net ≡ true → set ≢ 0
           also-driven driven s =
               eqb-false set 0
-              (sym (reads-extra net s set) ∙ ap (active net) (extra s) ∙ reads-extra net s (at state i)
-              ∙ ne-eqb (at state i) 0 driven)
+              (sym (reads-extra net s set) ∙ ap (active net) (extra s) ∙ reads-extra net s (at state r)
+              ∙ ne-eqb (at state r) 0 driven)
 
-          shown : at state i ≢ 0 → (j : ℕ) → j < net .nets → active net (reads net set (walking-vector net j)) ≡ has set j
+          shown : at state r ≢ 0 → (j : ℕ) → j < net .nets
+              → active net (reads net set (walking-vector net j)) ≡ has set j
           shown driven j m =
               ⊎-elim (λ s. reads-walking net set j m (also-driven driven s)) (λ s. reads-walking-all net s set j m)
               (cases (needs-extra net))
 
-          also : (j : ℕ) → j < net .nets → has (at state i) j ≡ true
-              → (u : ℕ) × (u < length (second-vectors net first))
-              × (at (second-vectors net first) u ≡ walking-vector net j)
+          also : (j : ℕ) → j < net .nets → has (at state r) j ≡ true
+              → (u : ℕ) × (u < length (second-vectors net owners first))
+              × (at (second-vectors net owners first) u ≡ walking-vector net j)
               → has set j ≡ true
           also j m on (u, lu, w) =
-              let driven : at state i ≢ 0 = has-not-zero (at state i) j on in
+              let driven : at state r ≢ 0 = has-not-zero (at state r) j on in
               sym (shown driven j m)
-              ∙ ap (active net) (ap (reads net set) (sym w) ∙ parts .1 u lu ∙ ap (reads net (at state i)) w)
-              ∙ reads-walking net (at state i) j m driven ∙ on
+              ∙ ap (active net) (ap (reads net set) (sym w) ∙ parts .1 u lu ∙ ap (reads net (at state r)) w)
+              ∙ reads-walking net (at state r) j m driven ∙ on
 
   -- so the state is what is read back
-  pub both-read-back : (no-state-fits net (net .nets) (session-vectors net first) (first ++ second) ≡ false)
-      × (read-back net (net .nets) (session-vectors net first) (first ++ second) ≡ state)
+  pub both-read-back : (no-state-fits net (length owners) (net .nets) (session-vectors net owners first)
+      (first ++ second) ≡ false)
+      × (read-back net (length owners) (net .nets) (session-vectors net owners first) (first ++ second) ≡ state)
   both-read-back =
-      smallest-read-back net (net .nets) (session-vectors net first) (first ++ second)
-      (fits-size net (net .nets) (session-vectors net first) (first ++ second) state fits) state fits reach-smallest
+      smallest-read-back net (length owners) (net .nets) (session-vectors net owners first) (first ++ second)
+      (fits-size net (length owners) (net .nets) (session-vectors net owners first)
+      (first ++ second) state fits) state fits
+      reach-smallest
 
-  -- and what the second answers show of an unclear receiver is its reach
-  pub decoded-reach : (i reach : ℕ) → i < net .nets → is-clear net first i ≡ false
-      → Walked net (second-vectors net first) (column second i) reach → reach ≡ at state i
-  decoded-reach i reach l e w =
+  -- and what the second answers show of an unclear net's receiver is its reach
+  pub decoded-reach : (r reach : ℕ) → r < length owners → is-clear net owners first (at owners r) ≡ false
+      → Walked net (second-vectors net owners first) (column second r) reach → reach ≡ at state r
+  decoded-reach r reach l e w =
       sym
-      (walked-is net (second-vectors net first) (column second i) (at state i) reach
-      (active-answers net (second-vectors net first) (at state i) (column second i)
-      (reach-answers net (net .nets) (second-vectors net first) second state fits-second i l))
-      (reach-inside net (net .nets) (session-vectors net first) (first ++ second) state fits i l)
-      (λ s. let extra = extra-in net first (some-unclear net first i l e) s in (0, extra .0, extra .1))
-      (λ j m on. unclear-drivers i j l m e on) w)
+      (walked-is net (second-vectors net owners first) (column second r) (at state r) reach
+      (active-answers net (second-vectors net owners first) (at state r) (column second r)
+      (reach-answers net (length owners) (net .nets) (second-vectors net owners first) second state fits-second r l))
+      (reach-inside net (length owners) (net .nets) (session-vectors net owners first) (first ++ second) state fits r l)
+      (λ s. let extra = extra-in net owners first
+      (some-unclear net owners first (at owners r) (board .owner r l) e) s in
+      (0, extra .0, extra .1))
+      (λ j m on. unclear-drivers r j l m e on) w)
 
 -- ---- whether some state fits both
 
-module _ (net : Network) (first second : List ℕ) (size : length first ≡ word-length net)
-    (also : length second ≡ length (second-vectors net first))
-    (narrow : (t : ℕ) → t < length first → at first t < 2 ^ (net .nets))
-    (also-narrow : (t : ℕ) → t < length second → at second t < 2 ^ (net .nets)) where
-  both-size : length (first ++ second) ≡ length (session-vectors net first)
-  both-size = omega (arith, length-append first second, length-append (first-vectors net) (second-vectors net first), first-size net)
+module _ (net : Network) (owners first second : List ℕ) (size : length first ≡ word-length net)
+    (also : length second ≡ length (second-vectors net owners first))
+    (narrow : (t : ℕ) → t < length first → at first t < 2 ^ length owners)
+    (also-narrow : (t : ℕ) → t < length second → at second t < 2 ^ length owners) where
+  both-size : length (first ++ second) ≡ length (session-vectors net owners first)
+  both-size =
+      omega (
+        arith,
+        length-append first second,
+        length-append (first-vectors net) (second-vectors net owners first),
+        first-size net,
+      )
 
-  both-narrow : (t : ℕ) → t < length (first ++ second) → at (first ++ second) t < 2 ^ (net .nets)
-  both-narrow = below-parts (2 ^ (net .nets)) first second narrow also-narrow
+  both-narrow : (t : ℕ) → t < length (first ++ second) → at (first ++ second) t < 2 ^ length owners
+  both-narrow = below-parts (2 ^ length owners) first second narrow also-narrow
 
-  pub both-fits : no-state-fits net (net .nets) (session-vectors net first) (first ++ second) ≡ false
-      → Fits net (net .nets) (session-vectors net first) (first ++ second)
-      (read-back net (net .nets) (session-vectors net first) (first ++ second))
-  both-fits e = read-back-fits net (net .nets) (session-vectors net first) (first ++ second) both-size both-narrow e
+  pub both-fits : no-state-fits net (length owners) (net .nets) (session-vectors net owners first) (first ++ second)
+      ≡ false
+      → Fits net (length owners) (net .nets) (session-vectors net owners first) (first ++ second)
+      (read-back net (length owners) (net .nets) (session-vectors net owners first) (first ++ second))
+  both-fits e = read-back-fits net (length owners) (net .nets) (session-vectors net owners first)
+      (first ++ second) both-size both-narrow e
 
   -- a test of the only reaches that can fit decides it, and finds what is read back
-  pub candidate-decides : WordsApart net → (candidate : List ℕ) (fits : Bool)
-      → ((state : List ℕ) → Fits net (net .nets) (session-vectors net first) (first ++ second) state → candidate ≡ state)
-      → Decides fits (Fits net (net .nets) (session-vectors net first) (first ++ second) candidate)
-      → (fits ≡ not (no-state-fits net (net .nets) (session-vectors net first) (first ++ second)))
-      × (fits ≡ true → candidate ≡ read-back net (net .nets) (session-vectors net first) (first ++ second))
-  candidate-decides apart candidate fits only decides = (
+  pub candidate-decides : WordsApart net → AdmittedReceivers net owners → (candidate : List ℕ) (fits : Bool)
+      → ((state : List ℕ) → Fits net (length owners) (net .nets) (session-vectors net owners first)
+      (first ++ second) state → candidate ≡ state)
+      → Decides fits (Fits net (length owners) (net .nets) (session-vectors net owners first)
+      (first ++ second) candidate)
+      → (fits ≡ not (no-state-fits net (length owners) (net .nets) (session-vectors net owners first)
+      (first ++ second)))
+      × (fits ≡ true → candidate ≡ read-back net (length owners) (net .nets) (session-vectors net owners first)
+      (first ++ second))
+  candidate-decides apart board candidate fits only decides = (
     ⊎-elim (λ e. e ∙ ap not (sym (found e .0))) (λ e. e ∙ ap not (sym (fails e))) (cases fits),
     λ e. sym
         (found e .1),
   )
     where
-      found : fits ≡ true → (no-state-fits net (net .nets) (session-vectors net first) (first ++ second) ≡ false)
-          × (read-back net (net .nets) (session-vectors net first) (first ++ second) ≡ candidate)
-      found e = both-read-back net apart first second candidate size (decides .0 e)
+      found : fits ≡ true
+          → (no-state-fits net (length owners) (net .nets) (session-vectors net owners first) (first ++ second) ≡ false)
+          × (read-back net (length owners) (net .nets) (session-vectors net owners first) (first ++ second) ≡ candidate)
+      found e = both-read-back net apart owners board first second candidate size (decides .0 e)
 
-      fails : fits ≡ false → no-state-fits net (net .nets) (session-vectors net first) (first ++ second) ≡ true
-      fails e = candidate-fails net (net .nets) (session-vectors net first)
+      fails : fits ≡ false → no-state-fits net (length owners) (net .nets) (session-vectors net owners first)
+          (first ++ second) ≡ true
+      fails e = candidate-fails net (length owners) (net .nets) (session-vectors net owners first)
           (first ++ second) both-size both-narrow candidate only (decides .1 e)
 
 -- ---- no net unclear: the fault-free state, and no other
 
-module _ (net : Network) where
-  pub fault-free-size : length (fault-free-state net) ≡ net .nets
+module _ (owners : List ℕ) where
+  pub fault-free-size : length (fault-free-state owners) ≡ length owners
   unfolding fault-free-state
-  fault-free-size = length-tabulate (net .nets) _
+  fault-free-size = length-map owners _
 
-  pub fault-free-at : (i : ℕ) → i < net .nets → at (fault-free-state net) i ≡ 2 ^ i
+  pub fault-free-at : (r : ℕ) → r < length owners → at (fault-free-state owners) r ≡ 2 ^ at owners r
   unfolding fault-free-state
-  fault-free-at i l = tabulate-at (net .nets) (λ j. 2 ^ j) i l
+  fault-free-at r l = map-at (λ i. 2 ^ i) 0 owners r l
 
-  fault-free-is-state : State net (net .nets) (fault-free-state net)
+module _ (net : Network) (owners : List ℕ) (board : AdmittedReceivers net owners) where
+  fault-free-is-state : State net (length owners) (net .nets) (fault-free-state owners)
   fault-free-is-state = record {
-    size = fault-free-size;
-    reach = λ i l. rw (fault-free-at i (inside i l)) (record { inside = pow-lt (inside i l); few = ones-at-most (net .nets) (2 ^ i) });
-    meet-only-if-equal = λ i j x l m n p q. ap (at (fault-free-state net)) (only i x (inside i l) p ∙ sym (only j x (inside j m) q));
+    size = fault-free-size owners;
+    reach = λ r l. rw (fault-free-at owners r (inside r l))
+        (record { inside = pow-lt (board .owner r (inside r l)); few = ones-at-most (net .nets) (2 ^ at owners r) });
+    meet-only-if-equal = λ r s x l m n p q. fault-free-at owners r (inside r l)
+        ∙ ap (λ (i : ℕ). 2 ^ i) (only r x (inside r l) p ∙ sym (only s x (inside s m) q))
+        ∙ sym (fault-free-at owners s (inside s m));
   }
     where
-      inside : (i : ℕ) → i < length (fault-free-state net) → i < net .nets
-      inside i l = rw fault-free-size at l
+      inside : (r : ℕ) → r < length (fault-free-state owners) → r < length owners
+      inside r l = rw (fault-free-size owners) at l
 
-      only : (i x : ℕ) → i < net .nets → has (at (fault-free-state net) i) x ≡ true → i ≡ x
-      only i x l e = has-only i x (ap (λ (w : ℕ). has w x) (sym (fault-free-at i l)) ∙ e)
+      only : (r x : ℕ) → r < length owners → has (at (fault-free-state owners) r) x ≡ true → at owners r ≡ x
+      only r x l e = has-only (at owners r) x (ap (λ (w : ℕ). has w x) (sym (fault-free-at owners r l)) ∙ e)
 
-module _ (net : Network) (apart : WordsApart net) (first : List ℕ) (none : length (unclear net first) ≡ 0) where
-  pub all-clear-fits : length first ≡ word-length net → ((t : ℕ) → t < length first → at first t < 2 ^ (net .nets))
-      → Fits net (net .nets) (first-vectors net) first (fault-free-state net)
+module _ (net : Network) (apart : WordsApart net) (owners : List ℕ) (board : AdmittedReceivers net owners)
+    (first : List ℕ)
+    (none : length (unclear net owners first) ≡ 0) where
+  pub all-clear-fits : length first ≡ word-length net → ((t : ℕ) → t < length first → at first t < 2 ^ length owners)
+      → Fits net (length owners) (net .nets) (first-vectors net) first (fault-free-state owners)
   all-clear-fits size narrow =
-      answers-fit net (first-vectors net) first (size ∙ sym (first-size net)) (net .nets) (fault-free-state net)
-      (fault-free-is-state net) narrow
-      (λ i l. let m : i < net .nets = rw (fault-free-size net) at l in
-      ap (sequential-response net (first-vectors net)) (fault-free-at net i m) ∙ own-returns net apart i m
-      ∙ sym (decides-clear net first i m .0 (all-clear net first none i m) .own))
+      answers-fit net (first-vectors net) first (size ∙ sym (first-size net)) (length owners) (net .nets)
+      (fault-free-state owners)
+      (fault-free-is-state net owners board) narrow
+      (λ r l. let inside : r < length owners = rw (fault-free-size owners) at l in
+      let i : at owners r < net .nets = board .owner r inside in
+      ap (sequential-response net (first-vectors net)) (fault-free-at owners r inside)
+      ∙ own-returns net apart (at owners r) i
+      ∙ sym (decides-clear net owners first (at owners r) .0
+      (all-clear net owners first none (at owners r) i) .own r inside refl))
 
-  pub all-clear-only : (state : List ℕ) → Fits net (net .nets) (first-vectors net) first state → state ≡ fault-free-state net
+  pub all-clear-only : (state : List ℕ) → Fits net (length owners) (net .nets) (first-vectors net) first state
+      → state ≡ fault-free-state owners
   all-clear-only state fits =
-      ext-getD 0 state (fault-free-state net) (fits .of-class .size ∙ sym (fault-free-size net))
-      (λ i l. let m : i < net .nets = rw (fits .of-class .size) at l in
-      clear-reach net apart first state fits i m (all-clear net first none i m) ∙ sym (fault-free-at net i m))
+      ext-getD 0 state (fault-free-state owners) (fits .of-class .size ∙ sym (fault-free-size owners))
+      (λ r l. let inside : r < length owners = rw (fits .of-class .size) at l in
+      clear-reach net apart owners board first state fits r inside
+      (all-clear net owners first none (at owners r) (board .owner r inside)) ∙ sym (fault-free-at owners r inside))

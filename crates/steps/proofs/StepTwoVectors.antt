@@ -20,7 +20,7 @@ use Rattle.network.specs.declared.Network.{Network}
 use Rattle.network.specs.Reading.{walking-vector, extra-vectors}
 use Rattle.network.proofs.Reading.{extra-most}
 use Rattle.steps.specs.FirstStep.{sequential-words}
-use Rattle.steps.specs.SecondStep.{only-at, is-clear, unclear, settling-vectors, second-vectors}
+use Rattle.steps.specs.SecondStep.{only-from, is-clear, unclear, settling-vectors, second-vectors}
 use Rattle.steps.proofs.BothSteps.{settling-is, second-none}
 
 -- ---- no vectors where no net is given, and else the extra vector first, if there is one
@@ -32,9 +32,10 @@ settling-empty net (i ∷ nets) =
     (λ e. omega (arith, length-append (extra-vectors net) (map (walking-vector net) (i ∷ nets)), e))
     ∙ sym (ne-eqb (suc (length nets)) 0 (λ e. omega arith))
 
-pub second-empty : (net : Network) (answers : List ℕ) → eqb (length (second-vectors net answers)) 0 ≡ eqb (length (unclear net answers)) 0
+pub second-empty : (net : Network) (owners answers : List ℕ)
+    → eqb (length (second-vectors net owners answers)) 0 ≡ eqb (length (unclear net owners answers)) 0
 unfolding second-vectors
-second-empty net answers = settling-empty net (unclear net answers)
+second-empty net owners answers = settling-empty net (unclear net owners answers)
 
 -- ---- what the receivers returned
 
@@ -47,20 +48,20 @@ columns-are n columns answers l h =
 
 -- ---- net by net
 
--- the nets below i whose word its own receiver alone did not return
-abbrev pub unclear-below : (words returned : List ℕ) → ℕ → List ℕ
-unclear-below words returned i = passing (λ z. not (only-at (at words z) returned z)) i
+-- the nets below i whose word their own receivers, all of them and no other, did not return
+abbrev pub unclear-below : (words returned owners : List ℕ) → ℕ → List ℕ
+unclear-below words returned owners i = passing (λ z. not (only-from (at words z) returned owners z)) i
 
 -- what the loop has written before net i
-pub record Listed (net : Network) (words returned vectors : List ℕ) (count i : ℕ) : Type 0 where
+pub record Listed (net : Network) (words returned owners vectors : List ℕ) (count i : ℕ) : Type 0 where
   pub size : length vectors ≡ 49
   pub few : count ≤ i + 1
-  pub number : count ≡ length (unclear-below words returned i) + length (extra-vectors net)
-  pub front : take count vectors ≡ extra-vectors net ++ map (walking-vector net) (unclear-below words returned i)
+  pub number : count ≡ length (unclear-below words returned owners i) + length (extra-vectors net)
+  pub front : take count vectors ≡ extra-vectors net ++ map (walking-vector net) (unclear-below words returned owners i)
 
-module _ (net : Network) (words returned : List ℕ) where
+module _ (net : Network) (words returned owners : List ℕ) where
   pub listed-start : (vectors : List ℕ) (count : ℕ) → length vectors ≡ 49 → count ≡ length (extra-vectors net)
-      → take count vectors ≡ extra-vectors net → Listed net words returned vectors count 0
+      → take count vectors ≡ extra-vectors net → Listed net words returned owners vectors count 0
   unfolding passing
   listed-start vectors count size e front = record {
     size = size;
@@ -70,9 +71,9 @@ module _ (net : Network) (words returned : List ℕ) where
   }
 
   -- a net that is unclear, a net that is clear, and the end
-  module _ (vectors : List ℕ) (count i : ℕ) (s : Listed net words returned vectors count i) where
-    pub listed-more : (x : ℕ) → i < 48 → only-at (at words i) returned i ≡ false → x ≡ walking-vector net i
-        → Listed net words returned (set vectors count x) (count + 1) (i + 1)
+  module _ (vectors : List ℕ) (count i : ℕ) (s : Listed net words returned owners vectors count i) where
+    pub listed-more : (x : ℕ) → i < 48 → only-from (at words i) returned owners i ≡ false → x ≡ walking-vector net i
+        → Listed net words returned owners (set vectors count x) (count + 1) (i + 1)
     listed-more x l e w = rw (add-one i, add-one count) record {
       size = length-set vectors count x ∙ s .size;
       few = omega (arith, s .few);
@@ -86,15 +87,16 @@ module _ (net : Network) (words returned : List ℕ) where
     }
       where
         p : ℕ → Bool
-        p z = not (only-at (at words z) returned z)
+        p z = not (only-from (at words z) returned owners z)
 
         unsure : p i ≡ true
         unsure = ap not e
 
-    pub listed-same : only-at (at words i) returned i ≡ true → Listed net words returned vectors count (i + 1)
+    pub listed-same : only-from (at words i) returned owners i ≡ true
+        → Listed net words returned owners vectors count (i + 1)
     listed-same e =
-        let same : unclear-below words returned (i + 1) ≡ unclear-below words returned i =
-        rw (add-one i) (passing-no (λ z. not (only-at (at words z) returned z)) i (ap not e)) in
+        let same : unclear-below words returned owners (i + 1) ≡ unclear-below words returned owners i =
+        rw (add-one i) (passing-no (λ z. not (only-from (at words z) returned owners z)) i (ap not e)) in
         record {
           size = s .size;
           few = omega (arith, s .few);
@@ -102,15 +104,17 @@ module _ (net : Network) (words returned : List ℕ) where
           front = rw same (s .front);
         }
 
-    module _ (answers : List ℕ) (e : words ≡ sequential-words net) (f : returned ≡ transpose (net .nets) answers) (g : i ≡ net .nets) where
-      all-nets : unclear-below words returned i ≡ unclear net answers
+    module _ (answers : List ℕ) (e : words ≡ sequential-words net) (f : returned ≡ transpose (length owners) answers)
+        (g : i ≡ net .nets) where
+      all-nets : unclear-below words returned owners i ≡ unclear net owners answers
       unfolding unclear is-clear
       all-nets = rw (e, f, g)
 
-      pub listed-none : count ≡ length (extra-vectors net) → [] ≡ second-vectors net answers
-      listed-none h = sym (second-none net answers (omega (arith, s .number, ap length all-nets)))
+      pub listed-none : count ≡ length (extra-vectors net) → [] ≡ second-vectors net owners answers
+      listed-none h = sym (second-none net owners answers (omega (arith, s .number, ap length all-nets)))
 
-      pub listed-some : count ≢ length (extra-vectors net) → take count vectors ≡ second-vectors net answers
+      pub listed-some : count ≢ length (extra-vectors net) → take count vectors ≡ second-vectors net owners answers
       unfolding second-vectors
       listed-some h = s .front
-          ∙ rw (← all-nets) (sym (settling-is net (unclear-below words returned i) (λ z. h (s .number ∙ omega (arith, z)))))
+          ∙ rw (← all-nets) (sym (settling-is net (unclear-below words returned owners i)
+          (λ z. h (s .number ∙ omega (arith, z)))))

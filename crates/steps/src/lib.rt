@@ -12,5 +12,5 @@ pub struct SecondVectors {
 // Whether a state fits the answers of both steps, and its reaches.
 pub struct Settled {
     pub fits: bool,
-    pub state: [u64; 48],
+    pub state: [u64; 64],
 }

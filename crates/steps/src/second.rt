@@ -1,5 +1,5 @@
-// The vectors of step two. Helpers between crates: the nets are those that row 5 admits, there are at most 64 answers,
-// and an index is inside its list.
+// The vectors of step two. Helpers between crates: the nets are those that row 5 admits, and there are at most 64
+// receivers and 64 answers. `receivers` has the net of each receiver.
 ghost use mathlib.Core.Path.{_≡_};
 ghost use mathlib.Core.List.{List};
 ghost use Prim.Native.Nat.{ℕ, _<_, _≤_};
@@ -7,24 +7,23 @@ ghost use lib.ListN.{length, take};
 ghost use Rattle.words.specs.Turning.{transpose};
 ghost use Rattle.network.specs.Reading.{«extra-vectors»};
 ghost use Rattle.steps.specs.FirstStep.{«sequential-words»};
-ghost use Rattle.steps.specs.SecondStep.{«only-at», «second-vectors»};
+ghost use Rattle.steps.specs.SecondStep.{«only-from», «second-vectors»};
 use crate::SecondVectors;
 use network::Network;
 
-// Whether entry i is this word, and no other entry is.
-pub fn only_at(word: u64, words: &[u64], i: usize) -> bool
-    requires { ⌜ i < length (now words) ⌝ }
-    ensures { λ r. ⌜ r ≡ only-at word (now (words .entry)) i ⌝ }
+// Whether the receivers of net i, all of them and no other, returned this word.
+pub fn only_from(word: u64, words: &[u64], receivers: &[u64], i: u64) -> bool
+    requires { ⌜ length (now words) ≡ length (now receivers) ⌝ }
+    ensures { λ r. ⌜ r ≡ only-from word (now (words .entry)) (now (receivers .entry)) i ⌝ }
 {
-    if words[i] != word {
-        return false;
-    }
-    let mut j: usize = 0;
-    while j < words.len() {
-        if (j != i) & (words[j] == word) {
+    let mut r: usize = 0;
+    while r < receivers.len() {
+        let own = receivers[r] == i;
+        let returned = words[r] == word;
+        if own ^ returned {
             return false;
         }
-        j += 1;
+        r += 1;
     }
     true
 }
@@ -47,14 +46,19 @@ fn extra_alone(net: Network) -> SecondVectors
     }
 }
 
-// The extra vector, if there is one, then the walking vector of each net whose word its own receiver alone did not
-// return; none if there is no such net.
-fn vectors_for_unclear(net: Network, words: &[u64], returned: &[u64]) -> SecondVectors
+// The extra vector, if there is one, then the walking vector of each net whose word its own receivers, all of them and
+// no other, did not return; none if there is no such net.
+fn vectors_for_unclear(
+    net: Network,
+    receivers: &[u64],
+    words: &[u64],
+    returned: &[u64],
+) -> SecondVectors
     requires { ⌜ (net .nets ≤ 48) × (now words ≡ sequential-words net) × (length (now words) ≡ net .nets)
-        × (length (now returned) ≡ net .nets) ⌝ }
-    ensures { λ r. ⌜ ((answers : List ℕ) → now (returned .entry) ≡ transpose (net .nets) answers
+        × (length (now returned) ≡ length (now receivers)) ⌝ }
+    ensures { λ r. ⌜ ((answers : List ℕ) → now (returned .entry) ≡ transpose (length (now (receivers .entry))) answers
         → (length (r .words) ≡ 49) × (r .count ≤ 49)
-        × (take (r .count) (r .words) ≡ second-vectors net answers)) ⌝ }
+        × (take (r .count) (r .words) ≡ second-vectors net (now (receivers .entry)) answers)) ⌝ }
 {
     let extra = extra_alone(net);
     let start = extra.count;
@@ -62,7 +66,7 @@ fn vectors_for_unclear(net: Network, words: &[u64], returned: &[u64]) -> SecondV
     let mut count = start;
     let mut i: usize = 0;
     while i < words.len() {
-        if !only_at(words[i], returned, i) {
+        if !only_from(words[i], returned, receivers, i as u64) {
             vectors[count] = network::drivers::walking_vector(net, i as u64).0;
             count += 1;
         }
@@ -78,13 +82,14 @@ fn vectors_for_unclear(net: Network, words: &[u64], returned: &[u64]) -> SecondV
 }
 
 // The vectors of step two, by the first answers.
-pub fn second_vectors(net: Network, answers: &[u64]) -> SecondVectors
-    requires { ⌜ (2 ≤ net .nets) × (net .nets ≤ 48) × (length (now answers) ≤ 64) ⌝ }
+pub fn second_vectors(net: Network, receivers: &[u64], answers: &[u64]) -> SecondVectors
+    requires { ⌜ (2 ≤ net .nets) × (net .nets ≤ 48) × (length (now receivers) ≤ 64) × (length (now answers) ≤ 64) ⌝ }
     ensures { λ r. ⌜ (length (r .words) ≡ 49) × (r .count ≤ 49)
-        × (take (r .count) (r .words) ≡ second-vectors net (now (answers .entry))) ⌝ }
+        × (take (r .count) (r .words) ≡ second-vectors net (now (receivers .entry)) (now (answers .entry))) ⌝ }
 {
     let n = net.nets as usize;
+    let m = receivers.len();
     let words = crate::first::sequential_words(net);
-    let returned = diagnosis::fit::answers_of(net, answers);
-    vectors_for_unclear(net, &words[..n], &returned[..n])
+    let returned = diagnosis::fit::answers_of(m, answers);
+    vectors_for_unclear(net, receivers, &words[..n], &returned[..m])
 }

@@ -1,9 +1,10 @@
-// What the programs that try tables of calls share: the input, the lines of a table, what they say of the networks of
-// the calls, the numbers in a line, and what is shown of a call.
+// What the programs that try tables of calls share: the input, the lines of a table, what they say of the networks and
+// the receivers of the calls, the numbers in a line, and what is shown of a call.
 ghost use Rattle.io.specs.Counts.{Counts};
 
 pub mod lent;
 pub mod read;
+pub mod receivers;
 pub mod setting;
 pub mod show;
 
@@ -15,9 +16,9 @@ pub enum Line {
     Call,
 }
 
-// Empty lines and lines that begin with `#` are skipped. A line that begins with `level` or `gate` gives the soft level
-// or the gate of the calls on the lines after it (setting.rt). Any other that begins with a letter names those calls,
-// or starts a record for them.
+// Empty lines and lines that begin with `#` are skipped. A line that begins with `level`, `gate` or `receivers` gives
+// the soft level, the gate or the receivers of the calls on the lines after it (setting.rt). Any other that begins with
+// a letter names those calls, or starts a record for them.
 pub fn kind_of(line: &[u8]) -> Line {
     if line.len() == 0 {
         return Line::Skipped;

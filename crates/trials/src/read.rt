@@ -3,7 +3,7 @@ ghost use mathlib.Core.Path.{_≡_};
 ghost use Prim.Native.Nat.{_≤_};
 ghost use lib.ListN.{length};
 
-// The most words of a list: one more than a set of vectors may have.
+// The most words of a list: one more than a set of vectors, or a list of receivers, may have.
 pub const MOST: usize = 65;
 
 // The mark of a list that the text's end ended.

@@ -74,6 +74,15 @@ pub fn reaches(state: &[u64]) {
     words(state, b" reaches");
 }
 
+// A list of receivers, the net of each; of a long one as of any list.
+pub fn receivers(list: &[u64]) {
+    semicolon();
+    if (0 < list.len()) & (list.len() <= SHOWN) {
+        text(b" receivers");
+    }
+    words(list, b" receivers");
+}
+
 // The name of a call, n, k and the vectors.
 pub fn set(name: &[u8], nets: u64, class: u64, vectors: &[u64]) {
     entry(name, nets);

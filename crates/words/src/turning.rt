@@ -1,6 +1,6 @@
 // Turning: from parallel words the sequential words of the nets, from sequential words the parallel word of a vector.
-// The two are one exchange of rows and columns. Helpers between crates: at most 64 words, an index below 64, at most 48
-// nets.
+// The two are one exchange of rows and columns. Helpers between crates: at most 64 words, an index below 64, at
+// most 64 columns.
 ghost use mathlib.Core.Path.{_≡_};
 ghost use Prim.Native.Nat.{ℕ, _+_, _*_, _^_, _<_, _≤_};
 ghost use lib.ListN.{length};
@@ -26,9 +26,9 @@ fn column(rows: &[u64], i: u64) -> u64
 }
 
 // Bit t into the column of each net whose driver drives 1 on the vector.
-fn add_row(vector: Ptv, t: u64, columns: &mut [u64; 48])
-    requires { ⌜ (vector .0 < 2 ^ 48) × (t < 64) × (length (now columns) ≡ 48) × ((i : ℕ) → i < 48 → at (now columns) i < 2 ^ t) ⌝ }
-    ensures { λ r. ⌜ (length (now (columns .exit)) ≡ 48) × ((i : ℕ) → i < 48
+fn add_row(vector: Ptv, t: u64, columns: &mut [u64; 64])
+    requires { ⌜ (t < 64) × (length (now columns) ≡ 64) × ((i : ℕ) → i < 64 → at (now columns) i < 2 ^ t) ⌝ }
+    ensures { λ r. ⌜ (length (now (columns .exit)) ≡ 64) × ((i : ℕ) → i < 64
         → at (now (columns .exit)) i ≡ at (now (columns .entry)) i + «bit-value» (has (vector .0) i) * 2 ^ t) ⌝ }
 {
     let row = crate::sets::bit_word(t);
@@ -42,12 +42,12 @@ fn add_row(vector: Ptv, t: u64, columns: &mut [u64; 48])
 
 // All columns of parallel words below bit n: entry i is the sequential word of net i. Only the bits that are set are
 // gone through.
-pub fn columns(words: &[u64], n: u64) -> [u64; 48]
-    requires { ⌜ (length (now words) ≤ 64) × (n ≤ 48) ⌝ }
-    ensures { λ r. ⌜ (length r ≡ 48) × Columns n (now (words .entry)) r ⌝ }
+pub fn columns(words: &[u64], n: u64) -> [u64; 64]
+    requires { ⌜ (length (now words) ≤ 64) × (n ≤ 64) ⌝ }
+    ensures { λ r. ⌜ (length r ≡ 64) × Columns n (now (words .entry)) r ⌝ }
 {
-    let inside = crate::sets::bit_word(n) - 1;
-    let mut columns = [0u64; 48];
+    let inside = crate::sets::low_ones(n);
+    let mut columns = [0u64; 64];
     let mut t: usize = 0;
     while t < words.len() {
         let word = words[t] & inside;
@@ -58,8 +58,8 @@ pub fn columns(words: &[u64], n: u64) -> [u64; 48]
 }
 
 // The sequential word of a net, of columns turned before.
-pub fn sequential_word(columns: &[u64; 48], net: u64) -> Stv
-    requires { ⌜ net < 48 ⌝ }
+pub fn sequential_word(columns: &[u64; 64], net: u64) -> Stv
+    requires { ⌜ net < 64 ⌝ }
     ensures { λ r. ⌜ r .0 ≡ at (now (columns .entry)) net ⌝ }
 {
     Stv(columns[net as usize])

@@ -116,7 +116,7 @@ module _ (net : Network) (k : ℕ) (vectors responses : List ℕ) (room : ℕ) w
         decides-and is-given (decides-row-9 (length vectors) (length responses)),
         λ _. (
           refl,
-          decides-and is-given (decides-high-bit net responses),
+          decides-and is-given (decides-high-bit (net .nets) responses),
           λ _.
               (refl, decides-row-12 (length (file-of net k vectors responses)) room, λ _. tt),
         ),

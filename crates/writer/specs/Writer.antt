@@ -47,7 +47,7 @@ file-of net k vectors responses = head-of vectors responses ++ bodies-of net k v
 abbrev pub OwnRows : Network → ℕ → (vectors responses : List ℕ) → ℕ → List (ℕ × Type 0)
 OwnRows net k vectors responses room =
     (9, (responses ≢ []) × Row9 (length vectors) (length responses))
-    ∷ (10, (responses ≢ []) × HighBit net responses)
+    ∷ (10, (responses ≢ []) × HighBit (net .nets) responses)
     ∷ (12, Row12 (length (file-of net k vectors responses)) room)
     ∷ []
 
@@ -62,7 +62,7 @@ given (word ∷ words) = true
 abbrev pub own-tests : Network → ℕ → (vectors responses : List ℕ) → ℕ → List (ℕ × Bool)
 own-tests net k vectors responses room =
     (9, given responses && bad-response-count (length vectors) (length responses))
-    ∷ (10, given responses && has-high-bit net responses)
+    ∷ (10, given responses && has-high-bit (net .nets) responses)
     ∷ (12, no-room (length (file-of net k vectors responses)) room)
     ∷ []
 

@@ -39,7 +39,7 @@ pub fn write_job(
     if given & network::refusals::bad_response_count(vectors.len(), responses.len()) {
         return Wrote::Refused(9);
     }
-    if given & network::refusals::has_high_bit(net, responses) {
+    if given & network::refusals::has_high_bit(net.nets, responses) {
         return Wrote::Refused(10);
     }
     let size = writing::file_size(vectors, responses);

@@ -164,10 +164,10 @@ mod tests {
         assert_eq!(chosen_sets(48, 3).len(), 1 + 48 + 48 * 47 / 2 + 48 * 47 * 46 / 6);
     }
 
-    /// Tries every set of up to `longest` vectors for one class, by the rule and by the states' answers, and gives how
-    /// many pass.
-    fn passing(net: Network, k: u64, longest: usize) -> usize {
-        let states = all_states(net.nets, k);
+    /// Tries every set of up to `longest` vectors for one class, by the rule and by the answers of all states of m
+    /// receivers, and gives how many pass.
+    fn passing(net: Network, m: usize, k: u64, longest: usize) -> usize {
+        let states = all_states(net.nets, m, k);
         let passes = |vectors: &Vec<u64>| {
             let answers: HashSet<_> = states.iter().map(|state| response(net, vectors, state)).collect();
             let passes = verdict(net, k, vectors) == Verdict::Pass;
@@ -177,12 +177,14 @@ mod tests {
         (1..=longest).flat_map(|length| all_lists(1 << net.nets, length)).filter(passes).count()
     }
 
-    /// Demand 3: pass exactly when no two states of the class answer alike.
+    /// Demand 3: pass exactly when no two states of the class answer alike, however many receivers they have.
     #[test]
     fn pass_means_that_no_two_states_answer_alike() {
-        for (nets, longest) in [(2, 4), (3, 3)] {
+        for (nets, receivers, longest) in [(2, 2..=4, 4), (3, 3..=4, 3)] {
             for net in each_combination(nets) {
-                (1..=nets).for_each(|k| _ = passing(net, k, longest));
+                for m in receivers.clone() {
+                    (1..=nets).for_each(|k| _ = passing(net, m, k, longest));
+                }
             }
         }
     }
@@ -195,7 +197,8 @@ mod tests {
         let fewest_of_three = [(3, 6), (4, 24), (4, 24), (3, 6)];
         for (nets, expected) in [(2, fewest_of_two), (3, fewest_of_three)] {
             for (net, (fewest, orders)) in each_combination(nets).into_iter().zip(expected) {
-                assert_eq!((passing(net, nets, fewest - 1), passing(net, nets, fewest)), (0, orders));
+                let passing = |longest: usize| passing(net, nets as usize, nets, longest);
+                assert_eq!((passing(fewest - 1), passing(fewest)), (0, orders));
             }
         }
     }

@@ -8,6 +8,7 @@
 //! its own. The other gives the call's answer: the number of the first row that holds, else the full result. What a
 //! call is lent comes in as its room, the number of words that it has place for.
 
+pub mod board;
 pub mod checker;
 pub mod diagnosis;
 pub mod jobfile;
@@ -17,6 +18,7 @@ pub mod rows;
 pub mod session;
 pub mod words;
 
+pub use board::Board;
 pub use checker::{check, Verdict};
 pub use diagnosis::{diagnose, findings, Finding};
 pub use jobfile::{read_job, write_job, Job};

@@ -88,23 +88,18 @@ pub fn meet_and_differ(one: u64, other: u64) -> bool {
     one != 0 && other != 0 && one & other != 0 && one != other
 }
 
-/// Is the list a wiring state of class k?
-pub fn is_state(n: u64, k: u64, state: &[u64]) -> bool {
-    state.len() as u64 == n
+/// Is the list a wiring state of class k: a reach for each of m receivers?
+pub fn is_state(n: u64, m: usize, k: u64, state: &[u64]) -> bool {
+    state.len() == m
         && state.iter().all(|reach| (0..64).all(|i| i < n || !bit(*reach, i)))
         && state.iter().all(|reach| u64::from(reach.count_ones()) <= k)
         && state.iter().all(|one| state.iter().all(|other| !meet_and_differ(*one, *other)))
 }
 
-/// All wiring states of class k, from all ways to give each of n receivers a set of drivers. For n up to 4.
-pub fn all_states(n: u64, k: u64) -> Vec<Vec<u64>> {
-    assert!(n <= 4, "too many assignments");
-    let mut assignments = vec![Vec::new()];
-    for _ in 0..n {
-        assignments = assignments.iter().flat_map(|front| (0..1 << n).map(|reach| extended(front, reach))).collect();
-    }
-    assignments.retain(|state| is_state(n, k, state));
-    assignments
+/// All wiring states of class k, from all ways to give each of m receivers a set of the n drivers. For few of them.
+pub fn all_states(n: u64, m: usize, k: u64) -> Vec<Vec<u64>> {
+    assert!(n * m as u64 <= 16, "too many assignments");
+    all_lists(1 << n, m).into_iter().filter(|state| is_state(n, m, k, state)).collect()
 }
 
 /// A list and one word more.
@@ -169,8 +164,11 @@ mod tests {
     #[test]
     fn states_of_two_nets_counted_by_hand() {
         // Each receiver has one of 0, 1, 2, 3. Of the 16 pairs, 3 beside 1 or 2, in either order, is no state.
-        assert_eq!(all_states(2, 2).len(), 12);
+        assert_eq!(all_states(2, 2, 2).len(), 12);
         // Without 3, all 9 pairs of 0, 1, 2.
-        assert_eq!(all_states(2, 1).len(), 9);
+        assert_eq!(all_states(2, 2, 1).len(), 9);
+        // Of m receivers, each one of 0, 1, 2, or each one of 0, 3; all of them 0 is in both.
+        assert_eq!([3, 4].map(|m| all_states(2, m, 2).len()), [27 + 8 - 1, 81 + 16 - 1]);
+        assert_eq!([3, 4].map(|m| all_states(2, m, 1).len()), [27, 81]);
     }
 }

@@ -1,5 +1,6 @@
 //! The table "Where a call is turned away": its rows, each a test of its own.
 
+use crate::board::Board;
 use crate::network::{is_state, Network, AND, OR};
 use crate::words::bit;
 
@@ -48,6 +49,14 @@ pub fn bad_net_count(n: u64) -> bool {
     !(2..=48).contains(&n)
 }
 
+/// Row 21: m is outside n to 64, or a receiver names no net, or a net has none.
+pub fn bad_receivers(board: &Board) -> bool {
+    let (n, m) = (board.network.nets, board.receivers() as u64);
+    let names_no_net = |owner: &u64| *owner >= n;
+    let has_none = |net: u64| !board.owners.contains(&net);
+    m < n || m > 64 || board.owners.iter().any(names_no_net) || (0..n).any(has_none)
+}
+
 /// Row 6.
 pub fn bad_class(n: u64, k: u64) -> bool {
     !(k == 1 || k == 2 || k == 3 || k == n) || k > n
@@ -68,28 +77,45 @@ pub fn bad_vector_count(count: usize) -> bool {
     !(1..=64).contains(&count)
 }
 
-/// Rows 8 and 10.
-pub fn has_high_bit(n: u64, words: &[u64]) -> bool {
-    words.iter().any(|word| (0..64).any(|i| i >= n && bit(*word, i)))
+/// Row 8, of n bits, and row 10, of m bits: a bit at or above that many.
+pub fn has_high_bit(bits: u64, words: &[u64]) -> bool {
+    words.iter().any(|word| (0..64).any(|i| i >= bits && bit(*word, i)))
 }
 
 /// Row 11.
-pub fn bad_state(n: u64, k: u64, state: &[u64]) -> bool {
-    !is_state(n, k, state)
+pub fn bad_state(board: &Board, k: u64, state: &[u64]) -> bool {
+    !is_state(board.network.nets, board.receivers(), k, state)
 }
 
-/// Rows 5, 17 and 20, which begin the calls that take a network and no class.
-pub fn rows_of_network<'a>(net: Network) -> Rows<'a> {
-    Rows::new()
-        .row(5, move || bad_net_count(net.nets))
-        .row(17, move || bad_level(net.level))
-        .row(20, move || bad_gate(net.gate))
+/// Row 5.
+fn row_of_net_count<'a>(net: Network) -> Rows<'a> {
+    Rows::new().row(5, move || bad_net_count(net.nets))
 }
 
-/// Rows 5, 6, 17, 20, 7 and 8, which begin every call on a test set.
+/// Rows 5 and 21.
+fn rows_of_receivers(board: &Board) -> Rows<'_> {
+    row_of_net_count(board.network).row(21, move || bad_receivers(board))
+}
+
+/// Rows 5, 21, 17 and 20, which begin the calls that take receivers and no class.
+pub fn rows_of_board(board: &Board) -> Rows<'_> {
+    let net = board.network;
+    rows_of_receivers(board).row(17, move || bad_level(net.level)).row(20, move || bad_gate(net.gate))
+}
+
+/// Rows 5, 6, 17, 20, 7 and 8, which begin the calls on a test set that take no receivers.
 pub fn rows_of_set<'a>(net: Network, k: u64, vectors: &'a [u64]) -> Rows<'a> {
+    row_of_net_count(net).then(rows_of_class_and_vectors(net, k, vectors))
+}
+
+/// Rows 5, 21, 6, 17, 20, 7 and 8, which begin those that take receivers.
+pub fn rows_of_set_on_board<'a>(board: &'a Board, k: u64, vectors: &'a [u64]) -> Rows<'a> {
+    rows_of_receivers(board).then(rows_of_class_and_vectors(board.network, k, vectors))
+}
+
+/// Rows 6, 17, 20, 7 and 8.
+fn rows_of_class_and_vectors<'a>(net: Network, k: u64, vectors: &'a [u64]) -> Rows<'a> {
     Rows::new()
-        .row(5, move || bad_net_count(net.nets))
         .row(6, move || bad_class(net.nets, k))
         .row(17, move || bad_level(net.level))
         .row(20, move || bad_gate(net.gate))
@@ -97,7 +123,7 @@ pub fn rows_of_set<'a>(net: Network, k: u64, vectors: &'a [u64]) -> Rows<'a> {
         .row(8, move || has_high_bit(net.nets, vectors))
 }
 
-/// Rows 9 and 10 on the responses to `asked` vectors.
-pub fn rows_of_responses<'a>(n: u64, asked: usize, responses: &'a [u64]) -> Rows<'a> {
-    Rows::new().row(9, move || responses.len() != asked).row(10, move || has_high_bit(n, responses))
+/// Rows 9 and 10 on the responses of m receivers to `asked` vectors.
+pub fn rows_of_responses<'a>(m: u64, asked: usize, responses: &'a [u64]) -> Rows<'a> {
+    Rows::new().row(9, move || responses.len() != asked).row(10, move || has_high_bit(m, responses))
 }

@@ -1,21 +1,39 @@
-//! Random boards and test sets.
+//! Random boards, wiring states and test sets.
 
 use super::generator::Generator;
 use super::networks::extra_at_some_level;
 use model::network::{extra_vector, is_state, walking_vectors};
-use model::{Network, AND};
+use model::{Board, Network, AND};
 
-/// A wiring state of class k: drivers in groups of at most k, and for each receiver a group, or none.
-pub fn state(g: &mut Generator, n: u64, k: u64) -> Vec<u64> {
+/// The network with m receivers: one on each net, the others on any, in any order.
+pub fn with_receivers(g: &mut Generator, network: Network, m: usize) -> Board {
+    let n = network.nets;
+    let mut owners: Vec<u64> = (0..n).collect();
+    owners.resize_with(m, || g.below(n as usize) as u64);
+    g.shuffle(&mut owners);
+    Board { network, owners }
+}
+
+/// The same with n to 64 receivers, and with 64 on every third board.
+pub fn with_some_receivers(g: &mut Generator, network: Network) -> Board {
+    let n = network.nets as usize;
+    let m = if g.once_in(3) { 64 } else { n + g.below(65 - n) };
+    with_receivers(g, network, m)
+}
+
+/// A wiring state of class k: drivers in groups of at most k, and for each receiver a group, often that of its net's
+/// driver, or none.
+pub fn state(g: &mut Generator, board: &Board, k: u64) -> Vec<u64> {
+    let n = board.network.nets;
     let groups = groups(g, n, k);
-    let own = |driver: u64| *groups.iter().find(|group| *group >> driver & 1 == 1).expect("each driver has a group");
-    let reach = |i: u64, g: &mut Generator| match g.below(8) {
+    let of = |net: u64| *groups.iter().find(|group| *group >> net & 1 == 1).expect("each driver has a group");
+    let reach = |owner: u64, g: &mut Generator| match g.below(8) {
         0 => 0,
         1 | 2 => *g.pick(&groups),
-        _ => own(i),
+        _ => of(owner),
     };
-    let state: Vec<u64> = (0..n).map(|i| reach(i, g)).collect();
-    assert!(is_state(n, k, &state));
+    let state: Vec<u64> = board.owners.iter().map(|owner| reach(*owner, g)).collect();
+    assert!(is_state(n, board.receivers(), k, &state));
     state
 }
 
@@ -63,7 +81,10 @@ pub fn for_gate(net: Network, vectors: &[u64]) -> Vec<u64> {
     }
 }
 
-/// The word of all n drivers.
-pub fn low_bits(n: u64) -> u64 {
-    (1 << n) - 1
+/// The word of this many ones, of all n drivers or of all m receivers.
+pub fn low_bits(count: u64) -> u64 {
+    match count {
+        64 => u64::MAX,
+        _ => (1 << count) - 1,
+    }
 }

@@ -1,10 +1,10 @@
 //! Each call made on lent lists, and compared with the answer that it should give: number, words written, all else as
-//! it was.
+//! it was. A call that takes receivers is made with the list of them, and with one receiver a net by the network alone.
 
 use super::lent::{Given, Lent};
-use super::networks::of_library;
+use super::networks::{of_library, said_in_each_way};
 use fontarelga::{raw, JOB_WORDS, VERDICT_WORDS};
-use model::{Finding, Job, Network, Verdict};
+use model::{Board, Finding, Job, Network, Verdict};
 
 /// What a call should give: its result, or the refusal's number.
 pub type Answer<T> = Result<T, u64>;
@@ -40,31 +40,42 @@ pub fn check_gives(net: Network, k: u64, vectors: &[u64], answer: &Answer<Verdic
     given.assert_unchanged();
 }
 
-pub fn respond_gives(net: Network, k: u64, vectors: &[u64], state: &[u64], room: usize, answer: &Answer<Vec<u64>>) {
-    let what = ("respond", net, k, vectors, state, room);
-    let given = [Given::of(vectors), Given::of(state)];
-    let mut response = Lent::words(room);
-    let number = raw::respond(of_library(net), k, given[0].give(), given[1].give(), response.lend());
-    assert_eq!(number, code(answer), "{what:?}");
-    response.assert_holds(&written(answer), &what);
-    given.iter().for_each(Given::assert_unchanged);
+pub fn own_receivers_gives(n: u64, room: usize, answer: &Answer<Vec<u64>>) {
+    let what = ("own receivers", n, room);
+    let mut receivers = Lent::words(room);
+    assert_eq!(raw::own_receivers(n, receivers.lend()), code(answer), "{what:?}");
+    receivers.assert_holds(&written(answer), &what);
+}
+
+pub fn respond_gives(board: &Board, k: u64, vectors: &[u64], state: &[u64], room: usize, answer: &Answer<Vec<u64>>) {
+    let what = ("respond", board, k, vectors, state, room);
+    for said in said_in_each_way(board) {
+        let given = [Given::of(said.receivers()), Given::of(vectors), Given::of(state)];
+        let mut response = Lent::words(room);
+        let number = raw::respond(&said, k, given[1].give(), given[2].give(), response.lend());
+        assert_eq!(number, code(answer), "{what:?}");
+        response.assert_holds(&written(answer), &what);
+        given.iter().for_each(Given::assert_unchanged);
+    }
 }
 
 pub fn diagnose_gives(
-    net: Network,
+    board: &Board,
     k: u64,
     vectors: &[u64],
     responses: &[u64],
     room: usize,
     answer: &Answer<Vec<u64>>,
 ) {
-    let what = ("diagnose", net, k, vectors, responses, room);
-    let given = [Given::of(vectors), Given::of(responses)];
-    let mut state = Lent::words(room);
-    let number = raw::diagnose(of_library(net), k, given[0].give(), given[1].give(), state.lend());
-    assert_eq!(number, code(answer), "{what:?}");
-    state.assert_holds(&written(answer), &what);
-    given.iter().for_each(Given::assert_unchanged);
+    let what = ("diagnose", board, k, vectors, responses, room);
+    for said in said_in_each_way(board) {
+        let given = [Given::of(said.receivers()), Given::of(vectors), Given::of(responses)];
+        let mut state = Lent::words(room);
+        let number = raw::diagnose(&said, k, given[1].give(), given[2].give(), state.lend());
+        assert_eq!(number, code(answer), "{what:?}");
+        state.assert_holds(&written(answer), &what);
+        given.iter().for_each(Given::assert_unchanged);
+    }
 }
 
 /// The words of a table's records.
@@ -73,14 +84,17 @@ pub fn table_words(records: &[Finding]) -> Vec<u64> {
 }
 
 /// The table is lent with `room` words, which is room for a third as many records.
-pub fn findings_gives(net: Network, state: &[u64], room: usize, answer: &Answer<Vec<Finding>>) {
-    let what = ("findings", net, state, room);
-    let given = Given::of(state);
-    let mut table = Lent::words(room);
-    let number = raw::findings(of_library(net), given.give(), table.lend());
-    assert_eq!(number, code(answer), "{what:?}");
-    table.assert_holds(&written(&answer.as_ref().map(|records| table_words(records)).map_err(|e| *e)), &what);
-    given.assert_unchanged();
+pub fn findings_gives(board: &Board, state: &[u64], room: usize, answer: &Answer<Vec<Finding>>) {
+    let what = ("findings", board, state, room);
+    let words = answer.as_ref().map(|records| table_words(records)).map_err(|number| *number);
+    for said in said_in_each_way(board) {
+        let given = [Given::of(said.receivers()), Given::of(state)];
+        let mut table = Lent::words(room);
+        let number = raw::findings(&said, given[1].give(), table.lend());
+        assert_eq!(number, code(answer), "{what:?}");
+        table.assert_holds(&written(&words), &what);
+        given.iter().for_each(Given::assert_unchanged);
+    }
 }
 
 /// The words of a job.

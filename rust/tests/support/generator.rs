@@ -35,11 +35,11 @@ impl Generator {
         }
     }
 
-    /// A list with one bit of one word turned, among the `n` lowest.
-    pub fn one_bit_turned(&mut self, words: &[u64], n: u64) -> Vec<u64> {
+    /// A list with one bit of one word turned, among the `count` lowest.
+    pub fn one_bit_turned(&mut self, words: &[u64], count: usize) -> Vec<u64> {
         let mut turned = words.to_vec();
         let place = self.below(turned.len());
-        turned[place] ^= 1 << self.below(n as usize);
+        turned[place] ^= 1 << self.below(count);
         turned
     }
 }

@@ -8,3 +8,4 @@ pub mod generator;
 pub mod lent;
 pub mod networks;
 pub mod session;
+pub mod walk;

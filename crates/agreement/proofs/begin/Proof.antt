@@ -11,7 +11,9 @@ same-length : tie.Need-same-length
 same-length c = search needs
 
 returns : tie.Need-returns
-returns c = let done = c .before .before .begin in (done .ensures .1 .0 ∙ stepped-code _ _ _, (done .ensures .0, done .ensures .1 .1))
+returns c =
+    let done = c .before .before .begin in
+    (done .ensures .1 .0 ∙ stepped-code _ _ _, (done .ensures .0, done .ensures .1 .1))
 
 pub begin-spec : {M : Type 1} → statement M
 begin-spec = tie.close (tie.spec begin-requires same-length returns)

@@ -25,24 +25,24 @@ use Rattle.diagnosis.proofs.read_back.Statement.{statement}
 use Rattle.diagnosis.proofs.read_back.Tie as tie
 
 -- what the candidate's test shows
-module _ (net : Network) (k : ℕ) (vectors responses candidate : List ℕ) (passed : Passed net k vectors)
+module _ (net : Network) (m k : ℕ) (vectors responses candidate : List ℕ) (passed : Passed net k vectors)
     (size : length responses ≡ length vectors)
-    (narrow : HighBit net responses → ⊥) (full-size : length candidate ≡ net .nets)
-    (only : (i : ℕ) → i < net .nets → OnlyAnswer net k vectors (column responses i) (at candidate i)) where
-  fails : ¬ (Fits net k vectors responses candidate) → fit-answer net k vectors responses ≡ refused 14
+    (narrow : HighBit m responses → ⊥) (full-size : length candidate ≡ m)
+    (only : (i : ℕ) → i < m → OnlyAnswer net k vectors (column responses i) (at candidate i)) where
+  fails : ¬ (Fits net m k vectors responses candidate) → fit-answer net m k vectors responses ≡ refused 14
   unfolding fit-answer by-tests
   fails h =
-      rw (candidate-fails net k vectors responses size (no-high-bit net responses narrow) candidate
-      (only-answers-fit net k vectors responses size candidate full-size only) h)
+      rw (candidate-fails net m k vectors responses size (no-high-bit m responses narrow) candidate
+      (only-answers-fit net m k vectors responses size candidate full-size only) h)
 
-  succeeds : Fits net k vectors responses candidate → fit-answer net k vectors responses ≡ full candidate
+  succeeds : Fits net m k vectors responses candidate → fit-answer net m k vectors responses ≡ full candidate
   unfolding fit-answer by-tests
   succeeds h =
-      let r = fits-read-back net k vectors responses size (passed-sets-apart net k vectors passed) candidate h in
+      let r = fits-read-back net m k vectors responses size (passed-sets-apart net k vectors passed) candidate h in
       rw (r .0) (ap full (r .1))
 
 candidate-requires : tie.Need-candidate-requires
-candidate-requires c κs = let p = c .before .before .before .pre in (p .1, p .0)
+candidate-requires c κs = let p = c .before .before .before .pre in (p .0, p .2, p .1)
 
 -- the candidate's reaches, as many as receivers
 module _ (c : tie.After-candidate) where
@@ -50,35 +50,42 @@ module _ (c : tie.After-candidate) where
   start = c .before .before .before .before
 
   abbrev reaches : List ℕ
-  reaches = take (start .args .net .nets) (c .candidate .result)
+  reaches = take (start .args .receivers) (c .candidate .result)
 
   nets-most : start .args .net .nets ≤ 48
-  nets-most = let s = admitted-set (start .args .net) (start .args .class) (start .args .vectors .now) (start .pre .0 .0) in s .most
+  nets-most = let s = admitted-set (start .args .net) (start .args .class) (start .args .vectors .now)
+      (start .pre .1 .0) in s .most
 
-  room : start .args .net .nets ≤ length (c .candidate .result)
-  room = omega (arith, nets-most, c .candidate .ensures .0)
+  room : start .args .receivers ≤ length (c .candidate .result)
+  room = omega (arith, start .pre .0, c .candidate .ensures .0)
 
-  reaches-size : length reaches ≡ start .args .net .nets
-  reaches-size = length-take-le (start .args .net .nets) (c .candidate .result) room
+  reaches-size : length reaches ≡ start .args .receivers
+  reaches-size = length-take-le (start .args .receivers) (c .candidate .result) room
 
-  only-reaches : (i : ℕ) → i < start .args .net .nets
+  only-reaches : (i : ℕ) → i < start .args .receivers
       → OnlyAnswer (start .args .net) (start .args .class) (start .args .vectors .now)
       (column (start .args .responses .now) i) (at reaches i)
-  only-reaches i l = rw (getD-take (start .args .net .nets) (c .candidate .result) i 0 l) (c .candidate .ensures .1 i l)
+  only-reaches i l = rw (getD-take (start .args .receivers) (c .candidate .result) i 0 l) (c .candidate .ensures .1 i l)
 
-  refuses : ¬ (Fits (start .args .net) (start .args .class) (start .args .vectors .now) (start .args .responses .now) reaches)
-      → fit-answer (start .args .net) (start .args .class) (start .args .vectors .now) (start .args .responses .now) ≡ refused 14
+  refuses : ¬ (Fits (start .args .net) (start .args .receivers) (start .args .class) (start .args .vectors .now)
+      (start .args .responses .now) reaches)
+      → fit-answer (start .args .net) (start .args .receivers) (start .args .class) (start .args .vectors .now)
+      (start .args .responses .now) ≡ refused 14
   refuses h =
       let a = start .args in
       let p = start .pre in
-      fails (a .net) (a .class) (a .vectors .now) (a .responses .now) reaches (p .0) (p .1) (p .2) reaches-size only-reaches h
+      fails (a .net) (a .receivers) (a .class) (a .vectors .now) (a .responses .now) reaches (p .1) (p .2)
+      (p .3) reaches-size only-reaches h
 
-  accepts : Fits (start .args .net) (start .args .class) (start .args .vectors .now) (start .args .responses .now) reaches
-      → fit-answer (start .args .net) (start .args .class) (start .args .vectors .now) (start .args .responses .now) ≡ full reaches
+  accepts : Fits (start .args .net) (start .args .receivers) (start .args .class) (start .args .vectors .now)
+      (start .args .responses .now) reaches
+      → fit-answer (start .args .net) (start .args .receivers) (start .args .class) (start .args .vectors .now)
+      (start .args .responses .now) ≡ full reaches
   accepts h =
       let a = start .args in
       let p = start .pre in
-      succeeds (a .net) (a .class) (a .vectors .now) (a .responses .now) reaches (p .0) (p .1) (p .2) reaches-size only-reaches h
+      succeeds (a .net) (a .receivers) (a .class) (a .vectors .now) (a .responses .now) reaches (p .1) (p .2)
+      (p .3) reaches-size only-reaches h
 
 array-share-prefix-state : tie.Need-array-share-prefix-state
 array-share-prefix-state c = room c
@@ -95,7 +102,7 @@ returns c =
     let a = start d .args in
     owed-refused _ 14 (a .out .now)
     (refuses d (λ h. contrary (sym (c .before .not-a-state .ensures) ∙ c .if1 .taken)
-    (state→test (a .net) (a .class) (reaches d) (h .of-class))))
+    (state→test (a .net) (a .receivers) (a .class) (reaches d) (h .of-class))))
 
 array-share-prefix-state-2 : tie.Need-array-share-prefix-state-2
 array-share-prefix-state-2 c = room (c .before .before .before)
@@ -104,16 +111,18 @@ slice-aggregate-gives-response : tie.Need-slice-aggregate-gives-response
 slice-aggregate-gives-response c = sym (reaches-size (c .before .before .before .before))
 
 -- row 11's test has passed the candidate
-is-state : (c : tie.Else1) → let d = c .before .before .before in State (start d .args .net) (start d .args .class) (reaches d)
+is-state : (c : tie.Else1) → let d = c .before .before .before in
+    State (start d .args .net) (start d .args .receivers) (start d .args .class) (reaches d)
 is-state c =
     let d = c .before .before .before in
-    test→state (start d .args .net) (start d .args .class) (reaches d) (sym (c .before .not-a-state .ensures) ∙ c .if1 .left)
+    test→state (start d .args .net) (start d .args .receivers) (start d .args .class) (reaches d)
+    (sym (c .before .not-a-state .ensures) ∙ c .if1 .left)
 
 gives-response-requires : tie.Need-gives-response-requires
 gives-response-requires c κs =
     let d = c .before .before .before .before in
     let state = is-state (c .before) in
-    (start d .pre .1, omega (arith, reaches-size d, nets-most d), λ i l. state .reach i l .inside)
+    (start d .pre .2, omega (arith, reaches-size d, start d .pre .0), λ i l. state .reach i l .inside)
 
 returns-2 : tie.Need-returns-2
 returns-2 c =
@@ -130,7 +139,7 @@ slice-aggregate-copy-words c = sym (reaches-size (c .before .before .before .bef
 copy-words-requires : tie.Need-copy-words-requires
 copy-words-requires c κs =
     let d = c .before .before .before .before .before .before .before .before in
-    omega (arith, reaches-size d, start d .pre .3)
+    omega (arith, reaches-size d, start d .pre .4)
 
 same-length : tie.Need-same-length
 same-length c = search needs
@@ -140,7 +149,7 @@ returns-3 c =
     let e = c .before .before .before .before .before in
     let d = e .before .before .before .before .before .before in
     let a = start d .args in
-    owed-full _ (a .net .nets) (reaches d) (a .out .now) _
+    owed-full _ (a .receivers) (reaches d) (a .out .now) _
     (accepts d (record {
       of-class = is-state (e .before .before .before);
       gives = e .before .gives-response .ensures .0 (not-false _ (e .if2 .left));

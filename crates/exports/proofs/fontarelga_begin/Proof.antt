@@ -28,10 +28,10 @@ returns : tie.Need-returns
 returns c =
     let k = c .before .before .before in
     let h = k .before .before in
-    let a = h .before .before .before .args in
+    let a = h .before .before .before .before .args in
     let net = network-with (a .nets) (a .level) (a .gate) in
-    let answer : Session → Answer (List ℕ) = λ session. begin-answer net (length (a .first .now)) in
-    let done : Session → Stepped = λ session. begun session net (length (a .first .now)) in
+    let answer : Session → Answer (List ℕ) = λ session. begin-answer net (a .receivers .now) (length (a .first .now)) in
+    let done : Session → Stepped = λ session. begun session net (a .receivers .now) (length (a .first .now)) in
     let by : (session : Session) → (new : Session) × (done session ≡ stepped (answer session) new session) =
     λ session. (_, refl) in
     let held = h .session-of .ensures in

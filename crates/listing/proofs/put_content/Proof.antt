@@ -6,6 +6,7 @@ use mathlib.Core.List.{List, _++_, append-nil}
 use lib.ListN.{length, length-append}
 use Rattle.words.specs.Writing.{written}
 use Rattle.words.proofs.Writing.{written-length, written-next}
+use Rattle.network.specs.OwnReceivers.{own-receivers}
 use Rattle.network.proofs.Rows.{admitted-set}
 use Rattle.checker.specs.declared.Verdict.{Verdict}
 use Rattle.checker.specs.Rule.{verdict}
@@ -90,7 +91,9 @@ returns-2 c =
     let e = p .before .before in
     let d = e .before in
     let a = start d .args in
-    let found = diagnosis-text (a .net) (diagnosis-answer (a .net) (a .class) (a .vectors .now) (a .responses .now) 48) in
+    let own = own-receivers (a .net .nets) in
+    let found = diagnosis-text (a .net)
+    (diagnosis-answer (a .net) own (a .class) (a .vectors .now) (a .responses .now) 48) in
     let rest : responses-text (a .net) (a .class) (a .vectors .now) (a .responses .now) ≡ found =
     diagnosis-follows (a .net) (a .class) (a .vectors .now) (a .responses .now) (e .if1 .left) in
     let whole : line d ++ found ≡ line d ++ responses-text (a .net) (a .class) (a .vectors .now) (a .responses .now) =

@@ -14,9 +14,9 @@ use Rattle.steps.specs.FirstStep.{word-length}
 use Rattle.steps.specs.SecondStep.{unclear, second-vectors}
 use Rattle.steps.proofs.StepOneWords.{length-bounds, first-size}
 use Rattle.session.specs.declared.Session.{Session}
-use Rattle.session.specs.Record.{awaits-first}
+use Rattle.session.specs.Record.{held-owners, awaits-first}
 use Rattle.session.specs.Calls.{first-answer, answered-by}
-use Rattle.session.proofs.Records.{awaits-first-is}
+use Rattle.session.proofs.Records.{HeldBoard, awaits-first-board, awaits-first-is}
 use Rattle.session.proofs.Stepping.{step-refused, step-full}
 use Rattle.session.proofs.first_step.Statement.{statement}
 use Rattle.session.proofs.first_step.Tie as tie
@@ -34,23 +34,27 @@ module _ (session : Session) (answers : List ℕ) (room : ℕ) where
     row-9 e = rw (waits, first-size (session .network), e)
 
     module _ (nine : bad-response-count (word-length (session .network)) (length answers) ≡ false) where
-      row-10 : has-high-bit (session .network) answers ≡ true → first-answer session answers room ≡ refused 10
+      row-10 : has-high-bit (length (held-owners session)) answers ≡ true
+          → first-answer session answers room ≡ refused 10
       unfolding first-answer by-tests
       row-10 e = rw (waits, first-size (session .network), nine, e)
 
-      module _ (ten : has-high-bit (session .network) answers ≡ false) where
-        row-12 : no-room (length (second-vectors (session .network) answers)) room ≡ true → first-answer session answers room ≡ refused 12
+      module _ (ten : has-high-bit (length (held-owners session)) answers ≡ false) where
+        row-12 : no-room (length (second-vectors (session .network) (held-owners session) answers)) room ≡ true
+            → first-answer session answers room ≡ refused 12
         unfolding first-answer by-tests
         row-12 e = rw (waits, first-size (session .network), nine, ten, e)
 
-        accepted : no-room (length (second-vectors (session .network) answers)) room ≡ false
-            → first-answer session answers room ≡ full (second-vectors (session .network) answers)
+        accepted : no-room (length (second-vectors (session .network) (held-owners session) answers)) room ≡ false
+            → first-answer session answers room ≡ full (second-vectors (session .network) (held-owners session) answers)
         unfolding first-answer by-tests
         accepted e = rw (waits, first-size (session .network), nine, ten, e)
 
 -- the record after accepted answers
 abbrev new-record : Session → List ℕ → Session
-new-record session answers = answered-by (session .network) answers (unclear (session .network) answers)
+new-record session answers =
+    answered-by (session .network) (held-owners session) answers
+    (unclear (session .network) (held-owners session) answers)
 
 awaits-first-requires : tie.Need-awaits-first-requires
 awaits-first-requires c κs = search needs
@@ -81,19 +85,22 @@ module _ (c : tie.Else1) where
       let net = start .args .session .network in
       nets-admitted net (awaits-first-is (start .args .session) waits .1 .0)
 
+  board : HeldBoard (start .args .session .network) (start .args .session .receivers) (start .args .session .owners)
+  board = awaits-first-board (start .args .session) waits
+
 word-length-requires : tie.Need-word-length-requires
-word-length-requires c κs = nets-bounds (c .before)
+word-length-requires c κs = nets-bounds (c .before .before)
 
 bad-response-count-requires : tie.Need-bad-response-count-requires
 bad-response-count-requires c κs = search needs
 
 -- the test of row 9
 count-test : (c : tie.After-bad-response-count)
-    → let a = start (c .before .before .before) .args in
+    → let a = start (c .before .before .before .before) .args in
     bad-response-count (word-length (a .session .network)) (length (a .answers .now))
     ≡ c .bad-response-count .result
 count-test c =
-    let a = start (c .before .before .before) .args in
+    let a = start (c .before .before .before .before) .args in
     ap (λ (p : ℕ). bad-response-count p (length (a .answers .now))) (sym (c .before .word-length .ensures))
     ∙ sym (c .bad-response-count .ensures)
 
@@ -103,7 +110,7 @@ refused-requires-2 c κs = search needs
 returns-2 : tie.Need-returns-2
 returns-2 c =
     let d = c .before in
-    let e = d .before .before .before .before in
+    let e = d .before .before .before .before .before in
     let a = start e .args in
     step-refused (first-answer (a .session) (a .answers .now) (length (a .list .now)))
     (new-record (a .session) (a .answers .now)) (a .session) 9 (c .refused2 .result) (a .list .now)
@@ -113,7 +120,7 @@ returns-2 c =
 
 module _ (c : tie.Else2) where
   abbrev waiting : tie.Else1
-  waiting = c .before .before .before .before
+  waiting = c .before .before .before .before .before
 
   nine : bad-response-count (word-length (start waiting .args .session .network)) (length (start waiting .args .answers .now)) ≡ false
   nine = count-test (c .before) ∙ c .if2 .left
@@ -128,7 +135,16 @@ module _ (c : tie.Else2) where
       omega (arith, as-many, p .1)
 
 has-high-bit-requires : tie.Need-has-high-bit-requires
-has-high-bit-requires c κs = nets-bounds (waiting c) .1
+has-high-bit-requires c κs = board (waiting c) .few
+
+-- the test of row 10
+high-test : (c : tie.After-has-high-bit)
+    → let a = start (waiting (c .before)) .args in
+    has-high-bit (length (held-owners (a .session))) (a .answers .now) ≡ c .has-high-bit .result
+high-test c =
+    let a = start (waiting (c .before)) .args in
+    ap (λ (m : ℕ). has-high-bit m (a .answers .now)) (board (waiting (c .before)) .count)
+    ∙ sym (c .has-high-bit .ensures)
 
 refused-requires-3 : tie.Need-refused-requires-3
 refused-requires-3 c κs = search needs
@@ -142,28 +158,34 @@ returns-3 c =
     (new-record (a .session) (a .answers .now)) (a .session) 10 (c .refused3 .result) (a .list .now)
     (c .refused3 .ensures)
     (row-10 (a .session) (a .answers .now) (length (a .list .now)) (waits (waiting f)) (nine f)
-    (sym (d .before .has-high-bit .ensures) ∙ d .if3 .taken))
+    (high-test (d .before) ∙ d .if3 .taken))
 
 -- ---- row 10 does not hold
 
+array-share-prefix-owners : tie.Need-array-share-prefix-owners
+array-share-prefix-owners c = board (waiting (c .before .before)) .room
+
+slice-aggregate-second-vectors : tie.Need-slice-aggregate-second-vectors
+slice-aggregate-second-vectors c = sym (board (waiting (c .before .before .before)) .count)
+
 second-vectors-requires : tie.Need-second-vectors-requires
 second-vectors-requires c κs =
-    let f = c .before .before in
+    let f = c .before .before .before in
     let b = nets-bounds (waiting f) in
-    (b .0, b .1, omega (arith, few f))
+    (b .0, b .1, omega (arith, board (waiting f) .count, board (waiting f) .few), omega (arith, few f))
 
 no-room-requires : tie.Need-no-room-requires
 no-room-requires c κs = search needs
 
 module _ (c : tie.After-no-room) where
   abbrev counted : tie.Else2
-  counted = c .before .before .before .before .before
+  counted = c .before .before .before .before .before .before
 
   abbrev given : tie.Start
   given = start (waiting counted)
 
-  ten : has-high-bit (given .args .session .network) (given .args .answers .now) ≡ false
-  ten = sym (c .before .before .before .before .has-high-bit .ensures) ∙ c .before .before .before .if3 .left
+  ten : has-high-bit (length (held-owners (given .args .session))) (given .args .answers .now) ≡ false
+  ten = high-test (c .before .before .before .before .before) ∙ c .before .before .before .before .if3 .left
 
   front-size : c .before .before .second-vectors .result .count
       ≡ length (take (c .before .before .second-vectors .result .count)
@@ -173,11 +195,13 @@ module _ (c : tie.After-no-room) where
       sym (length-take-le (r .result .count) (r .result .words) (omega (arith, r .ensures .0, r .ensures .1)))
 
   vectors-size : c .before .before .second-vectors .result .count
-      ≡ length (second-vectors (given .args .session .network) (given .args .answers .now))
+      ≡ length (second-vectors (given .args .session .network) (held-owners (given .args .session))
+      (given .args .answers .now))
   vectors-size = front-size ∙ ap length (c .before .before .second-vectors .ensures .2)
 
   -- the test of row 12
-  room-test : no-room (length (second-vectors (given .args .session .network) (given .args .answers .now)))
+  room-test : no-room (length (second-vectors (given .args .session .network) (held-owners (given .args .session))
+      (given .args .answers .now)))
       (length (given .args .list .now)) ≡ c .no-room .result
   room-test = ap (λ (count : ℕ). no-room count (length (given .args .list .now))) (sym vectors-size) ∙ sym (c .no-room .ensures)
 
@@ -208,24 +232,30 @@ copy-words-requires c κs =
     let d = c .before .before in
     rw (d .before .before .before .second-vectors .ensures .2) (ltb-false _ _ (room-test (d .before) ∙ d .if4 .left))
 
+array-share-prefix-owners-2 : tie.Need-array-share-prefix-owners-2
+array-share-prefix-owners-2 c = board (waiting (counted (c .before .before .before .before .before .before))) .room
+
+slice-aggregate-answered : tie.Need-slice-aggregate-answered
+slice-aggregate-answered c =
+    sym (board (waiting (counted (c .before .before .before .before .before .before .before))) .count)
+
 answered-requires : tie.Need-answered-requires
 answered-requires c κs =
-    let r = c .before .before .before .before .before .before in
-    let b = nets-bounds (waiting (counted r)) in
-    (b .0, b .1, as-many (counted r), vectors-size r)
+    let r = c .before .before .before .before .before .before .before in
+    (board (waiting (counted r)) .admitted, as-many (counted r), vectors-size r)
 
 same-length : tie.Need-same-length
 same-length c = search needs
 
 returns-5 : tie.Need-returns-5
 returns-5 c =
-    let f = c .before .before .before in
+    let f = c .before .before .before .before in
     let d = f .before .before .before in
     let r = d .before in
     let a = given r .args in
     step-full (first-answer (a .session) (a .answers .now) (length (a .list .now)))
     (new-record (a .session) (a .answers .now)) (a .session) (c .answered .result)
-    (second-vectors (a .session .network) (a .answers .now)) (a .list .now) _
+    (second-vectors (a .session .network) (held-owners (a .session)) (a .answers .now)) (a .list .now) _
     (accepted (a .session) (a .answers .now) (length (a .list .now)) (waits (waiting (counted r))) (nine (counted r))
     (ten r) (room-test r ∙ d .if4 .left))
     (c .answered .ensures)
@@ -246,6 +276,8 @@ first-step-spec =
     has-high-bit-requires
     refused-requires-3
     returns-3
+    array-share-prefix-owners
+    slice-aggregate-second-vectors
     second-vectors-requires
     no-room-requires
     refused-requires-4
@@ -253,6 +285,8 @@ first-step-spec =
     array-share-prefix-vectors
     slice-aggregate-copy-words
     copy-words-requires
+    array-share-prefix-owners-2
+    slice-aggregate-answered
     answered-requires
     same-length
     returns-5)

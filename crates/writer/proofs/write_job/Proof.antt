@@ -40,18 +40,21 @@ module _ (net : Network) (k : ℕ) (vectors responses lent : List ℕ) where
   by-row-9 e f = by-own e ∙ rw f
 
   by-row-10 : set-admission net k vectors ≡ full tt → given responses && bad-response-count (length vectors) (length responses) ≡ false
-      → given responses && has-high-bit net responses ≡ true → write-answer net k vectors responses (length lent) ≡ refused 10
+      → given responses && has-high-bit (net .nets) responses ≡ true
+      → write-answer net k vectors responses (length lent) ≡ refused 10
   unfolding by-tests
   by-row-10 e f g = by-own e ∙ rw (f, g)
 
   by-row-12 : set-admission net k vectors ≡ full tt → given responses && bad-response-count (length vectors) (length responses) ≡ false
-      → given responses && has-high-bit net responses ≡ false → no-room (length (file-of net k vectors responses)) (length lent) ≡ true
+      → given responses && has-high-bit (net .nets) responses ≡ false
+      → no-room (length (file-of net k vectors responses)) (length lent) ≡ true
       → write-answer net k vectors responses (length lent) ≡ refused 12
   unfolding by-tests
   by-row-12 e f g h = by-own e ∙ rw (f, g, h)
 
   by-none : set-admission net k vectors ≡ full tt → given responses && bad-response-count (length vectors) (length responses) ≡ false
-      → given responses && has-high-bit net responses ≡ false → no-room (length (file-of net k vectors responses)) (length lent) ≡ false
+      → given responses && has-high-bit (net .nets) responses ≡ false
+      → no-room (length (file-of net k vectors responses)) (length lent) ≡ false
       → write-answer net k vectors responses (length lent) ≡ full (file-of net k vectors responses)
   unfolding by-tests
   by-none e f g h = by-own e ∙ rw (f, g, h)
@@ -123,7 +126,7 @@ same-count c = let a = c .before .before .before .before .before .before .before
     asked (a .responses .now) _ _ (c .before .bad-response-count .ensures) ∙ c .if1 .left
 
 has-high-bit-requires : tie.Need-has-high-bit-requires
-has-high-bit-requires c κs = set-of (c .before .before) .most
+has-high-bit-requires c κs = let s = set-of (c .before .before) in omega (arith, s .most)
 
 returns-3 : tie.Need-returns-3
 returns-3 c =
@@ -137,7 +140,7 @@ returns-3 c =
 -- nor row 10
 narrow : (c : tie.Else2) → given
     (c .before .before .before .before .before .before .before .before .before .before .args .responses .now)
-    && has-high-bit (c .before .before .before .before .before .before .before .before .before .before .args .net)
+    && has-high-bit (c .before .before .before .before .before .before .before .before .before .before .args .net .nets)
     (c .before .before .before .before .before .before .before .before .before .before .args .responses .now)
     ≡ false
 narrow c = let a = c .before .before .before .before .before .before .before .before .before .before .args in

@@ -1,4 +1,6 @@
-//! Random vectors and wiring states.
+//! Random vectors, lists of receivers and wiring states.
+
+use fontarelga::Board;
 
 /// A small generator (splitmix64).
 pub struct Generator(pub u64);
@@ -21,9 +23,15 @@ impl Generator {
         self.word() & self.word() & (u64::MAX >> (64 - n))
     }
 
-    /// A state of n nets and class k: drivers in groups of at most k; each receiver has its own driver's group,
-    /// another, or none.
-    pub fn state(&mut self, n: u64, k: u64) -> Vec<u64> {
+    /// The net of each of m receivers: one a net, and the others on any.
+    pub fn receivers(&mut self, n: u64, m: u64) -> Vec<u64> {
+        (0..m).map(|r| if r < n { r } else { self.below(n as usize) as u64 }).collect()
+    }
+
+    /// A state of class k: drivers in groups of at most k; each receiver has the group of its net's driver, another, or
+    /// none.
+    pub fn state(&mut self, board: &Board, k: u64) -> Vec<u64> {
+        let n = board.network().nets();
         let mut groups: Vec<u64> = Vec::new();
         for driver in 0..n {
             let place = self.below(2 * n as usize);
@@ -32,12 +40,13 @@ impl Generator {
                 _ => groups.push(1 << driver),
             }
         }
-        let own = |i: u64| groups.iter().copied().find(|group| group >> i & 1 == 1).expect("a group for each driver");
-        let reach = |i: u64, choice: usize| match choice {
+        let of =
+            |net: u64| groups.iter().copied().find(|group| group >> net & 1 == 1).expect("a group for each driver");
+        let reach = |r: usize, net: u64, choice: usize| match choice {
             0 => 0,
-            1 => groups[i as usize % groups.len()],
-            _ => own(i),
+            1 => groups[r % groups.len()],
+            _ => of(net),
         };
-        (0..n).map(|i| reach(i, self.below(10))).collect()
+        board.receivers().iter().enumerate().map(|(r, net)| reach(r, *net, self.below(10))).collect()
     }
 }

@@ -6,8 +6,8 @@ mod generator;
 mod plain;
 mod timing;
 
-use fontarelga::{raw, Job, Network, AND, OR};
-use fontarelga::{FINDING_WORDS, JOB_WORDS, MOST_FIRST_VECTORS, MOST_SECOND_VECTORS, RECORD_WORDS};
+use fontarelga::{raw, Board, Job, Network, AND, OR};
+use fontarelga::{FINDING_WORDS, JOB_WORDS, MOST_FIRST_VECTORS, MOST_RECEIVERS, MOST_SECOND_VECTORS, RECORD_WORDS};
 use generator::Generator;
 use plain::checker::{hash, pairs};
 use plain::session::{Record, REACHES};
@@ -25,7 +25,14 @@ fn walking(network: Network) -> Vec<u64> {
     plain::extra_vector(network).into_iter().chain(walking).collect()
 }
 
-/// A job's name, with what is not 48 nets, OR and soft level 1.
+/// A job's name, with what is not 48 nets, OR, soft level 1 and one receiver a net.
+fn named_on(job: &str, board: &Board) -> String {
+    let (nets, receivers) = (board.network().nets(), plain::receiver_count(board));
+    let receivers = if receivers == nets { String::new() } else { format!(", m = {receivers}") };
+    format!("{}{receivers}", named(job, board.network()))
+}
+
+/// The same for a job that takes no receivers.
 fn named(job: &str, network: Network) -> String {
     let gate = if network.gate() == OR { "" } else { ", AND" };
     let level = if network.level() == 1 { String::new() } else { format!(", level {}", network.level()) };
@@ -60,68 +67,75 @@ fn bench_check(network: Network, set: &str, vectors: &[u64], k: u64) {
     }
 }
 
-fn bench_diagnosis(network: Network, k: u64, g: &mut Generator) {
+fn bench_diagnosis(board: &Board, k: u64, g: &mut Generator) {
+    let network = board.network();
     let vectors = walking(network);
-    let state = g.state(N, k);
+    let state = g.state(board, k);
     let responses: Vec<u64> = vectors.iter().map(|vector| plain::read(network, &state, *vector)).collect();
-    let (mut ours, mut theirs) = ([7; N as usize], [7; N as usize]);
-    assert_eq!(raw::diagnose(network, k, &vectors, &responses, &mut ours), 0);
-    assert_eq!(plain::diagnosis::diagnose(network, k, &vectors, &responses, &mut theirs), 0);
-    assert_eq!((&ours[..], ours), (&state[..], theirs));
+    let (mut ours, mut theirs) = (vec![7; state.len()], vec![7; state.len()]);
+    assert_eq!(raw::diagnose(board, k, &vectors, &responses, &mut ours), 0);
+    assert_eq!(plain::diagnosis::diagnose(board, k, &vectors, &responses, &mut theirs), 0);
+    assert_eq!((&ours, &theirs), (&state, &state));
     let (vectors, responses) = (&vectors[..], &responses[..]);
     let mut call = || {
-        black_box(raw::diagnose(network, k, black_box(vectors), black_box(responses), black_box(&mut ours)));
+        black_box(raw::diagnose(board, k, black_box(vectors), black_box(responses), black_box(&mut ours)));
     };
     let mut call_plain = || {
         let lent = black_box(&mut theirs);
-        black_box(plain::diagnosis::diagnose(network, k, black_box(vectors), black_box(responses), lent));
+        black_box(plain::diagnosis::diagnose(board, k, black_box(vectors), black_box(responses), lent));
     };
-    let job = format!("{}, k = {k}, walking", named("diagnosis", network));
+    let job = format!("{}, k = {k}, walking", named_on("diagnosis", board));
     let name = if k == N { "plain" } else { "hash" };
     print_lines(&job, &mut call, &mut [(name, &mut call_plain)]);
 }
 
 /// The call *findings*, ours or the plain one.
-type Findings = fn(Network, &[u64], &mut [u64]) -> u64;
+type Findings = fn(&Board, &[u64], &mut [u64]) -> u64;
 
-/// The table of one state.
-fn table(call: Findings, network: Network, state: &[u64]) -> [u64; FINDING_WORDS * N as usize] {
-    let mut table = [0; FINDING_WORDS * N as usize];
-    assert_eq!(call(network, state, &mut table), 0);
+const OUR_FINDINGS: Findings = |board, state, table| raw::findings(board, state, table);
+
+/// The table of one state, with room for any.
+fn table(call: Findings, board: &Board, state: &[u64]) -> [u64; FINDING_WORDS * MOST_RECEIVERS] {
+    let mut table = [0; FINDING_WORDS * MOST_RECEIVERS];
+    assert_eq!(call(board, state, &mut table), 0);
     table
 }
 
-fn bench_findings(network: Network, g: &mut Generator) {
-    let states: Vec<Vec<u64>> = (0..STATES).map(|_| g.state(N, N)).collect();
+fn bench_findings(board: &Board, g: &mut Generator) {
+    let states: Vec<Vec<u64>> = (0..STATES).map(|_| g.state(board, N)).collect();
     for state in &states {
-        assert_eq!(table(raw::findings, network, state), table(plain::findings::findings, network, state));
+        assert_eq!(table(OUR_FINDINGS, board, state), table(plain::findings::findings, board, state));
     }
     let run_all = |call: Findings| {
         for state in &states {
-            black_box(table(call, network, black_box(state)));
+            black_box(table(call, board, black_box(state)));
         }
     };
     let mut call_plain = || run_all(plain::findings::findings);
-    let job = named("findings of 1,000 states", network);
-    print_lines(&job, &mut || run_all(raw::findings), &mut [("plain", &mut call_plain)]);
+    let job = named_on("findings of 1,000 states", board);
+    print_lines(&job, &mut || run_all(OUR_FINDINGS), &mut [("plain", &mut call_plain)]);
 }
 
 /// The three calls of a session, ours or the plain ones.
 struct Calls {
-    begin: fn(&mut Record, Network, &mut [u64]) -> u64,
+    begin: fn(&mut Record, &Board, &mut [u64]) -> u64,
     first: fn(&mut Record, &[u64], &mut [u64]) -> u64,
     second: fn(&mut Record, &[u64]) -> u64,
 }
 
-const OURS: Calls = Calls { begin: raw::begin, first: raw::first_answers, second: raw::second_answers };
+const OURS: Calls = Calls {
+    begin: |session, board, first| raw::begin(session, board, first),
+    first: raw::first_answers,
+    second: raw::second_answers,
+};
 const PLAIN: Calls = Calls {
     begin: plain::session::begin,
     first: plain::session::first_answers,
     second: plain::session::second_answers,
 };
 
-/// The answers that a board gives in both steps.
-struct Board {
+/// What a board of some state answers in both steps.
+struct Answers {
     first: Vec<u64>,
     second: Vec<u64>,
 }
@@ -131,42 +145,43 @@ fn lent() -> (Record, [u64; MOST_FIRST_VECTORS], [u64; MOST_SECOND_VECTORS]) {
     ([0; RECORD_WORDS], [0; MOST_FIRST_VECTORS], [0; MOST_SECOND_VECTORS])
 }
 
-fn board(network: Network, state: &[u64]) -> Board {
+fn answers(board: &Board, state: &[u64]) -> Answers {
     let (mut session, mut first, mut second) = lent();
-    let read = |vectors: &[u64]| -> Vec<u64> { vectors.iter().map(|v| plain::read(network, state, *v)).collect() };
-    assert_eq!(plain::session::begin(&mut session, network, &mut first), 0);
+    let reads = |vector: &u64| plain::read(board.network(), state, *vector);
+    let read = |vectors: &[u64]| -> Vec<u64> { vectors.iter().map(reads).collect() };
+    assert_eq!(plain::session::begin(&mut session, board, &mut first), 0);
     let first = read(&first);
     assert_eq!(plain::session::first_answers(&mut session, &first, &mut second), 0);
     let count = second.iter().rposition(|vector| *vector != 0).map_or(0, |last| last + 1);
-    Board { first, second: read(&second[..count]) }
+    Answers { first, second: read(&second[..count]) }
 }
 
 /// A whole session; gives its last record.
-fn run(calls: &Calls, network: Network, board: &Board) -> Record {
+fn run(calls: &Calls, board: &Board, answers: &Answers) -> Record {
     let (mut session, mut first, mut second) = lent();
-    let mut numbers = (calls.begin)(&mut session, network, &mut first);
-    numbers |= (calls.first)(&mut session, &board.first, &mut second);
+    let mut numbers = (calls.begin)(&mut session, board, &mut first);
+    numbers |= (calls.first)(&mut session, &answers.first, &mut second);
     if session[0] == 2 {
-        numbers |= (calls.second)(&mut session, &board.second);
+        numbers |= (calls.second)(&mut session, &answers.second);
     }
     assert_eq!(numbers, 0);
     session
 }
 
-fn bench_sessions(network: Network, g: &mut Generator) {
-    let states: Vec<Vec<u64>> = (0..SESSIONS).map(|_| g.state(N, N)).collect();
-    let boards: Vec<Board> = states.iter().map(|state| board(network, state)).collect();
-    for (board, state) in boards.iter().zip(&states) {
-        let record = run(&OURS, network, board);
-        assert_eq!(record, run(&PLAIN, network, board));
+fn bench_sessions(board: &Board, g: &mut Generator) {
+    let states: Vec<Vec<u64>> = (0..SESSIONS).map(|_| g.state(board, N)).collect();
+    let answered: Vec<Answers> = states.iter().map(|state| answers(board, state)).collect();
+    for (answers, state) in answered.iter().zip(&states) {
+        let record = run(&OURS, board, answers);
+        assert_eq!(record, run(&PLAIN, board, answers));
         assert_eq!(record[REACHES..][..state.len()], state[..]);
     }
     let run_all = |calls: &Calls| {
-        for board in &boards {
-            black_box(run(calls, network, black_box(board)));
+        for answers in &answered {
+            black_box(run(calls, board, black_box(answers)));
         }
     };
-    let job = named("1,000 sessions", network);
+    let job = named_on("1,000 sessions", board);
     print_lines(&job, &mut || run_all(&OURS), &mut [("plain", &mut || run_all(&PLAIN))]);
 }
 
@@ -201,18 +216,31 @@ fn bench_checks(network: Network, g: &mut Generator) {
     }
 }
 
-/// Every job of one gate and soft level. The same sets, for AND with every bit turned, and the same boards are drawn
-/// for each. The gate has no part in reading a file and in the findings, so these are measured once a level.
+/// The jobs of one gate and soft level. The same sets, for AND with every bit turned, and the same boards are drawn for
+/// each. The gate has no part in reading a file and in the findings, so these are measured once a level.
 fn bench_combination(gate: u64, level: u64) {
     let g = &mut Generator(2024);
     let [network, few] = [N, FEW].map(|nets| Network::new(nets).with_level(level).with_gate(gate));
+    let board = &Board::of(network);
     bench_checks(network, g);
     [1, 2, 3].iter().for_each(|k| bench_check(few, "walking", &walking(few), *k));
-    [1, 2, 3, N].iter().for_each(|k| bench_diagnosis(network, *k, g));
-    bench_sessions(network, g);
+    [1, 2, 3, N].iter().for_each(|k| bench_diagnosis(board, *k, g));
+    bench_sessions(board, g);
     if gate == OR {
         bench_reader(network, g);
-        bench_findings(network, g);
+        bench_findings(board, g);
+    }
+    bench_several_receivers(network, g);
+}
+
+/// The jobs that take receivers, with the most of them.
+fn bench_several_receivers(network: Network, g: &mut Generator) {
+    let receivers = g.receivers(N, MOST_RECEIVERS as u64);
+    let board = &Board::with(network, &receivers);
+    [3, N].iter().for_each(|k| bench_diagnosis(board, *k, g));
+    bench_sessions(board, g);
+    if network.gate() == OR {
+        bench_findings(board, g);
     }
 }
 

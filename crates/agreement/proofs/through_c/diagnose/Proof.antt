@@ -11,7 +11,9 @@ same-length : tie.Need-same-length
 same-length c = search needs
 
 returns : tie.Need-returns
-returns c = let done = c .before .before .fontarelga-diagnose in (done .ensures .0 ∙ sym (code-counted _ _ refl), done .ensures .1)
+returns c =
+    let done = c .before .before .fontarelga-diagnose in
+    (done .ensures .0 ∙ sym (code-counted _ _ refl), done .ensures .1)
 
 pub diagnose-spec : {M : Type 1} → statement M
 diagnose-spec = tie.close (tie.spec fontarelga-diagnose-requires same-length returns)

@@ -10,7 +10,9 @@ same-length : tie.Need-same-length
 same-length c = search needs
 
 returns : tie.Need-returns
-returns c = let done = c .before .before .fontarelga-findings in found-in-words _ _ _ _ _ (done .ensures .0) (done .ensures .1)
+returns c =
+    let done = c .before .before .fontarelga-findings in
+    found-in-words _ _ _ _ _ _ (done .ensures .0) (done .ensures .1)
 
 pub find-spec : {M : Type 1} → statement M
 find-spec = tie.close (tie.spec fontarelga-findings-requires same-length returns)

@@ -11,7 +11,9 @@ same-length : tie.Need-same-length
 same-length c = search needs
 
 returns : tie.Need-returns
-returns c = let done = c .before .before .fontarelga-respond in (done .ensures .0 ∙ sym (code-counted _ _ refl), done .ensures .1)
+returns c =
+    let done = c .before .before .fontarelga-respond in
+    (done .ensures .0 ∙ sym (code-counted _ _ refl), done .ensures .1)
 
 pub respond-spec : {M : Type 1} → statement M
 respond-spec = tie.close (tie.spec fontarelga-respond-requires same-length returns)

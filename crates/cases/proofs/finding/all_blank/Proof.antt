@@ -7,7 +7,7 @@ abbrev Inv-loop : tie.InvT-loop
 Inv-loop from table i₀ i = Unit
 
 abbrev μ-loop : tie.MeasureT-loop
-μ-loop from table i₀ i = 48 - i
+μ-loop from table i₀ i = 64 - i
 
 loop-holds : tie.Need-loop-holds Inv-loop μ-loop
 loop-holds c = search needs

@@ -24,8 +24,7 @@ returns c =
     let a = d .args in
     let r = c .before .sets-read in (
       search needs,
-      λ i l. r .ensures .sets (r .ensures .rule ∙ passed-search (a .net) (a .class) (a .vectors .now) (d .pre .2)) i
-          (omega (arith, l, d .pre .1, admitted d .most)),
+      λ i l. r .ensures .sets (r .ensures .rule ∙ passed-search (a .net) (a .class) (a .vectors .now) (d .pre .2)) i l,
     )
 
 pub class-reaches-spec : {M : Type 1} → statement M

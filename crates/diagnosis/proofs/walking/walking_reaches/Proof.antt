@@ -16,29 +16,26 @@ use Rattle.diagnosis.proofs.walking.walking_reaches.Tie as tie
 
 -- the reaches of the first i receivers are read
 abbrev Inv-loop : tie.InvT-loop
-Inv-loop net vectors answers n reaches₀ i₀ reaches i =
-    (n ≡ net .nets)
-    × (n ≤ 48)
-    × (i ≤ n)
-    × (length reaches ≡ 48)
+Inv-loop net vectors answers reaches₀ i₀ reaches i =
+    (i ≤ length answers)
+    × (length reaches ≡ 64)
     × ((z : ℕ) → z < i → OnlyAnswer net (net .nets) vectors (at answers z) (at reaches z))
 
 abbrev μ-loop : tie.MeasureT-loop
-μ-loop net vectors answers n reaches₀ i₀ reaches i = n - i
+μ-loop net vectors answers reaches₀ i₀ reaches i = length answers - i
 
 admitted : (c : tie.Start Inv-loop μ-loop) → AdmittedSet (c .args .net) (c .args .net .nets) (c .args .vectors .now)
 admitted c = admitted-set (c .args .net) (c .args .net .nets) (c .args .vectors .now) (c .pre .1 .0)
 
 loop-holds : tie.Need-loop-holds Inv-loop μ-loop
 loop-holds c =
-    let s = admitted (c .before .before) in
-    (search needs, omega (arith, s .most), search needs, length-replicate {A = ℕ} 48 0, λ z l. absurd (not-suc-le-zero l))
+    (search needs, length-replicate {A = ℕ} 64 0, λ z l. absurd (not-suc-le-zero l))
 
-mul-t9 : tie.Need-mul-t9 Inv-loop μ-loop
-mul-t9 c = omega arith
+mul-t6 : tie.Need-mul-t6 Inv-loop μ-loop
+mul-t6 c = omega arith
 
-shared-slice-read-t11 : tie.Need-shared-slice-read-t11 Inv-loop μ-loop
-shared-slice-read-t11 c = omega arith
+shared-slice-read-t10 : tie.Need-shared-slice-read-t10 Inv-loop μ-loop
+shared-slice-read-t10 c = omega arith
 
 walking-reach-requires : tie.Need-walking-reach-requires Inv-loop μ-loop
 walking-reach-requires c κs = let s = admitted (c .before .before .before .before .before) in (s .most, s .vectors-most)
@@ -60,14 +57,12 @@ loop-again c =
     let g = c .before .before .before in
     let a = g .before .before .before .args in
     let l = g .loop in
-    let room : l .i < length (l .reaches) = omega (arith, l .inv .3) in (
-      search needs,
-      omega (arith, l .inv .1),
+    let room : l .i < length (l .reaches) = omega (arith, l .inv .1) in (
       omega arith,
-      length-set (l .reaches) (l .i) _ ∙ l .inv .3,
+      length-set (l .reaches) (l .i) _ ∙ l .inv .1,
       λ z m. ⊎-elim
           (λ b. subst (λ (x : ℕ). OnlyAnswer (a .net) (a .net .nets) (a .vectors .now) (at (a .answers .now) z) x)
-          (sym (getD-set-other (l .reaches) (l .i) z _ 0 (λ q. omega arith))) (l .inv .4 z b))
+          (sym (getD-set-other (l .reaches) (l .i) z _ 0 (λ q. omega arith))) (l .inv .2 z b))
           (λ b. let q : z ≡ l .i = omega arith in
           rw q (subst (λ (x : ℕ). OnlyAnswer (a .net) (a .net .nets) (a .vectors .now) (at (a .answers .now) (l .i)) x)
           (sym (getD-set-same (l .reaches) (l .i) _ 0 room))
@@ -77,7 +72,7 @@ loop-again c =
     )
 
 returns : tie.Need-returns Inv-loop μ-loop
-returns c = (c .before .loop .inv .3, λ i l. c .before .loop .inv .4 i (omega arith))
+returns c = (c .before .loop .inv .1, λ i l. c .before .loop .inv .2 i (omega arith))
 
 pub walking-reaches-spec : {M : Type 1} → statement M
 walking-reaches-spec =
@@ -86,8 +81,8 @@ walking-reaches-spec =
     Inv-loop
     μ-loop
     loop-holds
-    mul-t9
-    shared-slice-read-t11
+    mul-t6
+    shared-slice-read-t10
     walking-reach-requires
     mul-reaches
     array-write-reaches

@@ -1,4 +1,5 @@
 use borrow.Author.Needs.{needs}
+use native.Mathlib.Omega.{arith}
 use mathlib.Core.Path.{_≡_, sym, _∙_}
 use mathlib.Core.Bool.{false}
 use Rattle.words.specs.Answers.{by-tests}
@@ -84,7 +85,9 @@ returns-5 c =
 has-high-bit-requires : tie.Need-has-high-bit-requires
 has-high-bit-requires c κs =
     let net = c .before .before .before .before .before .before .before .before .before .before .before .args .net in
-    nets-admitted net (decides-row-5 net .1 (row-5-passed (c .before .before .before .before .before .before .before .before))) .1
+    let n = nets-admitted net
+    (decides-row-5 net .1 (row-5-passed (c .before .before .before .before .before .before .before .before))) in
+    omega (arith, n .1)
 
 returns-6 : tie.Need-returns-6
 unfolding by-tests

@@ -15,8 +15,8 @@ use Rattle.network.proofs.refusals.not_a_state.Tie as tie
 returns : tie.Need-returns
 unfolding not-a-state
 returns c =
-    let a = c .before .before .before .args in
-    rw (ne-eqb (length (a .state .now)) (a .net .nets) (c .if1 .taken))
+    let a = c .before .before .args in
+    rw (ne-eqb (length (a .state .now)) (a .receivers) (c .if1 .taken))
 
 has-wrong-reach-requires : tie.Need-has-wrong-reach-requires
 has-wrong-reach-requires c κs = search needs
@@ -25,16 +25,16 @@ returns-2 : tie.Need-returns-2
 unfolding not-a-state
 returns-2 c =
     let s = c .before .before in
-    let a = s .before .before .before .args in
+    let a = s .before .before .args in
     let wrong : has-wrong-reach (a .net) (a .class) (a .state .now) ≡ true = sym (c .before .has-wrong-reach .ensures) ∙ c .if2 .taken in
-    rw (eq-eqb (length (a .state .now)) (a .net .nets) (s .if1 .left), wrong)
+    rw (eq-eqb (length (a .state .now)) (a .receivers) (s .if1 .left), wrong)
 
 has-conflict-requires : tie.Need-has-conflict-requires
 unfolding has-wrong-reach
 has-conflict-requires c κs = (
   search needs,
   λ i l.
-      let a = c .before .before .before .before .before .args in
+      let a = c .before .before .before .before .args in
       let wrong : ℕ → Bool = λ z. not
       (ltb (at (a .state .now) z) (2 ^ (a .net .nets))
       && few-drivers (a .net) (a .class) (at (a .state .now) z)) in
@@ -46,10 +46,10 @@ returns-3 : tie.Need-returns-3
 unfolding not-a-state
 returns-3 c =
     let s = c .before .before .before in
-    let a = s .before .before .before .args in
+    let a = s .before .before .args in
     let right : has-wrong-reach (a .net) (a .class) (a .state .now) ≡ false =
     sym (c .before .before .has-wrong-reach .ensures) ∙ c .before .if2 .left in
-    rw (eq-eqb (length (a .state .now)) (a .net .nets) (s .if1 .left), right) (c .has-conflict .ensures)
+    rw (eq-eqb (length (a .state .now)) (a .receivers) (s .if1 .left), right) (c .has-conflict .ensures)
 
 pub not-a-state-spec : {M : Type 1} → statement M
 not-a-state-spec =

@@ -1,5 +1,6 @@
 use borrow.Author.Needs.{needs}
 use Prim.Native.Nat.{ℕ}
+use native.Mathlib.Omega.{arith}
 use mathlib.Core.Path.{_≡_, sym, ap, _∙_}
 use mathlib.Core.Bool.{Bool, true, false, _&&_}
 use mathlib.Core.List.{List, [], _∷_}
@@ -17,7 +18,7 @@ module _ (net : Network) (k : ℕ) (vectors responses : List ℕ) (given : Bool)
   nine = given && bad-response-count (length vectors) (length responses)
 
   abbrev ten : Bool
-  ten = given && has-high-bit net responses
+  ten = given && has-high-bit (net .nets) responses
 
   by-set : (number : ℕ) → set-admission net k vectors ≡ refused number → refused number ≡ content-admission net k vectors responses given
   by-set number e = sym (set-refuses net k vectors ((9, nine) ∷ (10, ten) ∷ []) tt number e)
@@ -73,7 +74,7 @@ has-high-bit-requires c κs =
     let d = c .before .before in
     let a = d .before .before .before .before .before .args in
     let s = set-admitted (a .network) (a .class) (a .vectors .now) (admitted d) in
-    s .most
+    omega (arith, s .most)
 
 -- row 9 does not hold
 nine-fails : (c : tie.Else1) → let a = c .before .before .before .before .before .before .before .args in

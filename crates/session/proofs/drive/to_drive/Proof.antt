@@ -2,13 +2,14 @@ use borrow.Author.Needs.{needs}
 use mathlib.Core.Path.{_≡_, sym, ap, _∙_}
 use mathlib.Core.Bool.{true, false}
 use Prim.Native.Nat.{ℕ}
+use native.Mathlib.Omega.{arith}
 use lib.ListN.{length}
 use Rattle.network.proofs.Rows.{nets-admitted}
 use Rattle.steps.specs.FirstStep.{first-vectors}
 use Rattle.steps.proofs.StepOneWords.{first-size}
 use Rattle.session.specs.Record.{awaits-first, awaits-second}
 use Rattle.session.specs.Drive.{front, to-drive}
-use Rattle.session.proofs.Records.{awaits-first-is, awaits-second-network}
+use Rattle.session.proofs.Records.{HeldBoard, awaits-first-is, awaits-second-board}
 use Rattle.session.proofs.drive.to_drive.Statement.{statement}
 use Rattle.session.proofs.drive.to_drive.Tie as tie
 
@@ -45,12 +46,23 @@ returns c =
 awaits-second-requires : tie.Need-awaits-second-requires
 awaits-second-requires c κs = search needs
 
+-- the board that the record holds
+board : (c : tie.Then2) → let s = c .before .before .before .before .before .before .args .t1 in
+    HeldBoard (s .network) (s .receivers) (s .owners)
+board c = awaits-second-board (c .before .before .before .before .before .before .args .t1) (waits-second c)
+
+array-share-prefix-owners : tie.Need-array-share-prefix-owners
+array-share-prefix-owners c = board (c .before .before) .room
+
+slice-aggregate-second-count : tie.Need-slice-aggregate-second-count
+slice-aggregate-second-count c = sym (board (c .before .before .before) .count)
+
 second-count-requires : tie.Need-second-count-requires
 second-count-requires c κs =
-    let b = c .before .before .before .before in
+    let b = c .before .before .before .before .before .before in
     let s = b .before .before .before .before .before .before .args .t1 in
-    let nets = nets-admitted (s .network) (awaits-second-network s (waits-second b) .0) in
-    (nets .0, nets .1, search needs)
+    let nets = nets-admitted (s .network) (board b .admitted .0) in
+    (nets .0, nets .1, omega (arith, board b .count, board b .few), search needs)
 
 front-requires-2 : tie.Need-front-requires-2
 front-requires-2 c κs = search needs
@@ -59,7 +71,7 @@ returns-2 : tie.Need-returns-2
 unfolding to-drive
 returns-2 c =
     let k = c .before in
-    let b = k .before .before .before .before .before in
+    let b = k .before .before .before .before .before .before .before in
     let a = b .before .before .before .before .before .before .args in
     rw (waits-not-first (b .before .before), waits-second b)
     (c .front2 .ensures ∙ ap (λ (n : ℕ). front n (a .second .now)) (k .second-count .ensures))
@@ -82,6 +94,8 @@ to-drive-spec =
     front-requires
     returns
     awaits-second-requires
+    array-share-prefix-owners
+    slice-aggregate-second-count
     second-count-requires
     front-requires-2
     returns-2

@@ -1,8 +1,8 @@
 use borrow.Author.Needs.{needs}
 use Prim.Native.Nat.{ℕ}
 use mathlib.Core.List.{List}
-use lib.ListN.{replicate}
-use mathlib.Core.Path.{ap, _∙_}
+use lib.ListN.{length, replicate}
+use mathlib.Core.Path.{ap₂, _∙_}
 use Rattle.session.proofs.Padding.{padded}
 use Rattle.session.proofs.new_record.finished.Statement.{statement}
 use Rattle.session.proofs.new_record.finished.Tie as tie
@@ -13,11 +13,29 @@ slice-aggregate-copy-words c = search needs
 copy-words-requires : tie.Need-copy-words-requires
 copy-words-requires c κs = search needs
 
+slice-aggregate-copy-words-2 : tie.Need-slice-aggregate-copy-words-2
+slice-aggregate-copy-words-2 c = search needs
+
+copy-words-requires-2 : tie.Need-copy-words-requires-2
+copy-words-requires-2 c κs = search needs
+
 returns : tie.Need-returns
 returns c =
-    let a = c .before .before .before .before .args in
-    ap (λ (xs : List ℕ). record { step = 3; network = a .net; first = replicate 8 0; reaches = xs; spent = a .spent })
-    (c .before .copy-words .ensures ∙ padded 48 (a .state .now))
+    let a = c .before .before .before .before .before .before .before .before .args in
+    ap₂ (λ (os xs : List ℕ).
+    record {
+      step = 3;
+      network = a .net;
+      receivers = length (a .receivers .now);
+      owners = os;
+      first = replicate 8 0;
+      reaches = xs;
+      spent = a .spent;
+    })
+    (c .before .before .before .before .copy-words .ensures ∙ padded 64 (a .receivers .now))
+    (c .before .copy-words2 .ensures ∙ padded 64 (a .state .now))
 
 pub finished-spec : {M : Type 1} → statement M
-finished-spec = tie.close (tie.spec slice-aggregate-copy-words copy-words-requires returns)
+finished-spec =
+    tie.close (tie.spec slice-aggregate-copy-words copy-words-requires slice-aggregate-copy-words-2
+    copy-words-requires-2 returns)

@@ -4,8 +4,7 @@ use mathlib.Core.Path.{_≡_, sym, _∙_}
 use mathlib.Core.Bool.{false, true}
 use lib.Dec.{eqb}
 use lib.ListN.{length}
-use Rattle.network.specs.Rows.{network-refusal}
-use Rattle.session.specs.Record.{is-zeros, all-hold, awaits-first}
+use Rattle.session.specs.Record.{is-zeros, board-held, all-hold, awaits-first}
 use Rattle.session.proofs.Records.{zeros-by, and-true}
 use Rattle.session.proofs.record.awaits_first.Statement.{statement}
 use Rattle.session.proofs.record.awaits_first.Tie as tie
@@ -14,21 +13,25 @@ use Rattle.session.proofs.record.awaits_first.Tie as tie
 holds-step : (c : tie.Else1) → eqb (c .before .args .t1 .step) 1 ≡ true
 holds-step c = eq-eqb _ _ (c .if1 .left)
 
-holds-network : (c : tie.Else2) → eqb (network-refusal (c .before .before .before .before .args .t1 .network)) 0 ≡ true
-holds-network c = eq-eqb _ 0 (sym (c .before .network-refusal .ensures) ∙ c .if2 .left)
+module _ (c : tie.Else2) where
+  abbrev step-place : tie.Else1
+  step-place = c .before .before .before .before .before .before
+
+  holds-board : let a = step-place .before .args .t1 in board-held (a .network) (a .receivers) (a .owners) ≡ true
+  holds-board = sym (c .before .holds-board .ensures) ∙ not-false _ (c .if2 .left)
 
 returns : tie.Need-returns
 unfolding awaits-first all-hold
 returns c = rw (ne-eqb _ _ (c .if1 .taken))
 
-network-refusal-requires : tie.Need-network-refusal-requires
-network-refusal-requires c κs = search needs
+holds-board-requires : tie.Need-holds-board-requires
+holds-board-requires c κs = search needs
 
 returns-2 : tie.Need-returns-2
 unfolding awaits-first all-hold
 returns-2 c =
-    let a = c .before .before in
-    rw (holds-step (a .before), ne-eqb _ 0 (λ z. c .if2 .taken (c .before .network-refusal .ensures ∙ z)))
+    let s = c .before .before .before .before .before .before in
+    rw (holds-step s, sym (c .before .holds-board .ensures) ∙ not-true _ (c .if2 .taken))
 
 is-zeros-requires : tie.Need-is-zeros-requires
 is-zeros-requires c κs = search needs
@@ -37,10 +40,10 @@ returns-3 : tie.Need-returns-3
 unfolding awaits-first all-hold
 returns-3 c =
     let b = c .before .before .before .before .before in
-    let a = b .before .before .before .before .args .t1 in
+    let a = step-place b .before .args .t1 in
     let size : length (a .first) ≡ 8 = search needs in
     let held : is-zeros 8 (a .first) ≡ false = zeros-by _ (a .first) size (c .before .is-zeros .ensures) (not-true _ (c .if3 .taken)) in
-    rw (holds-step (b .before .before .before), holds-network b, held)
+    rw (holds-step (step-place b), holds-board b, held)
 
 is-zeros-requires-2 : tie.Need-is-zeros-requires-2
 is-zeros-requires-2 c κs = search needs
@@ -50,28 +53,28 @@ unfolding awaits-first all-hold
 returns-4 c =
     let z = c .before .before .before .before .before in
     let b = z .before .before .before .before .before in
-    let a = b .before .before .before .before .args .t1 in
+    let a = step-place b .before .args .t1 in
     let first-size : length (a .first) ≡ 8 = search needs in
     let first-zeros : is-zeros 8 (a .first) ≡ true =
     zeros-by _ (a .first) first-size (z .before .is-zeros .ensures) (not-false _ (z .if3 .left)) in
-    let size : length (a .reaches) ≡ 48 = search needs in
-    let held : is-zeros 48 (a .reaches) ≡ false =
+    let size : length (a .reaches) ≡ 64 = search needs in
+    let held : is-zeros 64 (a .reaches) ≡ false =
     zeros-by _ (a .reaches) size (c .before .is-zeros2 .ensures) (not-true _ (c .if4 .taken)) in
-    rw (holds-step (b .before .before .before), holds-network b, first-zeros, held)
+    rw (holds-step (step-place b), holds-board b, first-zeros, held)
 
 returns-5 : tie.Need-returns-5
 unfolding awaits-first all-hold
 returns-5 c =
     let z = c .before .before .before .before .before in
     let b = z .before .before .before .before .before in
-    let a = b .before .before .before .before .args .t1 in
+    let a = step-place b .before .args .t1 in
     let first-size : length (a .first) ≡ 8 = search needs in
     let first-zeros : is-zeros 8 (a .first) ≡ true =
     zeros-by _ (a .first) first-size (z .before .is-zeros .ensures) (not-false _ (z .if3 .left)) in
-    let size : length (a .reaches) ≡ 48 = search needs in
-    let zeros : is-zeros 48 (a .reaches) ≡ true =
+    let size : length (a .reaches) ≡ 64 = search needs in
+    let zeros : is-zeros 64 (a .reaches) ≡ true =
     zeros-by _ (a .reaches) size (c .before .is-zeros2 .ensures) (not-false _ (c .if4 .left)) in
-    rw (holds-step (b .before .before .before), holds-network b, first-zeros, zeros)
+    rw (holds-step (step-place b), holds-board b, first-zeros, zeros)
     (sym (and-true (eqb (a .spent) 0)))
 
 pub awaits-first-spec : {M : Type 1} → statement M
@@ -79,7 +82,7 @@ awaits-first-spec =
     tie.close
     (tie.spec
     returns
-    network-refusal-requires
+    holds-board-requires
     returns-2
     is-zeros-requires
     returns-3

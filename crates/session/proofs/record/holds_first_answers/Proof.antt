@@ -22,11 +22,11 @@ word-length-requires c κs = search needs
 
 short : (c : tie.After-word-length) → c .word-length .result ≤ 8
 short c =
-    let p = c .before .before .pre in
-    rw (c .word-length .ensures) (length-bounds (c .before .before .args .net) (p .0) (p .1) .1)
+    let p = c .before .before .before .pre in
+    rw (c .word-length .ensures) (length-bounds (c .before .before .before .args .net) (p .0) (p .1) .1)
 
-room : (c : tie.After-word-length) → c .word-length .result ≤ length (c .before .before .args .first .now)
-room c = omega (arith, short c, c .before .before .pre .2)
+room : (c : tie.After-word-length) → c .word-length .result ≤ length (c .before .before .before .args .first .now)
+room c = omega (arith, short c, c .before .before .before .pre .3)
 
 mul-is-zeros : tie.Need-mul-is-zeros
 mul-is-zeros c = let l = short c in search needs
@@ -45,17 +45,21 @@ is-zeros-requires c κs = search needs
 
 -- what the test of the words after the first answers tells
 zeros-told : (c : tie.After-is-zeros) {d : Bool} → c .is-zeros .result ≡ d
-    → let a = c .before .before .before .before .args in
+    → let a = c .before .before .before .before .before .args in
     is-zeros (8 - word-length (a .net)) (drop (word-length (a .net)) (a .first .now)) ≡ d
 zeros-told c e =
     let b = c .before .before in
-    let a = b .before .before .args in
-    zeros-after (a .first .now) (b .word-length .result) (word-length (a .net)) (b .before .before .pre .2)
+    let a = b .before .before .before .args in
+    zeros-after 8 (a .first .now) (b .word-length .result) (word-length (a .net)) (b .before .before .before .pre .3)
     (b .word-length .ensures) (c .is-zeros .ensures) e
 
 returns : tie.Need-returns
 unfolding all-hold
-returns c = rw (eq-eqb _ 8 (c .before .before .before .before .before .pre .2), zeros-told (c .before) (not-true _ (c .if1 .taken)))
+returns c =
+    rw (
+      eq-eqb _ 8 (c .before .before .before .before .before .before .pre .3),
+      zeros-told (c .before) (not-true _ (c .if1 .taken)),
+    )
 
 slice-aggregate-has-high-bit : tie.Need-slice-aggregate-has-high-bit
 slice-aggregate-has-high-bit c = sym (length-take-le _ _ (room (c .before .before .before .before)))
@@ -68,10 +72,10 @@ unfolding all-hold
 returns-2 c =
     let z = c .before .before .before in
     let b = z .before .before .before in
-    let a = b .before .before .args in
-    let high : has-high-bit (a .net) (take (word-length (a .net)) (a .first .now)) ≡ true =
+    let a = b .before .before .before .args in
+    let high : has-high-bit (length (a .receivers .now)) (take (word-length (a .net)) (a .first .now)) ≡ true =
     rw (← (b .word-length .ensures)) (sym (c .before .has-high-bit .ensures) ∙ c .if2 .taken) in
-    rw (eq-eqb _ 8 (b .before .before .pre .2), zeros-told (z .before) (not-false _ (z .if1 .left)), high)
+    rw (eq-eqb _ 8 (b .before .before .before .pre .3), zeros-told (z .before) (not-false _ (z .if1 .left)), high)
 
 second-count-requires : tie.Need-second-count-requires
 second-count-requires c κs = search needs
@@ -82,14 +86,19 @@ returns-3 c =
     let h = c .before in
     let z = h .before .before .before in
     let b = z .before .before .before in
-    let a = b .before .before .args in
+    let a = b .before .before .before .args in
     let held = take (word-length (a .net)) (a .first .now) in
-    let narrow : has-high-bit (a .net) held ≡ false =
+    let narrow : has-high-bit (length (a .receivers .now)) held ≡ false =
     rw (← (b .word-length .ensures)) (sym (h .before .has-high-bit .ensures) ∙ h .if2 .left) in
-    let number : eqb (c .second-count .result) 0 ≡ eqb (length (unclear (a .net) held)) 0 =
-    ap (λ (n : ℕ). eqb n 0) (c .second-count .ensures) ∙ second-empty (a .net) held in
-    rw (eq-eqb _ 8 (b .before .before .pre .2), zeros-told (z .before) (not-false _ (z .if1 .left)), narrow, number)
-    (sym (and-true (not (eqb (length (unclear (a .net) held)) 0))))
+    let number : eqb (c .second-count .result) 0 ≡ eqb (length (unclear (a .net) (a .receivers .now) held)) 0 =
+    ap (λ (n : ℕ). eqb n 0) (c .second-count .ensures) ∙ second-empty (a .net) (a .receivers .now) held in
+    rw (
+      eq-eqb _ 8 (b .before .before .before .pre .3),
+      zeros-told (z .before) (not-false _ (z .if1 .left)),
+      narrow,
+      number,
+    )
+    (sym (and-true (not (eqb (length (unclear (a .net) (a .receivers .now) held)) 0))))
 
 pub holds-first-answers-spec : {M : Type 1} → statement M
 holds-first-answers-spec =

@@ -18,26 +18,27 @@ word-length-requires c κs = search needs
 module _ (c : tie.After-word-length) where
   short : c .word-length .result ≤ 8
   short =
-      let p = c .before .before .pre in
-      rw (c .word-length .ensures) (length-bounds (c .before .before .args .net) (p .0) (p .1) .1)
+      let p = c .before .before .before .pre in
+      rw (c .word-length .ensures) (length-bounds (c .before .before .before .args .net) (p .0) (p .1) .1)
 
-  size : length (take (c .word-length .result) (c .before .before .args .first .now)) ≡ c .word-length .result
-  size = length-take-le _ _ (omega (arith, short, c .before .before .pre .2))
+  size : length (take (c .word-length .result) (c .before .before .before .args .first .now)) ≡ c .word-length .result
+  size = length-take-le _ _ (omega (arith, short, c .before .before .before .pre .3))
 
 slice-aggregate-second-vectors : tie.Need-slice-aggregate-second-vectors
 slice-aggregate-second-vectors c = sym (size (c .before))
 
 second-vectors-requires : tie.Need-second-vectors-requires
 second-vectors-requires c κs =
-    let p = c .before .before .before .pre in
-    (p .0, p .1, omega (arith, short (c .before), size (c .before)))
+    let p = c .before .before .before .before .pre in
+    (p .0, p .1, p .2, omega (arith, short (c .before), size (c .before)))
 
 returns : tie.Need-returns
 returns c =
     let v = c .second-vectors in
     let b = c .before .before in
-    let a = b .before .before .args in
-    let vectors : take (v .result .count) (v .result .words) ≡ second-vectors (a .net) (take (word-length (a .net)) (a .first .now)) =
+    let a = b .before .before .before .args in
+    let vectors : take (v .result .count) (v .result .words)
+    ≡ second-vectors (a .net) (a .receivers .now) (take (word-length (a .net)) (a .first .now)) =
     rw (← (b .word-length .ensures)) (v .ensures .2)
     in
     sym (length-front (v .result .count) (v .result .words) (omega (arith, v .ensures .0, v .ensures .1)) vectors)

@@ -10,28 +10,31 @@ use Rattle.steps.proofs.second.vectors_for_unclear.Statement.{statement
 use Rattle.steps.proofs.second.vectors_for_unclear.Tie as tie
 
 abbrev Inv-loop : tie.InvT-loop
-Inv-loop net words returned start vectors₀ count₀ i₀ vectors count i = (i ≤ length words) × Listed net words returned vectors count i
+Inv-loop net receivers words returned start vectors₀ count₀ i₀ vectors count i =
+    (i ≤ length words) × Listed net words returned receivers vectors count i
 
 abbrev μ-loop : tie.MeasureT-loop
-μ-loop net words returned start vectors₀ count₀ i₀ vectors count i = length words - i
+μ-loop net receivers words returned start vectors₀ count₀ i₀ vectors count i = length words - i
 
 extra-alone-requires : tie.Need-extra-alone-requires Inv-loop μ-loop
 extra-alone-requires c κs = search needs
 
 loop-holds : tie.Need-loop-holds Inv-loop μ-loop
 loop-holds c =
-    let a = c .before .before .before .before .args in
-    let x = c .before .extra-alone .ensures in
-    (search needs, listed-start (a .net) (a .words .now) (a .returned .now) _ _ (x .0) (x .1) (x .2))
+    let a = c .before .before .before .before .before .args in
+    let x = c .before .extra-alone .ensures in (
+      search needs,
+      listed-start (a .net) (a .words .now) (a .returned .now) (a .receivers .now) _ _ (x .0) (x .1) (x .2),
+    )
 
-mul-only-at : tie.Need-mul-only-at Inv-loop μ-loop
-mul-only-at c = search needs
+mul-only-from : tie.Need-mul-only-from Inv-loop μ-loop
+mul-only-from c = search needs
 
-shared-slice-read-only-at : tie.Need-shared-slice-read-only-at Inv-loop μ-loop
-shared-slice-read-only-at c = search needs
+shared-slice-read-only-from : tie.Need-shared-slice-read-only-from Inv-loop μ-loop
+shared-slice-read-only-from c = search needs
 
-only-at-requires : tie.Need-only-at-requires Inv-loop μ-loop
-only-at-requires c κs = search needs
+only-from-requires : tie.Need-only-from-requires Inv-loop μ-loop
+only-from-requires c κs = search needs
 
 walking-vector-requires : tie.Need-walking-vector-requires Inv-loop μ-loop
 walking-vector-requires c κs = search needs
@@ -39,7 +42,7 @@ walking-vector-requires c κs = search needs
 count-below : (c : tie.After-walking-vector Inv-loop μ-loop) → c .before .before .before .before .before .loop .count < 49
 count-below c =
     let g = c .before .before .before .before .before in
-    let p = g .before .before .before .before .before .pre in
+    let p = g .before .before .before .before .before .before .pre in
     omega (arith, g .loop .inv .1 .few, p .0, p .2, c .before .before .before .before .loop-test .taken)
 
 mul-vectors : tie.Need-mul-vectors Inv-loop μ-loop
@@ -59,46 +62,47 @@ loop-less c = search needs
 
 loop-again : tie.Need-loop-again Inv-loop μ-loop
 loop-again c =
-    let q = c .before .only-at in
+    let q = c .before .only-from in
     let g = c .before .before .before .before in
-    let p = g .before .before .before .before .before .pre in
-    let a = g .before .before .before .before .before .args in
+    let p = g .before .before .before .before .before .before .pre in
+    let a = g .before .before .before .before .before .before .args in
     let l = g .loop in
     let inside : l .i < 48 = omega (arith, p .0, p .2, c .before .before .before .loop-test .taken) in (
       search needs,
       ⊎-elim
           (λ w. rw (w .2, w .3)
-          (listed-more (a .net) (a .words .now) (a .returned .now) (l .vectors) (l .count) (l .i) (l .inv .1) (w .1 .result .0) inside
+          (listed-more (a .net) (a .words .now) (a .returned .now) (a .receivers .now) (l .vectors) (l .count) (l .i)
+          (l .inv .1) (w .1 .result .0) inside
           (sym (q .ensures) ∙ not-true _ (w .0 .taken)) (w .1 .ensures)))
           (λ w. rw (w .1, w .2)
-          (listed-same (a .net) (a .words .now) (a .returned .now) (l .vectors) (l .count) (l .i) (l .inv .1)
-          (sym (q .ensures) ∙ not-false _ (w .0 .left))))
+          (listed-same (a .net) (a .words .now) (a .returned .now) (a .receivers .now) (l .vectors) (l .count) (l .i)
+          (l .inv .1) (sym (q .ensures) ∙ not-false _ (w .0 .left))))
           (c .if1 .came),
     )
 
 returns : tie.Need-returns Inv-loop μ-loop
 returns c =
     let g = c .before .before in
-    let p = g .before .before .before .before .before .pre in
-    let a = g .before .before .before .before .before .args in
+    let p = g .before .before .before .before .before .before .pre in
+    let a = g .before .before .before .before .before .before .args in
     λ answers e. (
       g .loop .inv .1 .size,
       search needs,
-      listed-none (a .net) (a .words .now) (a .returned .now) (g .loop .vectors) (g .loop .count) (g .loop .i)
-          (g .loop .inv .1) answers (p .1) e
+      listed-none (a .net) (a .words .now) (a .returned .now) (a .receivers .now) (g .loop .vectors) (g .loop .count)
+          (g .loop .i) (g .loop .inv .1) answers (p .1) e
           (omega (arith, g .loop .inv .0, p .2, c .before .loop-test .left)) (c .if2 .taken ∙ g .before .before .extra-alone .ensures .1),
     )
 
 returns-2 : tie.Need-returns-2 Inv-loop μ-loop
 returns-2 c =
     let g = c .before .before in
-    let p = g .before .before .before .before .before .pre in
-    let a = g .before .before .before .before .before .args in
+    let p = g .before .before .before .before .before .before .pre in
+    let a = g .before .before .before .before .before .before .args in
     λ answers e. (
       g .loop .inv .1 .size,
       omega (arith, g .loop .inv .0, g .loop .inv .1 .few, p .0, p .2),
-      listed-some (a .net) (a .words .now) (a .returned .now) (g .loop .vectors) (g .loop .count) (g .loop .i)
-          (g .loop .inv .1) answers (p .1) e
+      listed-some (a .net) (a .words .now) (a .returned .now) (a .receivers .now) (g .loop .vectors) (g .loop .count)
+          (g .loop .i) (g .loop .inv .1) answers (p .1) e
           (omega (arith, g .loop .inv .0, p .2, c .before .loop-test .left))
           (λ q. c .if2 .left (q ∙ sym (g .before .before .extra-alone .ensures .1))),
     )
@@ -111,9 +115,9 @@ vectors-for-unclear-spec =
     μ-loop
     extra-alone-requires
     loop-holds
-    mul-only-at
-    shared-slice-read-only-at
-    only-at-requires
+    mul-only-from
+    shared-slice-read-only-from
+    only-from-requires
     walking-vector-requires
     mul-vectors
     array-write-vectors

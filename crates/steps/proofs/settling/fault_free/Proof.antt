@@ -13,16 +13,24 @@ use Rattle.steps.proofs.settling.fault_free.Statement.{statement}
 use Rattle.steps.proofs.settling.fault_free.Tie as tie
 
 abbrev Inv-loop : tie.InvT-loop
-Inv-loop net reaches₀ i₀ reaches i = (i ≤ net .nets) × (length reaches ≡ 48) × ((z : ℕ) → z < i → at reaches z ≡ 2 ^ z)
+Inv-loop receivers reaches₀ r₀ reaches r = (r ≤ length receivers) × (length reaches ≡ 64)
+    × ((z : ℕ) → z < r → at reaches z ≡ 2 ^ at receivers z)
 
 abbrev μ-loop : tie.MeasureT-loop
-μ-loop net reaches₀ i₀ reaches i = net .nets - i
+μ-loop receivers reaches₀ r₀ reaches r = length receivers - r
 
 loop-holds : tie.Need-loop-holds Inv-loop μ-loop
 loop-holds c = (search needs, search needs, λ z l. absurd (not-suc-le-zero l))
 
+mul-bit-word : tie.Need-mul-bit-word Inv-loop μ-loop
+mul-bit-word c = search needs
+
+shared-slice-read-bit-word : tie.Need-shared-slice-read-bit-word Inv-loop μ-loop
+shared-slice-read-bit-word c = search needs
+
 bit-word-requires : tie.Need-bit-word-requires Inv-loop μ-loop
-bit-word-requires c κs = search needs
+bit-word-requires c κs = let g = c .before .before in
+    g .before .before .pre .1 (g .loop .r) (c .before .loop-test .taken)
 
 mul-reaches : tie.Need-mul-reaches Inv-loop μ-loop
 mul-reaches c = search needs
@@ -30,33 +38,38 @@ mul-reaches c = search needs
 array-write-reaches : tie.Need-array-write-reaches Inv-loop μ-loop
 array-write-reaches c = search needs
 
-add-i : tie.Need-add-i Inv-loop μ-loop
-add-i c = search needs
+add-r : tie.Need-add-r Inv-loop μ-loop
+add-r c = search needs
 
 loop-less : tie.Need-loop-less Inv-loop μ-loop
 loop-less c = search needs
 
 loop-again : tie.Need-loop-again Inv-loop μ-loop
 loop-again c =
-    let l = c .before .before .before .loop in
+    let g = c .before .before .before in
+    let l = g .loop in
+    let owners = g .before .before .args .receivers .now in
     let w = c .bit-word .result in
-    let room : l .i < length (l .reaches) = omega (arith, l .inv .1) in (
+    let room : l .r < length (l .reaches) =
+    omega (arith, l .inv .1, g .before .before .pre .0, c .before .before .loop-test .taken) in (
       search needs,
       search needs,
-      below-more (λ z. at (set (l .reaches) (l .i) w) z ≡ 2 ^ z) (l .i)
-          (λ z m. getD-set-other (l .reaches) (l .i) z w 0 (λ e. omega arith) ∙ l .inv .2 z m)
-          (getD-set-same (l .reaches) (l .i) w 0 room ∙ c .bit-word .ensures),
+      below-more (λ z. at (set (l .reaches) (l .r) w) z ≡ 2 ^ at owners z) (l .r)
+          (λ z m. getD-set-other (l .reaches) (l .r) z w 0 (λ e. omega arith) ∙ l .inv .2 z m)
+          (getD-set-same (l .reaches) (l .r) w 0 room ∙ c .bit-word .ensures),
     )
 
 returns : tie.Need-returns Inv-loop μ-loop
 returns c =
-    let l = c .before .before .loop in
-    let net = c .before .before .before .args .net in
-    let size : length (take (net .nets) (l .reaches)) ≡ net .nets = length-take-le (net .nets) (l .reaches) (omega (arith, l .inv .1)) in (
+    let l = c .before .loop in
+    let s = c .before .before .before in
+    let owners = s .args .receivers .now in
+    let size : length (take (length owners) (l .reaches)) ≡ length owners =
+    length-take-le (length owners) (l .reaches) (omega (arith, l .inv .1, s .pre .0)) in (
       l .inv .1,
-      ext-getD 0 (take (net .nets) (l .reaches)) (fault-free-state net) (size ∙ sym (fault-free-size net))
-          (λ i m. let k : i < net .nets = rw size at m in
-          getD-take (net .nets) (l .reaches) i 0 k ∙ l .inv .2 i (omega arith) ∙ sym (fault-free-at net i k)),
+      ext-getD 0 (take (length owners) (l .reaches)) (fault-free-state owners) (size ∙ sym (fault-free-size owners))
+          (λ r m. let k : r < length owners = rw size at m in
+          getD-take (length owners) (l .reaches) r 0 k ∙ l .inv .2 r (omega arith) ∙ sym (fault-free-at owners r k)),
     )
 
 pub fault-free-spec : {M : Type 1} → statement M
@@ -66,10 +79,12 @@ fault-free-spec =
     Inv-loop
     μ-loop
     loop-holds
+    mul-bit-word
+    shared-slice-read-bit-word
     bit-word-requires
     mul-reaches
     array-write-reaches
-    add-i
+    add-r
     loop-less
     loop-again
     returns)

@@ -58,8 +58,9 @@ settled x t rest i e = rw (e, has-zero i) (omega arith)
 -- each entry, with the bit that the rest still adds to it
 abbrev Inv-loop : tie.InvT-loop
 Inv-loop t columns₀ row rest₀ columns rest =
-    (rest < 2 ^ 48) × (length columns ≡ 48)
-    × ((i : ℕ) → i < 48 → at columns i + bit-value (has rest i) * 2 ^ t ≡ at columns₀ i + bit-value (has rest₀ i) * 2 ^ t)
+    (rest < 2 ^ 64) × (length columns ≡ 64)
+    × ((i : ℕ) → i < 64 → at columns i + bit-value (has rest i) * 2 ^ t
+    ≡ at columns₀ i + bit-value (has rest₀ i) * 2 ^ t)
 
 abbrev μ-loop : tie.MeasureT-loop
 μ-loop t columns₀ row rest₀ columns rest = rest
@@ -72,8 +73,8 @@ module _ (c : tie.After-lowest-net Inv-loop μ-loop) where
   net-in : has (c .before .before .loop .rest) (c .lowest-net .result) ≡ true
   net-in = ap (has (c .before .before .loop .rest)) (c .lowest-net .ensures) ∙ has-lowest-one 64 _ positive (omega arith)
 
-  net-inside : c .lowest-net .result < 48
-  net-inside = has-inside 48 _ _ (c .before .before .loop .inv .0) net-in
+  net-inside : c .lowest-net .result < 64
+  net-inside = has-inside 64 _ _ (c .before .before .loop .inv .0) net-in
 
   rest-next : bitAnd (c .before .before .loop .rest) (c .before .before .loop .rest - 1)
       ≡ c .before .before .loop .rest - 2 ^ c .lowest-net .result
@@ -102,7 +103,7 @@ add-columns c =
     let i = c .before .lowest-net .result in record {
       fits = entry-fits _ _ _ _ _ _ (l .inv .2 i (net-inside (c .before))) (net-in (c .before))
           (c .before .before .before .before .bit-word .ensures) (omega arith)
-          (c .before .before .before .before .before .pre .3 i (net-inside (c .before)));
+          (c .before .before .before .before .before .pre .2 i (net-inside (c .before)));
     }
 
 element-write-columns : tie.Need-element-write-columns Inv-loop μ-loop

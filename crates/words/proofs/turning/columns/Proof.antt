@@ -17,35 +17,25 @@ use Rattle.words.proofs.turning.columns.Statement.{statement}
 use Rattle.words.proofs.turning.columns.Tie as tie
 
 -- a word's bits below n
-masked-below : (w mask n : ℕ) → mask ≡ 2 ^ n → n ≤ 48 → bitAnd w (mask - 1) < 2 ^ 48
-masked-below w mask n e h =
-    let p : 2 ^ n ≤ 2 ^ 48 = pow-mono {i = n} {j = 48} h in
-    let m : bitAnd w (mask - 1) ≡ w % 2 ^ n = ap (λ (x : ℕ). bitAnd w (x - 1)) e ∙ and-mask w n in
-    let l = mod-lt w (pow-pos n) in
-    omega arith
-
-has-masked : (w mask n i : ℕ) → mask ≡ 2 ^ n → i < n → has (bitAnd w (mask - 1)) i ≡ has w i
+has-masked : (w mask n i : ℕ) → mask ≡ 2 ^ n - 1 → i < n → has (bitAnd w mask) i ≡ has w i
 has-masked w mask n i e l =
-    has-and w (mask - 1) i ∙ ap (λ (x : ℕ). has w i && has (x - 1) i) e ∙ ap (λ (b : Bool). has w i && b) (has-all n i l)
+    has-and w mask i ∙ ap (λ (x : ℕ). has w i && has x i) e ∙ ap (λ (b : Bool). has w i && b) (has-all n i l)
     ∙ and-true (has w i)
 
 abbrev Inv-loop : tie.InvT-loop
 Inv-loop words n inside columns₀ t₀ columns t =
-    (t ≤ length words) × (length columns ≡ 48)
-    × ((i : ℕ) → i < 48 → at columns i ≡ word (map (λ w. has (bitAnd w inside) i) (take t words)))
+    (t ≤ length words) × (length columns ≡ 64)
+    × ((i : ℕ) → i < 64 → at columns i ≡ word (map (λ w. has (bitAnd w inside) i) (take t words)))
 
 abbrev μ-loop : tie.MeasureT-loop
 μ-loop words n inside columns₀ t₀ columns t = length words - t
 
-bit-word-requires : tie.Need-bit-word-requires Inv-loop μ-loop
-bit-word-requires c κs = search needs
-
-sub-inside : tie.Need-sub-inside Inv-loop μ-loop
-sub-inside c = rw (c .bit-word .ensures) (pow-pos (c .before .before .args .n))
+low-ones-requires : tie.Need-low-ones-requires Inv-loop μ-loop
+low-ones-requires c κs = search needs
 
 loop-holds : tie.Need-loop-holds Inv-loop μ-loop
 unfolding word
-loop-holds c = (search needs, search needs, λ i l. getD-replicate 48 i 0 0 l)
+loop-holds c = (search needs, search needs, λ i l. getD-replicate 64 i 0 0 l)
 
 mul-word : tie.Need-mul-word Inv-loop μ-loop
 mul-word c = search needs
@@ -57,7 +47,6 @@ add-row-requires : tie.Need-add-row-requires Inv-loop μ-loop
 add-row-requires c κs =
     let l = c .before .before .before .loop in
     let a = c .before .before .before .before .before .before .args in (
-      masked-below (at (a .words .now) (l .t)) _ _ (c .before .before .before .before .bit-word .ensures) (omega arith),
       omega arith,
       l .inv .1,
       λ i m. rw (l .inv .2 i m) (word-small _ (a .words .now) (l .t) (omega arith)),
@@ -73,7 +62,7 @@ loop-again : tie.Need-loop-again Inv-loop μ-loop
 loop-again c =
     let l = c .before .before .before .before .loop in
     let a = c .before .before .before .before .before .before .before .args in
-    let mask = c .before .before .before .before .before .bit-word .result - 1 in (
+    let mask = c .before .before .before .before .before .low-ones .result in (
       search needs,
       c .add-row .ensures .0,
       λ i m. c .add-row .ensures .1 i m
@@ -86,7 +75,7 @@ unfolding column
 returns c =
     let l = c .before .loop in
     let a = c .before .before .before .before .args in
-    let e = c .before .before .bit-word .ensures in (
+    let e = c .before .before .low-ones .ensures in (
       l .inv .1,
       λ i m. l .inv .2 i (omega arith) ∙ word-whole _ (a .words .now) (l .t) (c .loop-test .left)
           ∙ made-equal _ (a .words .now) (λ w. has w i) (λ z k. has-masked _ _ _ i e m),
@@ -98,8 +87,7 @@ columns-spec =
     (tie.spec
     Inv-loop
     μ-loop
-    bit-word-requires
-    sub-inside
+    low-ones-requires
     loop-holds
     mul-word
     shared-slice-read-word

@@ -7,11 +7,21 @@ pub mod findings;
 pub mod job;
 pub mod session;
 
-use fontarelga::{Network, AND, OR};
+use fontarelga::{Board, Network, AND, OR};
 
-/// A bit at or above n in some word.
-pub fn has_high_bit(n: u64, words: &[u64]) -> bool {
-    words.iter().any(|word| word >> n != 0)
+/// The word of this many ones, 1 to 64.
+fn low_ones(bits: u64) -> u64 {
+    u64::MAX >> (64 - bits)
+}
+
+/// A bit at or above this many, 1 to 64, in some word.
+pub fn has_high_bit(bits: u64, words: &[u64]) -> bool {
+    words.iter().any(|word| word & !low_ones(bits) != 0)
+}
+
+/// m, the number of receivers.
+pub fn receiver_count(board: &Board) -> u64 {
+    board.receivers().len() as u64
 }
 
 /// Row 5.
@@ -20,6 +30,17 @@ fn admit_nets(network: Network) -> Result<(), u64> {
         Ok(())
     } else {
         Err(5)
+    }
+}
+
+/// Row 21, after row 5.
+fn admit_receivers(board: &Board) -> Result<(), u64> {
+    let (n, receivers) = (board.network().nets(), board.receivers());
+    let in_range = (n..=64).contains(&receiver_count(board)) && receivers.iter().all(|net| *net < n);
+    if in_range && receivers.iter().fold(0, |named, net| named | 1 << net) == low_ones(n) {
+        Ok(())
+    } else {
+        Err(21)
     }
 }
 
@@ -34,16 +55,29 @@ fn admit_level_and_gate(network: Network) -> Result<(), u64> {
     Ok(())
 }
 
-/// Rows 5, 17 and 20.
-pub fn admit_network(network: Network) -> Result<(), u64> {
-    admit_nets(network)?;
-    admit_level_and_gate(network)
+/// Rows 5, 21, 17 and 20.
+pub fn admit_board(board: &Board) -> Result<(), u64> {
+    admit_nets(board.network())?;
+    admit_receivers(board)?;
+    admit_level_and_gate(board.network())
 }
 
 /// Rows 5, 6, 17, 20, 7 and 8.
 pub fn admit_set(network: Network, k: u64, vectors: &[u64]) -> Result<(), u64> {
-    let n = network.nets();
     admit_nets(network)?;
+    admit_class_and_vectors(network, k, vectors)
+}
+
+/// Rows 5, 21, 6, 17, 20, 7 and 8.
+pub fn admit_set_on_board(board: &Board, k: u64, vectors: &[u64]) -> Result<(), u64> {
+    admit_nets(board.network())?;
+    admit_receivers(board)?;
+    admit_class_and_vectors(board.network(), k, vectors)
+}
+
+/// Rows 6, 17, 20, 7 and 8.
+fn admit_class_and_vectors(network: Network, k: u64, vectors: &[u64]) -> Result<(), u64> {
+    let n = network.nets();
     if !(1..=3).contains(&k) && k != n || k > n {
         return Err(6);
     }
@@ -57,12 +91,12 @@ pub fn admit_set(network: Network, k: u64, vectors: &[u64]) -> Result<(), u64> {
     Ok(())
 }
 
-/// Rows 9 and 10.
-pub fn admit_responses(n: u64, asked: usize, responses: &[u64]) -> Result<(), u64> {
+/// Rows 9 and 10, of m receivers.
+pub fn admit_responses(m: u64, asked: usize, responses: &[u64]) -> Result<(), u64> {
     if responses.len() != asked {
         return Err(9);
     }
-    if has_high_bit(n, responses) {
+    if has_high_bit(m, responses) {
         return Err(10);
     }
     Ok(())
@@ -73,15 +107,15 @@ pub fn code(answer: Result<(), u64>) -> u64 {
     answer.err().unwrap_or(0)
 }
 
-/// The sequential words of n nets along these parallel words.
-pub fn turned(n: u64, words: &[u64]) -> Vec<u64> {
+/// The words along these words, one for each of their lowest bits: from parallel words the sequential ones.
+pub fn turned(bits: u64, words: &[u64]) -> Vec<u64> {
     let along = |i: u64| words.iter().enumerate().map(|(t, word)| (word >> i & 1) << t).sum();
-    (0..n).map(along).collect()
+    (0..bits).map(along).collect()
 }
 
 /// All n drivers.
 pub fn all_drivers(network: Network) -> u64 {
-    u64::MAX >> (64 - network.nets())
+    low_ones(network.nets())
 }
 
 /// The vector that class n and step two want beside the walking ones: with OR vector 0 at soft level 1, with AND all
@@ -94,13 +128,32 @@ pub fn extra_vector(network: Network) -> Option<u64> {
     }
 }
 
-/// The bits of a word that have the value which prevails among drivers tied together: 1 with OR, 0 with AND. So the
-/// single driver of a walking vector, and the receivers that it reaches; and from a driver its walking vector.
-pub fn dominant(network: Network, word: u64) -> u64 {
-    match network.gate() {
+/// The lowest bits of a word that have the value which prevails among drivers tied together: 1 with OR, 0 with AND.
+fn prevailing(gate: u64, bits: u64, word: u64) -> u64 {
+    match gate {
         OR => word,
-        _ => !word & all_drivers(network),
+        _ => !word & low_ones(bits),
     }
+}
+
+/// The single driver of a walking vector, and from a driver its walking vector.
+pub fn dominant(network: Network, word: u64) -> u64 {
+    prevailing(network.gate(), network.nets(), word)
+}
+
+/// The receivers that the driver of a walking vector reaches, from their answer to it.
+pub fn reached(board: &Board, answer: u64) -> u64 {
+    prevailing(board.network().gate(), receiver_count(board), answer)
+}
+
+/// Puts the driver into the reach of each of these receivers.
+pub fn put_driver(state: &mut [u64], receivers: u64, driver: u64) {
+    state.iter_mut().enumerate().filter(|(r, _)| receivers >> r & 1 == 1).for_each(|(_, reach)| *reach |= driver);
+}
+
+/// Leaves the reach of each of these receivers empty.
+pub fn put_floating(state: &mut [u64], receivers: u64) {
+    state.iter_mut().enumerate().filter(|(r, _)| receivers >> r & 1 == 1).for_each(|(_, reach)| *reach = 0);
 }
 
 /// What the receivers of a state read on one vector.
