@@ -20,8 +20,7 @@ use Rattle.network.specs.Rows.{HasReceiver}
 use Rattle.network.specs.OwnReceivers.{own-receivers}
 use Rattle.network.proofs.OwnReceivers.{own-size, own-at}
 use Rattle.findings.specs.Findings.{net-of, Reaches, SameReach, OneReceiver, SomeReceiver, Joined, Partner}
-use Rattle.findings.specs.Findings.{Paired}
-use Rattle.findings.specs.Findings.{joins, joins-at, is-partner, partners}
+use Rattle.findings.specs.Findings.{Paired, joins, joins-at, is-partner, partners}
 
 -- ---- the test
 

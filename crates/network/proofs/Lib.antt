@@ -2,7 +2,7 @@ pub mod Reading
 pub mod Joint
 pub mod Walking
 pub mod States
-pub mod Owners
+pub mod Holders
 pub mod NamedNets
 pub mod Rows
 pub mod Respond

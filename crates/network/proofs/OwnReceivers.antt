@@ -1,12 +1,11 @@
 -- The list of own receivers, which row 21 lets through; and the call that fills it.
 use mathlib.Core.Path.{_≡_, refl, sym, _∙_}
-use mathlib.Core.List.{List, [], _∷_}
+use mathlib.Core.List.{List}
 use Prim.Native.Nat.{ℕ, _≤_, _<_}
-use native.Mathlib.Nat.{le-refl}
 use native.Mathlib.Omega.{arith}
 use lib.ListN.{length}
 use lib.Seq.{ext-getD}
-use Rattle.words.specs.Answers.{Answer, ByTable, NoneHolds}
+use Rattle.words.specs.Answers.{Answer, ByTable}
 use Rattle.words.specs.Bits.{at}
 use Rattle.words.proofs.Answers.{tests-by-table, table-determined}
 use Rattle.words.proofs.Columns.{length-tabulate, tabulate-at}
@@ -14,7 +13,7 @@ use Rattle.network.specs.declared.Network.{Network}
 use Rattle.network.specs.Reading.{network-of}
 use Rattle.network.specs.OwnReceivers.{own-receivers, OwnReceivers, OwnReceiversRows, own-receivers-tests}
 use Rattle.network.specs.OwnReceivers.{own-receivers-answer}
-use Rattle.network.proofs.Rows.{AdmittedReceivers, decides-row-5, decides-row-12, nets-admitted}
+use Rattle.network.proofs.Rows.{AdmittedReceivers, decides-row-5, decides-row-12}
 
 pub own-size : (nets : ℕ) → length (own-receivers nets) ≡ nets
 unfolding own-receivers

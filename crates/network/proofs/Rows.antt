@@ -17,11 +17,10 @@ use Rattle.words.proofs.Searching.{decides-any, decides-among}
 use Rattle.words.proofs.Answers.{let-through, first-refuses, first-passes, shared-refuse, shared-pass}
 use Rattle.network.specs.declared.Network.{Network}
 use Rattle.network.specs.Rows.{HasReceiver, Row21, bad-receivers, ClassRows, class-tests, BoardRows, board-tests}
-use Rattle.network.specs.Rows.{board-refusal}
-use Rattle.network.specs.Rows.{AdmittedBoard, BoardSetRows, board-set-tests, board-admission}
-use Rattle.network.specs.Rows.{NoBit, no-bit, Row5, Row6, Row17, Row20, Row7, HighBit, Row9, Row12, bad-net-count, bad-class, bad-level, bad-gate}
-use Rattle.network.specs.Rows.{bad-vector-count, has-high-bit, bad-response-count, no-room}
-use Rattle.network.specs.Rows.{AdmittedNetwork, SetRows, set-tests, set-admission}
+use Rattle.network.specs.Rows.{board-refusal, AdmittedBoard, BoardSetRows, board-set-tests, board-admission}
+use Rattle.network.specs.Rows.{NoBit, no-bit, Row5, Row6, Row17, Row20, Row7, HighBit, Row9, Row12, bad-net-count}
+use Rattle.network.specs.Rows.{bad-class, bad-level, bad-gate, bad-vector-count, has-high-bit, bad-response-count}
+use Rattle.network.specs.Rows.{no-room, SetRows, set-tests, set-admission}
 
 pub decides-row-5 : (net : Network) → Decides (bad-net-count net) (Row5 net)
 decides-row-5 net = decides-or (decides-less (net .nets) 2) (decides-less 48 (net .nets))
@@ -151,10 +150,7 @@ module _ (net : Network) (owners : List ℕ) where
         test-fails (decides-row-20 net) gate,
       )
 
-  -- the network and the receivers of a board that is admitted
-  pub network-of-board : AdmittedBoard net owners → AdmittedNetwork net
-  network-of-board (five, (_, (level, (gate, _)))) = (five, (level, (gate, tt)))
-
+  -- the receivers of a board that is admitted
   pub receivers-of-board : AdmittedBoard net owners → AdmittedReceivers net owners
   receivers-of-board (_, (receivers, _)) = receivers-admitted net owners receivers
 
@@ -211,10 +207,6 @@ admitted-class : (net : Network) (k : ℕ) → ¬ (Row6 net k) → (k ≡ 1) ⊎
 admitted-class net k h =
     let d = decides-class net k in
     ⊎-elim (d .0) (λ e. absurd (h (inl (d .1 e)))) (cases (eqb k 1 || (eqb k 2 || (eqb k 3 || eqb k (net .nets)))))
-
--- the network of a test set that is admitted
-pub network-of-set : (net : Network) (k : ℕ) (vectors : List ℕ) → NoneHolds (SetRows net k vectors) → AdmittedNetwork net
-network-of-set net k vectors (five, (_, (level, (gate, _)))) = (five, (level, (gate, tt)))
 
 pub admitted-set : (net : Network) (k : ℕ) (vectors : List ℕ) → NoneHolds (SetRows net k vectors) → AdmittedSet net k vectors
 admitted-set net k vectors (a, (b, (level, (gate, (c, (d, e)))))) =

@@ -176,24 +176,24 @@ fn has_wrong_reach(net: Network, class: u64, state: &[u64]) -> bool
 }
 
 // Two reaches that meet and differ. Reaches that do not are equal or disjoint, so each is known by its lowest driver:
-// `taken` has the drivers of the reaches so far, `owners` at a driver the reach whose lowest it is.
+// `taken` has the drivers of the reaches so far, `holders` at a driver the reach whose lowest it is.
 fn has_conflict(net: Network, state: &[u64]) -> bool
     requires { ⌜ net .nets ≤ 48 ⌝ }
     requires { ⌜ ((i : ℕ) → i < length (now state) → at (now state) i < 2 ^ (net .nets)) ⌝ }
     ensures { λ r. ⌜ r ≡ has-conflict net (now (state .entry)) ⌝ }
 {
-    let mut owners = [0u64; 48];
+    let mut holders = [0u64; 48];
     let mut taken: u64 = 0;
     let mut i: usize = 0;
     while i < state.len() {
         let reach = state[i];
         if reach & taken != 0 {
-            let owner = owners[words::sets::lowest_net(reach) as usize];
-            if owner != reach {
+            let holder = holders[words::sets::lowest_net(reach) as usize];
+            if holder != reach {
                 return true;
             }
         } else if reach != 0 {
-            owners[words::sets::lowest_net(reach) as usize] = reach;
+            holders[words::sets::lowest_net(reach) as usize] = reach;
         }
         taken |= reach;
         i += 1;

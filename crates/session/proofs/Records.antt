@@ -6,7 +6,7 @@ use mathlib.Core.List.{List, [], _∷_, _++_}
 use Prim.Native.Nat.{ℕ, zero, suc, _-_, _≤_, _<_}
 use native.Mathlib.Nat.{le-refl}
 use native.Mathlib.Omega.{arith}
-use lib.Dec.{eqb, leb}
+use lib.Dec.{eqb}
 use lib.ListN.{length, getD, take, length-drop, drop, replicate, length-replicate, getD-replicate, take-append-drop}
 use lib.Seq.{take-all, ext-getD, take-at, drop-at, length-take-le}
 use borrow.Author.Tests.{eqb-true, eqb-false, eq-eqb, ne-eqb, leb-true, le-leb, not-true, not-false}
@@ -22,8 +22,7 @@ use Rattle.steps.specs.SecondStep.{unclear}
 use Rattle.steps.proofs.StepOneWords.{length-bounds}
 use Rattle.session.specs.declared.Session.{Session}
 use Rattle.session.specs.Record.{board-held, first-answers-held, pad, awaiting-first, awaiting-second, is-zeros}
-use Rattle.session.specs.Record.{all-hold}
-use Rattle.session.specs.Record.{held-owners, held-answers, awaits-first, awaits-second}
+use Rattle.session.specs.Record.{all-hold, held-owners, held-answers, awaits-first, awaits-second}
 use Rattle.session.proofs.Padding.{pad-size}
 
 -- ---- words that are all 0

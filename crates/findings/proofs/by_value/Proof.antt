@@ -19,9 +19,8 @@ use ghost.Atoms.{Atoms, sem}
 use contract.Monad.{Fun}
 use contract.Running.{givenOf, tables, tablesOf}
 use types.Kit.{Given, Item, ‵, raw, given, some, later, _⊛_, _$_, _∵_, !, qed, by, move, keep, drop, use1, use2, use3}
-use types.Kit.{split}
-use types.Kit.{join, pick, learn, check, rewrite, fsplit, fjoin, fpick, fpack, feqL, feqI, ⋆, suffices, frame, await}
-use types.Kit.{done}
+use types.Kit.{split, join, pick, learn, check, rewrite, fsplit, fjoin, fpick, fpack, feqL, feqI, ⋆, suffices, frame}
+use types.Kit.{await, done}
 use types.Run.{look, init, forget, stop, from, load, lit, addr, of-opd, and-then, no-more, assigns, land, returns}
 use types.Run.{enter, alloc1, alloc0, params1, pass1, pass0, free1, free0}
 use types.Part.{agg, rep}

@@ -9,16 +9,17 @@ use lib.Bits.{bitAnd, bitOr}
 use lib.ListN.{length, set, length-set}
 use lib.Pow.{pow-mono}
 use Rattle.words.specs.Bits.{at}
-use Rattle.network.proofs.Owners.{Owned, lowest, lowest-inside, meets-not-zero, owned-none, owned-empty, owned-new}
-use Rattle.network.proofs.Owners.{owned-known, owned-conflict, owned-all}
+use Rattle.network.proofs.Holders.{Held, lowest, lowest-inside, meets-not-zero, held-none, held-empty, held-new}
+use Rattle.network.proofs.Holders.{held-known, held-conflict, held-all}
 use Rattle.network.proofs.refusals.has_conflict.Statement.{statement}
 use Rattle.network.proofs.refusals.has_conflict.Tie as tie
 
 abbrev Inv-loop : tie.InvT-loop
-Inv-loop state owners₀ taken₀ i₀ owners taken i = (i ≤ length state) × (length owners ≡ 48) × Owned state owners taken i
+Inv-loop state holders₀ taken₀ i₀ holders taken i =
+    (i ≤ length state) × (length holders ≡ 48) × Held state holders taken i
 
 abbrev μ-loop : tie.MeasureT-loop
-μ-loop state owners₀ taken₀ i₀ owners taken i = length state - i
+μ-loop state holders₀ taken₀ i₀ holders taken i = length state - i
 
 -- the receiver at hand
 module _ (c : tie.After-shared-slice-known2 Inv-loop μ-loop) where
@@ -31,8 +32,8 @@ module _ (c : tie.After-shared-slice-known2 Inv-loop μ-loop) where
   abbrev reach : ℕ
   reach = at state i
 
-  abbrev owners : List ℕ
-  owners = c .before .before .loop .owners
+  abbrev holders : List ℕ
+  holders = c .before .before .loop .holders
 
   abbrev taken : ℕ
   taken = c .before .before .loop .taken
@@ -41,23 +42,24 @@ module _ (c : tie.After-shared-slice-known2 Inv-loop μ-loop) where
   small a l = lt-of-lt-of-le (c .before .before .before .before .pre .1 a l) (pow-mono (c .before .before .before .before .pre .0))
 
   abbrev Next : List ℕ → Type 0
-  Next after = (length after ≡ 48) × Owned state after (bitOr taken reach) (i + 1)
+  Next after = (length after ≡ 48) × Held state after (bitOr taken reach) (i + 1)
 
-  known : (d : ℕ) → d ≡ lowest reach → bitAnd reach taken ≢ 0 → at owners d ≡ reach → Next owners
+  known : (d : ℕ) → d ≡ lowest reach → bitAnd reach taken ≢ 0 → at holders d ≡ reach → Next holders
   known d q n e = (
     c .before .before .loop .inv .1,
-    owned-known state owners taken i (c .before .before .loop .inv .2) small (c .before .loop-test .taken) n (ap (at owners) (sym q) ∙ e),
+    held-known state holders taken i (c .before .before .loop .inv .2) small (c .before .loop-test .taken) n
+        (ap (at holders) (sym q) ∙ e),
   )
 
-  new : (d : ℕ) → d ≡ lowest reach → bitAnd reach taken ≡ 0 → reach ≢ 0 → Next (set owners d reach)
+  new : (d : ℕ) → d ≡ lowest reach → bitAnd reach taken ≡ 0 → reach ≢ 0 → Next (set holders d reach)
   new d q none n = (
-    length-set owners d reach ∙ c .before .before .loop .inv .1,
-    rw q (owned-new state owners taken i (c .before .before .loop .inv .2) small (c .before .loop-test .taken)
+    length-set holders d reach ∙ c .before .before .loop .inv .1,
+    rw q (held-new state holders taken i (c .before .before .loop .inv .2) small (c .before .loop-test .taken)
         (c .before .before .loop .inv .1) none n),
   )
 
-  empty : reach ≡ 0 → Next owners
-  empty e = (c .before .before .loop .inv .1, owned-empty state owners taken i (c .before .before .loop .inv .2) e)
+  empty : reach ≡ 0 → Next holders
+  empty e = (c .before .before .loop .inv .1, held-empty state holders taken i (c .before .before .loop .inv .2) e)
 
   driver : (d : ℕ) → d ≡ lowest reach → reach ≢ 0 → d < 48
   driver d q n = rw q (lowest-inside reach (small i (c .before .loop-test .taken)) n)
@@ -66,7 +68,7 @@ module _ (c : tie.After-shared-slice-known2 Inv-loop μ-loop) where
   met n = meets-not-zero reach taken n (small i (c .before .loop-test .taken))
 
 loop-holds : tie.Need-loop-holds Inv-loop μ-loop
-loop-holds c = (search needs, refl, owned-none (c .before .args .state .now))
+loop-holds c = (search needs, refl, held-none (c .before .args .state .now))
 
 mul-reach : tie.Need-mul-reach Inv-loop μ-loop
 mul-reach c = search needs
@@ -77,28 +79,30 @@ shared-slice-read-reach c = search needs
 lowest-net-requires : tie.Need-lowest-net-requires Inv-loop μ-loop
 lowest-net-requires c κs = search needs
 
-array-read-owner : tie.Need-array-read-owner Inv-loop μ-loop
-array-read-owner c = driver (c .before .before) _ (c .lowest-net .ensures) (met (c .before .before) (c .before .if1 .taken))
+array-read-holder : tie.Need-array-read-holder Inv-loop μ-loop
+array-read-holder c = driver (c .before .before) _ (c .lowest-net .ensures)
+    (met (c .before .before) (c .before .if1 .taken))
 
-mul-owner : tie.Need-mul-owner Inv-loop μ-loop
-mul-owner c = omega (arith, array-read-owner c)
+mul-holder : tie.Need-mul-holder Inv-loop μ-loop
+mul-holder c = omega (arith, array-read-holder c)
 
 returns : tie.Need-returns Inv-loop μ-loop
 returns c =
     let g = c .before .before .before in
     let start = g .before .before .before .before in
-    sym (owned-conflict (state g) (owners g) (taken g) (i g) (g .before .before .loop .inv .2) (small g) (g .before .loop-test .taken)
+    sym (held-conflict (state g) (holders g) (taken g) (i g) (g .before .before .loop .inv .2) (small g)
+    (g .before .loop-test .taken)
     (start .args .net) (start .pre .1 (i g) (g .before .loop-test .taken)) (c .before .before .if1 .taken)
-    (λ e. c .if2 .taken (ap (at (owners g)) (c .before .lowest-net .ensures) ∙ e)))
+    (λ e. c .if2 .taken (ap (at (holders g)) (c .before .lowest-net .ensures) ∙ e)))
 
 lowest-net-requires-2 : tie.Need-lowest-net-requires-2 Inv-loop μ-loop
 lowest-net-requires-2 c κs = search needs
 
-array-write-owners : tie.Need-array-write-owners Inv-loop μ-loop
-array-write-owners c = driver (c .before .before .before) _ (c .lowest-net2 .ensures) (c .before .if3 .taken)
+array-write-holders : tie.Need-array-write-holders Inv-loop μ-loop
+array-write-holders c = driver (c .before .before .before) _ (c .lowest-net2 .ensures) (c .before .if3 .taken)
 
-mul-owners : tie.Need-mul-owners Inv-loop μ-loop
-mul-owners c = omega (arith, array-write-owners c)
+mul-holders : tie.Need-mul-holders Inv-loop μ-loop
+mul-holders c = omega (arith, array-write-holders c)
 
 add-i : tie.Need-add-i Inv-loop μ-loop
 add-i c = search needs
@@ -108,7 +112,7 @@ loop-less c = search needs
 
 loop-again : tie.Need-loop-again Inv-loop μ-loop
 loop-again c =
-    let next : Next (c .before) (c .if1 .owners) =
+    let next : Next (c .before) (c .if1 .holders) =
     ⊎-elim (λ w. subst (Next (c .before)) (sym (w .3)) (known (c .before) _ (w .1 .ensures) (w .0 .taken) (w .2 .left)))
     (⊎-elim (λ w. subst (Next (c .before)) (sym (w .3)) (new (c .before) _ (w .2 .ensures) (w .0 .left) (w .1 .taken)))
     (λ w. subst (Next (c .before)) (sym (w .2)) (empty (c .before) (w .1 .left)))) (c .if1 .came) in
@@ -118,7 +122,8 @@ returns-2 : tie.Need-returns-2 Inv-loop μ-loop
 returns-2 c =
     let g = c .before in
     let a = g .before .before .args in
-    sym (owned-all (a .state .now) (g .loop .owners) (g .loop .taken) (g .loop .i) (g .loop .inv .2) (a .net) (c .loop-test .left))
+    sym (held-all (a .state .now) (g .loop .holders) (g .loop .taken) (g .loop .i) (g .loop .inv .2) (a .net)
+    (c .loop-test .left))
 
 pub has-conflict-spec : {M : Type 1} → statement M
 has-conflict-spec =
@@ -130,12 +135,12 @@ has-conflict-spec =
     mul-reach
     shared-slice-read-reach
     lowest-net-requires
-    mul-owner
-    array-read-owner
+    mul-holder
+    array-read-holder
     returns
     lowest-net-requires-2
-    mul-owners
-    array-write-owners
+    mul-holders
+    array-write-holders
     add-i
     loop-less
     loop-again
