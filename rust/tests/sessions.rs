@@ -126,7 +126,7 @@ fn starting_records(net: Network) -> Vec<[u64; WORDS]> {
 fn every_list_of_4_calls_on_2_nets() {
     for net in each_combination(2) {
         let calls = [begins(net), firsts(net), seconds(right_seconds(net)), seconds(odd_seconds(net))].concat();
-        walk(calls, 4, &starting_records(net)[..1], &net);
+        walk(calls, 4, &starting_records(net)[..2], &net);
     }
 }
 

@@ -5,13 +5,14 @@ use Prim.Native.Nat.{ℕ}
 use lib.ListN.{length}
 use Rattle.words.specs.Answers.{Answer, full, lent-after}
 use Rattle.network.specs.declared.Network.{Network}
+use Rattle.findings.specs.declared.Finding.{Finding}
 use Rattle.session.specs.declared.Session.{Session}
 use Rattle.session.specs.declared.Stepped.{Stepped}
 use Rattle.session.specs.Calls.{stepped}
 use Rattle.demands.specs.SessionCalls.{Did}
 use Rattle.demands.specs.Programs.{our-sessions}
 use Rattle.demands.specs.SaidAlone.{SessionAlone, stepped-alone, with-own, stepped-own, awaiting-first-alone, begin-alone}
-use Rattle.demands.specs.SaidAlone.{CallAlone, begin, first, second, does-alone, own-call, all-did-alone, all-did, did-own, SaidAlone}
+use Rattle.demands.specs.SaidAlone.{CallAlone, begin, first, second, does-alone, own-call, all-did-alone, all-did, did-own, filled, SaidAlone}
 use Rattle.demands.proofs.SaidAloneCalls.{own-not-21, responds-alone, diagnoses-alone}
 use Rattle.demands.proofs.SaidAloneFindings.{finds-alone}
 use Rattle.demands.proofs.SaidAloneSessions.{begin-answers-alone, begins-alone, first-answers-alone, first-steps-alone}
@@ -73,9 +74,11 @@ all-from-begin session other net list words calls accepted =
 pub said-alone : SaidAlone
 said-alone = record {
   let-through = own-not-21;
-  responds = responds-alone;
-  diagnoses = diagnoses-alone;
-  finds = finds-alone;
+  responds = λ net k vectors state lent.
+      ap (λ (a : Answer (List ℕ)). filled a lent) (responds-alone net k vectors state (length lent));
+  diagnoses = λ net k vectors responses lent.
+      ap (λ (a : Answer (List ℕ)). filled a lent) (diagnoses-alone net k vectors responses (length lent));
+  finds = λ net state lent. ap (λ (a : Answer (List Finding)). filled a lent) (finds-alone net state (length lent));
   begin-answers = begin-answers-alone;
   begins = λ session net room. begins-alone net room session;
   first-answers = first-answers-alone;

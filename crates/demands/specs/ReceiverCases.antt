@@ -181,18 +181,25 @@ all-21 = replicate 4 (refused 21)
 abbrev pub all-taken : ℕ → List (Answer ℕ)
 all-taken m = full 3 ∷ full m ∷ full m ∷ full 2 ∷ []
 
--- a record that waits for first answers, with this number of receivers and this array of their nets
-abbrev pub holding : (receivers : ℕ) → (owners : List ℕ) → Session
-holding receivers owners =
+-- a record of two nets with this number of receivers and this array of their nets, in this step
+abbrev pub holding-at : (step : ℕ) → (first : List ℕ) → (receivers : ℕ) → (owners : List ℕ) → Session
+holding-at step first receivers owners =
     record {
-      step = 1;
+      step = step;
       network = two;
       receivers = receivers;
       owners = owners;
-      first = replicate 8 0;
+      first = first;
       reaches = replicate 64 0;
       spent = 0;
     }
+
+-- it waits for first answers; or for second ones, and all receivers answered 1 so far
+abbrev pub holding : (receivers : ℕ) → (owners : List ℕ) → Session
+holding = holding-at 1 (replicate 8 0)
+
+abbrev pub floating-since : (receivers : ℕ) → (owners : List ℕ) → Session
+floating-since receivers = holding-at 2 (replicate 2 (2 ^ receivers - 1) ++ replicate 6 0) receivers
 
 -- 65 vectors, each with bits at or above any n
 abbrev pub high-vectors : List ℕ
@@ -245,7 +252,13 @@ pub record RowTwentyOne : Type 0 where
   pub record-no-tail : first-answer (holding 2 (0 ∷ 1 ∷ replicate 62 0)) (1 ∷ 2 ∷ []) 0 ≡ full []
   pub record-tail : first-answer (holding 2 (0 ∷ 1 ∷ replicate 61 0 ++ 1 ∷ [])) (1 ∷ 2 ∷ []) 3 ≡ refused 4
   pub second-record-taken : second-answer (awaiting-second two on-0-1-0 (5 ∷ 6 ∷ [])) (4 ∷ 5 ∷ []) ≡ full []
-  pub second-record-on-net-n : second-answer (awaiting-second two (0 ∷ 1 ∷ 2 ∷ []) (5 ∷ 6 ∷ [])) (4 ∷ 5 ∷ []) ≡ refused 4
+  pub second-record-on-net-n : second-answer (awaiting-second two (0 ∷ 1 ∷ 2 ∷ []) (4 ∷ 6 ∷ [])) (4 ∷ 5 ∷ []) ≡ refused 4
+  pub second-record-none-on-net-1 : second-answer (awaiting-second two (0 ∷ 0 ∷ 0 ∷ []) (5 ∷ 6 ∷ [])) (4 ∷ 5 ∷ 6 ∷ [])
+      ≡ refused 4
+  pub second-record-64 : second-answer (floating-since 64 receivers-64) (replicate 3 (2 ^ 64 - 1)) ≡ full []
+  pub second-record-65 : second-answer (floating-since 65 receivers-64) (replicate 3 (2 ^ 64 - 1)) ≡ refused 4
+  pub second-record-no-tail : second-answer (floating-since 2 (0 ∷ 1 ∷ replicate 62 0)) (3 ∷ 3 ∷ 3 ∷ []) ≡ full []
+  pub second-record-tail : second-answer (floating-since 2 (0 ∷ 1 ∷ replicate 61 0 ++ 1 ∷ [])) (3 ∷ 3 ∷ 3 ∷ []) ≡ refused 4
   pub second-record-clear : second-answer (awaiting-second two on-0-1-0 (5 ∷ 2 ∷ [])) [] ≡ refused 4
   -- the call that fills the list of own receivers: rows 5 and 12
   pub own-1 : own-receivers-answer 1 0 ≡ refused 5

@@ -7,20 +7,20 @@ use mathlib.Core.Bool.{Bool, not, _&&_, _||_, cond}
 use mathlib.Core.List.{List, [], _∷_, _++_, map}
 use lib.Dec.{eqb}
 use lib.ListN.{length, take, drop, replicate}
-use Rattle.words.specs.Answers.{Answer, refused, full, by-tests, first-number, lent-after}
+use Rattle.words.specs.Answers.{Answer, refused, full, by-tests, first-number, lent-after, count-of, Filled}
 use Rattle.words.specs.Bits.{has, word, at}
 use Rattle.words.specs.Searching.{any, passing}
 use Rattle.words.specs.Turning.{tabulate, transpose}
 use Rattle.network.specs.declared.Network.{Network}
 use Rattle.network.specs.Reading.{meets, response}
 use Rattle.network.specs.Rows.{Row5, Row21, bad-net-count, bad-level, bad-gate, set-tests, bad-response-count, has-high-bit, no-room}
-use Rattle.network.specs.Respond.{response-answer, own-tests as state-tests}
+use Rattle.network.specs.Respond.{own-tests as state-tests}
 use Rattle.network.specs.OwnReceivers.{own-receivers}
 use Rattle.diagnosis.specs.ReadBack.{read-back, no-state-fits}
-use Rattle.diagnosis.specs.Diagnosis.{diagnosis-answer, own-tests as answers-tests}
+use Rattle.diagnosis.specs.Diagnosis.{own-tests as answers-tests}
 use Rattle.findings.specs.declared.Finding.{Finding}
 use Rattle.findings.specs.Findings.{kind}
-use Rattle.findings.specs.FindingsTable.{table-tests, findings-answer}
+use Rattle.findings.specs.FindingsTable.{table-tests}
 use Rattle.steps.specs.FirstStep.{word-length, sequential-words, first-vectors}
 use Rattle.steps.specs.SecondStep.{settling-vectors}
 use Rattle.session.specs.declared.Session.{Session}
@@ -29,7 +29,7 @@ use Rattle.session.specs.Record.{pad, is-zeros, all-hold}
 use Rattle.session.specs.Calls.{stepped, begin-answer, begun, first-answer, first-answered, second-answer, second-answered}
 use Rattle.session.specs.Drive.{front, to-drive}
 use Rattle.demands.specs.SessionCalls.{Call, begin as begin-with, first as first-with, second as second-with, Did}
-use Rattle.demands.specs.Programs.{our-sessions}
+use Rattle.demands.specs.Programs.{our-response, our-diagnosis, our-findings, our-sessions}
 
 -- ---- response from a state: rows 5, 6, 17, 20, 7, 8, 11 and 12; a state has n reaches
 
@@ -298,15 +298,22 @@ did-own did = record { answer = did .answer; list = did .list; session = with-ow
 
 -- ---- the theorem, for every input, refused or not
 
+-- what a call with this answer returns, and the list lent to it after it
+abbrev pub filled : {A : Type 0} → Answer (List A) → (lent : List A) → Filled A
+filled answer lent = record { returned = count-of answer; list = lent-after answer lent }
+
 pub record SaidAlone : Type 0 where
   -- row 21 never holds of own receivers where row 5 does not
   pub let-through : (net : Network) → ¬ (Row5 net) → ¬ (Row21 net (own-receivers (net .nets)))
-  pub responds : (net : Network) (k : ℕ) (vectors state : List ℕ) (room : ℕ)
-      → response-answer net (own-receivers (net .nets)) k vectors state room ≡ response-alone net k vectors state room
-  pub diagnoses : (net : Network) (k : ℕ) (vectors responses : List ℕ) (room : ℕ)
-      → diagnosis-answer net (own-receivers (net .nets)) k vectors responses room ≡ diagnosis-alone net k vectors responses room
-  pub finds : (net : Network) (state : List ℕ) (room : ℕ)
-      → findings-answer net (own-receivers (net .nets)) state room ≡ findings-alone net state room
+  -- what each of these returns, and the list or table lent after it
+  pub responds : (net : Network) (k : ℕ) (vectors state lent : List ℕ)
+      → our-response net (own-receivers (net .nets)) k vectors state lent
+      ≡ filled (response-alone net k vectors state (length lent)) lent
+  pub diagnoses : (net : Network) (k : ℕ) (vectors responses lent : List ℕ)
+      → our-diagnosis net (own-receivers (net .nets)) k vectors responses lent
+      ≡ filled (diagnosis-alone net k vectors responses (length lent)) lent
+  pub finds : (net : Network) (state : List ℕ) (lent : List Finding)
+      → our-findings net (own-receivers (net .nets)) state lent ≡ filled (findings-alone net state (length lent)) lent
   -- begin on any record: the answer with the words written, and the record after it
   pub begin-answers : (net : Network) (room : ℕ) → begin-answer net (own-receivers (net .nets)) room ≡ begin-alone net room
   pub begins : (session : Session) (net : Network) (room : ℕ)

@@ -50,7 +50,7 @@ Uncovered net vectors = NoneCovers (transpose (net .nets) vectors)
 
 -- ---- sets for k = n
 
--- with these vectors, whatever the response, at most one state of class n fits
+-- with these vectors and one receiver a net, whatever the response, at most one state of class n fits
 abbrev pub Separates : Network → List ℕ → Type 0
 Separates net vectors = AtMostOneFits net (net .nets) (net .nets) vectors
 

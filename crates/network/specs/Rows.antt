@@ -120,7 +120,7 @@ board-refusal net owners = first-number (board-tests net owners)
 abbrev pub AdmittedBoard : Network → List ℕ → Type 0
 AdmittedBoard net owners = NoneHolds (BoardRows net owners)
 
--- and a network that those of them let through which ask for no receivers
+-- a network that they let through, whatever its receivers: rows 5, 17 and 20
 abbrev pub AdmittedNetwork : Network → Type 0
 AdmittedNetwork net = NoneHolds ((5, Row5 net) ∷ (17, Row17 net) ∷ (20, Row20 net) ∷ [])
 

@@ -16,44 +16,30 @@ use Rattle.session.specs.declared.Session.{Session}
 abbrev pub pad : ℕ → List ℕ → List ℕ
 pad size words = words ++ replicate (size - length words) 0
 
--- begun: it waits for first answers; `owners` has the net of each receiver, and stays until a session begins anew
-abbrev pub awaiting-first : Network → (owners : List ℕ) → Session
-awaiting-first net owners =
+-- a record with these words and 0 in the unused entries; `owners` has the net of each receiver
+abbrev pub record-of : (step : ℕ) → Network → (owners first reaches : List ℕ) → (spent : ℕ) → Session
+record-of step net owners first reaches spent =
     record {
-      step = 1;
+      step = step;
       network = net;
       receivers = length owners;
       owners = pad 64 owners;
-      first = pad 8 [];
-      reaches = pad 64 [];
-      spent = 0;
+      first = pad 8 first;
+      reaches = pad 64 reaches;
+      spent = spent;
     }
+
+-- begun: it waits for first answers; the receivers stay until a session begins anew
+abbrev pub awaiting-first : Network → (owners : List ℕ) → Session
+awaiting-first net owners = record-of 1 net owners [] [] 0
 
 -- these first answers received, and nets unclear: it waits for second answers
 abbrev pub awaiting-second : Network → (owners answers : List ℕ) → Session
-awaiting-second net owners answers =
-    record {
-      step = 2;
-      network = net;
-      receivers = length owners;
-      owners = pad 64 owners;
-      first = pad 8 answers;
-      reaches = pad 64 [];
-      spent = 0;
-    }
+awaiting-second net owners answers = record-of 2 net owners answers [] 0
 
 -- finished: the reaches and the number of vectors spent
 abbrev pub finished : Network → (owners state : List ℕ) → ℕ → Session
-finished net owners state spent =
-    record {
-      step = 3;
-      network = net;
-      receivers = length owners;
-      owners = pad 64 owners;
-      first = pad 8 [];
-      reaches = pad 64 state;
-      spent = spent;
-    }
+finished net owners state spent = record-of 3 net owners [] state spent
 
 -- ---- told by tests
 

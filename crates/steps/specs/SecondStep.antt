@@ -14,7 +14,7 @@ use Rattle.network.specs.Reading.{walking-vector, extra-vectors}
 use Rattle.steps.specs.FirstStep.{sequential-words, first-vectors}
 
 -- the receivers of net i, all of them and no other, returned this word; `words` is what the receivers returned,
--- `owners` has the net of each. Against it is one of the net that did not return it, and another that did
+-- `owners` has the net of each: no receiver of net i failed to return it, and no other returned it
 unfoldable pub only-from : ℕ → (words owners : List ℕ) → ℕ → Bool
 only-from word words owners i =
     not (any (length owners) (λ r. let returned = eqb (at words r) word in
