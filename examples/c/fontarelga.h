@@ -15,7 +15,7 @@
  * - that what a call writes overlaps nothing else that it is given.
  *
  * A call allocates nothing: what it needs it takes from the stack. Check and diagnosis take up to 260,000 bytes of it
- * for a class below nets; all else takes up to 10,000. So check and diagnosis run on a thread with a stack of at least
+ * for a class below nets; all else takes up to 11,000. So check and diagnosis run on a thread with a stack of at least
  * FONTARELGA_CHECK_STACK_BYTES (320 KB), all else with FONTARELGA_OTHER_STACK_BYTES (32 KB); either leaves at least
  * 20 KB to the thread itself, and one that needs more adds it. By default a thread has 8 MB on Linux with glibc, but
  * 128 KB with musl. A program whose threads have less makes the call on a thread to which it gives as much, with
@@ -23,7 +23,8 @@
  *
  * nets is n, 2 to 48. level is the soft level, 0 or 1: what a receiver reads that no driver reaches. gate is
  * FONTARELGA_GATE_OR or FONTARELGA_GATE_AND. receivers has the net of each receiver, n to 64 of them, at least one on
- * each net; its length is m, and an empty list is refused like any other that is too short. class_ is k: 1, 2, 3 or n.
+ * each net; its length is m, and an empty list is refused with 21 as any other that is too short. class_ is k: 1, 2, 3
+ * or n.
  * Bit i of a word stands for net i, and in responses and answers for receiver i. */
 
 #ifndef FONTARELGA_H
@@ -114,7 +115,8 @@ uint64_t fontarelga_findings(uint64_t nets, uint64_t level, uint64_t gate, const
 #define FONTARELGA_MOST_FIRST_VECTORS 8
 #define FONTARELGA_MOST_SECOND_VECTORS 49
 
-/* Starts the record anew, and writes the vectors of step one. Rows 5, 21, 17, 20, 12. */
+/* Starts the record anew, and writes the vectors of step one. The receivers are not the session's own words: copy
+ * these to begin anew on the same board. Rows 5, 21, 17, 20, 12. */
 uint64_t fontarelga_begin(uint64_t session[FONTARELGA_SESSION_WORDS], uint64_t nets, uint64_t level, uint64_t gate,
                           const uint64_t *receivers, size_t receivers_len, uint64_t *first, size_t first_len);
 
@@ -131,7 +133,8 @@ uint64_t fontarelga_second_answers(uint64_t session[FONTARELGA_SESSION_WORDS], c
 uint64_t fontarelga_to_drive(const uint64_t session[FONTARELGA_SESSION_WORDS], const uint64_t *first,
                              size_t first_len, const uint64_t *second, size_t second_len);
 
-/* A job: nets, level, gate, class, number of vectors, number of responses. */
+/* A job: nets, level, gate, class, number of vectors, number of responses. It is of one receiver a net, receiver i on
+ * net i, so row 10 goes by nets; for the calls above fontarelga_own_receivers fills their list. */
 #define FONTARELGA_JOB_WORDS 6
 #define FONTARELGA_JOB_NETS 0
 #define FONTARELGA_JOB_LEVEL 1

@@ -3,7 +3,7 @@ use crate::network::Network;
 use crate::refusal::Refusal;
 use crate::sizes::{JOB_WORDS, MOST_FILE_BYTES, MOST_VECTORS};
 
-/// What a job file holds. No responses is an empty list.
+/// What a job file holds: a job of one receiver a net, receiver i on net i. No responses is an empty list.
 #[derive(Clone, Debug, PartialEq, Eq, Hash)]
 pub struct Job {
     pub network: Network,

@@ -1,5 +1,6 @@
-//! Two and three nets, of each gate and soft level: every test set of a few vectors, every class, every state and every
-//! response, with one receiver a net and with every list of a few more.
+//! Two and three nets, of each gate and soft level: with one receiver a net every test set of a few vectors, every
+//! class, every state and every response; two nets with every list of two to four receivers and three nets with every
+//! list of four, over fewer sets.
 
 mod support;
 

@@ -272,7 +272,7 @@ pub record RowTwentyOne : Type 0 where
 -- m = 64: words have 64 bits, and none is too high; at m = 63 bit 63 is.
 pub record SixtyFour : Type 0 where
   pub none-too-high : (words : List ℕ) → ((t : ℕ) → t < length words → at words t < 2 ^ 64) → ¬ (HighBit 64 words)
-  -- row 10 in the three calls that have it: every word of 64 bits; bit 63 at m = 63; and all bits below it
+  -- row 10 in the three calls that have it by m: every word of 64 bits; bit 63 at m = 63; and all bits below it
   pub diagnose-64 : diagnose receivers-64 (replicate 3 (2 ^ 64 - 1)) ≡ full (replicate 64 0)
   pub diagnose-63 : diagnose receivers-63 (0 ∷ 0 ∷ 2 ^ 63 ∷ []) ≡ refused 10
   pub diagnose-below : diagnose receivers-63 (replicate 3 (2 ^ 63 - 1)) ≡ full (replicate 63 0)

@@ -1,6 +1,7 @@
 -- Document 02 of receivers: "Said alone, m = n means receiver i on net i; then every earlier answer must come out as
--- before". Here are the answers of one receiver a net, in words of their own: no call takes receivers, row 21 is not
--- there, and the session's record keeps none. The theorem stands in the record `SaidAlone`, at the end.
+-- before". Here are the answers of one receiver a net: no call takes receivers, row 21 is not there, and the session's
+-- record keeps none. What asks which net a receiver is on is said anew, and what takes m alone is taken at m = n. The
+-- theorem stands in the record `SaidAlone`, at the end.
 use Prim.Native.Nat.{ℕ, _-_, _^_}
 use mathlib.Core.Path.{_≡_}
 use mathlib.Core.Bool.{Bool, not, _&&_, _||_, cond}

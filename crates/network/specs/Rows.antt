@@ -1,4 +1,4 @@
--- The refusal rows that calls share: each as document 01's table says it, and as a test.
+-- The refusal rows that calls share: each as the table of documents 01 and 02 says it, and as a test.
 use Prim.Native.Nat.{ℕ, _^_, _<_, _≤_}
 use mathlib.Core.Path.{_≡_}
 use mathlib.Core.Logic.{_⊎_, _≢_}

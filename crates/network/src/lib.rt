@@ -1,4 +1,5 @@
-// A network of nets, what its receivers read, and the call that works out a response from a wiring state.
+// A network of nets, what its receivers read, and the calls that list own receivers and work out the response of a
+// wiring state.
 ghost use mathlib.Core.Path.{_≡_};
 ghost use lib.ListN.{length};
 ghost use Rattle.words.specs.Answers.{«count-of», «lent-after»};
@@ -18,7 +19,7 @@ pub struct Network {
     pub gate: u64,
 }
 
-// What the rows of a network, a class and a test set say.
+// What the rows of a network, its receivers if the call takes them, a class and a test set say.
 pub enum Admission {
     Admitted,
     Refused(u64),

@@ -109,7 +109,7 @@ pub fn board_refusal(net: Network, receivers: &[u64]) -> u64
     0
 }
 
-// Rows 5, 6, 17, 20, 7 and 8, with which every call on a test set begins.
+// Rows 5, 6, 17, 20, 7 and 8, with which a call on a test set begins that takes no receivers.
 pub fn admit_set(net: Network, class: u64, vectors: &[u64]) -> Admission
     ensures { λ r. ⌜ admission r ≡ set-admission net class (now (vectors .entry)) ⌝ }
 {

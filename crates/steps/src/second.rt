@@ -11,11 +11,18 @@ ghost use Rattle.steps.specs.SecondStep.{«only-from», «second-vectors
 use crate::SecondVectors;
 use network::Network;
 
-// Whether the receivers of net i, all of them and no other, returned this word.
+// Whether the receivers of net i, all of them and no other, returned this word. Receiver i is asked first: with own
+// receivers it is the net's, and tells most nets that are not clear.
 pub fn only_from(word: u64, words: &[u64], receivers: &[u64], i: u64) -> bool
     requires { ⌜ length (now words) ≡ length (now receivers) ⌝ }
     ensures { λ r. ⌜ r ≡ only-from word (now (words .entry)) (now (receivers .entry)) i ⌝ }
 {
+    let likely = i as usize;
+    if likely < receivers.len() {
+        if (receivers[likely] == i) & (words[likely] != word) {
+            return false;
+        }
+    }
     let mut r: usize = 0;
     while r < receivers.len() {
         let own = receivers[r] == i;

@@ -6,7 +6,7 @@ use mathlib.Core.Bool.{Bool, true, false, cond}
 use mathlib.Core.List.{List, [], _∷_, _++_}
 use lib.ListN.{length, drop}
 
--- a refusal number of document 01's table, or the full result
+-- a refusal number of the table of documents 01 and 02, or the full result
 pub data Answer (A : Type 0) : Type 0 where
   refused : ℕ → Answer A
   full : A → Answer A

@@ -1,5 +1,5 @@
--- Words of bits. A parallel word (the source's PTV) has one bit a net, a sequential word (STV, and SRV for a response)
--- one bit a vector. Every definition computes on numerals.
+-- Words of bits. A parallel word (the source's PTV) has one bit a driver, in a response one bit a receiver; a
+-- sequential word (STV, and SRV for a response) one bit a vector. Every definition computes on numerals.
 use Prim.Native.Nat.{ℕ, _+_, _*_, _/_, _%_, _^_}
 use mathlib.Core.Bool.{Bool, true, false}
 use mathlib.Core.List.{List, [], _∷_}

@@ -9,8 +9,8 @@ unfoldable pub tabulate : ℕ → (ℕ → ℕ) → List ℕ
 tabulate zero f = []
 tabulate (suc n) f = f 0 ∷ tabulate n (λ i. f (suc i))
 
--- bit i of each word, in order: of the vectors it is the sequential word of net i, of sequential words the parallel
--- word of vector i
+-- bit i of each word, in order: of the vectors it is the sequential word of net i, of the responses that of receiver i,
+-- of sequential words the parallel word of vector i
 unfoldable pub column : List ℕ → ℕ → ℕ
 column ws i = word (map (λ w. has w i) ws)
 
