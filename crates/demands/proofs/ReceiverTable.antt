@@ -127,6 +127,7 @@ row-21 = record {
   second-record-65 = refl;
   second-record-no-tail = refl;
   second-record-tail = refl;
+  second-record-high = refl;
   second-record-clear = refl;
   own-1 = refl;
   own-2 = refl;

@@ -242,7 +242,8 @@ pub record RowTwentyOne : Type 0 where
   pub begin-21 : begin-answer (network-with 2 2 2) (0 ∷ 0 ∷ 0 ∷ []) 0 ≡ refused 21
   pub begin-17 : begin-answer (network-with 2 2 2) on-0-1-0 0 ≡ refused 17
   pub begin-20 : begin-answer (network-with 2 1 2) on-0-1-0 0 ≡ refused 20
-  -- in a session's record: row 4 if its receivers are refused, are above 64, or are not followed by zeros
+  -- in a session's record: row 4 if its receivers are refused, are above 64, or are not followed by zeros, and if the
+  -- first answers that it holds have a bit at or above m, or leave no net unclear
   pub record-taken : first-answer (awaiting-first two on-0-1-0) (5 ∷ 2 ∷ []) 0 ≡ full []
   pub record-one-receiver : first-answer (awaiting-first two (0 ∷ [])) (1 ∷ 0 ∷ []) 3 ≡ refused 4
   pub record-on-net-n : first-answer (awaiting-first two (0 ∷ 1 ∷ 2 ∷ [])) (5 ∷ 2 ∷ []) 3 ≡ refused 4
@@ -259,6 +260,7 @@ pub record RowTwentyOne : Type 0 where
   pub second-record-65 : second-answer (floating-since 65 receivers-64) (replicate 3 (2 ^ 64 - 1)) ≡ refused 4
   pub second-record-no-tail : second-answer (floating-since 2 (0 ∷ 1 ∷ replicate 62 0)) (3 ∷ 3 ∷ 3 ∷ []) ≡ full []
   pub second-record-tail : second-answer (floating-since 2 (0 ∷ 1 ∷ replicate 61 0 ++ 1 ∷ [])) (3 ∷ 3 ∷ 3 ∷ []) ≡ refused 4
+  pub second-record-high : second-answer (awaiting-second two on-0-1-0 (13 ∷ 6 ∷ [])) (4 ∷ 5 ∷ []) ≡ refused 4
   pub second-record-clear : second-answer (awaiting-second two on-0-1-0 (5 ∷ 2 ∷ [])) [] ≡ refused 4
   -- the call that fills the list of own receivers: rows 5 and 12
   pub own-1 : own-receivers-answer 1 0 ≡ refused 5
