@@ -1,5 +1,5 @@
-// What each receiver answered, and whether a state gives a response. Helpers between crates: there are at
-// most 64 receivers and 64 responses; a state is one of the network's, and the vectors are as many as the responses.
+// What each receiver answered, and whether a state gives a response. Helpers between crates: there are at most 64
+// receivers and 64 responses; a state is one of the network's, and the vectors are as many as the responses.
 ghost use mathlib.Core.Path.{_≡_};
 ghost use Prim.Native.Nat.{ℕ, _<_, _≤_, _^_};
 ghost use lib.ListN.{length};

@@ -13,7 +13,7 @@ use words::Ptv;
 use words::Stv;
 
 // Whether some driver is in both sets.
-pub fn meets(net: Network, a: u64, b: u64) -> bool
+fn meets(net: Network, a: u64, b: u64) -> bool
     requires { ⌜ a < 2 ^ (net .nets) ⌝ }
     ensures { λ r. ⌜ r ≡ meets net a b ⌝ }
 {
