@@ -14,17 +14,17 @@
  * - as many elements behind a pointer as its length says, or the brackets; behind size one word;
  * - that what a call writes overlaps nothing else that it is given.
  *
- * A call allocates nothing: what it needs it takes from the stack. Check and diagnosis take up to 260,000 bytes of it
- * for a class below nets; all else takes up to 11,000. So check and diagnosis run on a thread with a stack of at least
- * FONTARELGA_CHECK_STACK_BYTES (320 KB), all else with FONTARELGA_OTHER_STACK_BYTES (32 KB); either leaves at least
- * 20 KB to the thread itself, and one that needs more adds it. By default a thread has 8 MB on Linux with glibc, but
- * 128 KB with musl. A program whose threads have less makes the call on a thread to which it gives as much, with
+ * A call allocates nothing: what it needs it takes from the stack. Check and diagnosis take up to 270,000 bytes of it
+ * for class 1, 2 or 3 below nets; all else takes up to 12,000. So check and diagnosis run on a thread with a stack of
+ * at least FONTARELGA_CHECK_STACK_BYTES (320 KB), all else with FONTARELGA_OTHER_STACK_BYTES (32 KB); either leaves at
+ * least 20 KB to the thread itself, and one that needs more adds it. By default a thread has 8 MB on Linux with glibc,
+ * but 128 KB with musl. A program whose threads have less makes the call on a thread to which it gives as much, with
  * pthread_attr_setstacksize.
  *
  * nets is n, 2 to 48. level is the soft level, 0 or 1: what a receiver reads that no driver reaches. gate is
  * FONTARELGA_GATE_OR or FONTARELGA_GATE_AND. receivers has the net of each receiver, n to 64 of them, at least one on
- * each net; its length is m, and an empty list is refused with 21 as any other that is too short. class_ is k: 1, 2, 3
- * or n.
+ * each net; its length is m, and an empty list is refused with 21 as any other that is too short. class_ is k: 1, 2,
+ * 3, n or, for n up to 10, one from 4 to n - 1.
  * Bit i of a word stands for net i, and in responses and answers for receiver i. */
 
 #ifndef FONTARELGA_H

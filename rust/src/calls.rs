@@ -57,8 +57,9 @@ pub struct Finding {
 
 /// Can a test set tell all states of a class apart?
 ///
-/// The network has n nets, 2 to 48, soft level 0 or 1, and gate OR or AND. `class` is 1, 2, 3 or n: the most drivers
-/// that a reach may have. `vectors` has 1 to 64 words; bit i is what driver i drives.
+/// The network has n nets, 2 to 48, soft level 0 or 1, and gate OR or AND. `class` is the most drivers that a reach may
+/// have: 1, 2, 3, n or, for n up to 10, one from 4 to n - 1. `vectors` has 1 to 64 words; bit i is what driver i
+/// drives.
 ///
 /// Refused: 5, 6, 17, 20, 7, 8.
 ///
@@ -69,6 +70,9 @@ pub struct Finding {
 /// assert_eq!(check(network, 4, &[1, 2, 4, 8]), Ok(Verdict::Pair { a: 0, b: 15 }));
 /// assert_eq!(check(network.with_level(0), 4, &[1, 2, 4, 8]), Ok(Verdict::Pass));
 /// assert_eq!(check(network.with_gate(AND), 4, &[14, 13, 11, 7]), Ok(Verdict::Pass));
+/// // Walking ones of five nets: a receiver that all five drivers reach reads as one that floats, and class 4 has none.
+/// assert_eq!(check(5, 4, &[1, 2, 4, 8, 16]), Ok(Verdict::Pass));
+/// assert_eq!(check(5, 5, &[1, 2, 4, 8, 16]), Ok(Verdict::Pair { a: 0, b: 31 }));
 /// ```
 pub fn check(network: impl Into<Network>, class: u64, vectors: &[u64]) -> Result<Verdict, Refusal> {
     let mut verdict = [0; VERDICT_WORDS];

@@ -23,7 +23,7 @@ impl Refusal {
             4 => "session step: the record does not wait for this call, or no accepted calls leave such a record",
             5 => "net count: n below 2 or above 48",
             21 => "receivers: m below n or above 64, a receiver that names no net, or a net that has none",
-            6 => "class: k not 1, 2, 3 or n, or above n",
+            6 => "class: k not 1, 2, 3, n or, for n up to 10, one from 4 to n - 1; or above n",
             17 => "soft level: neither 0 nor 1",
             20 => "gate: neither OR (0) nor AND (1)",
             7 => "vectors: fewer than 1 or more than 64",

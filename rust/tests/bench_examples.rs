@@ -30,6 +30,22 @@ fn checker() {
     assert_eq!(check(2, 2, &[1, 2, 0]), Ok(Verdict::Pass));
 }
 
+/// Classes from 4 to n - 1, for up to 10 nets. Driver 2 of five is hidden behind 0, 1 and 4, and driver 1 of six behind
+/// 2, 3 and 5: a short of four drivers, which class 3 does not have.
+#[test]
+fn small_boards() {
+    let (of_five, of_six) = ([16, 1, 20, 5, 8, 2, 14], [34, 1, 6, 4, 8, 16, 32, 10]);
+    assert_eq!([3, 4].map(|class| check(5, class, &of_five)), [Ok(Verdict::Pass), pair(19, 23)]);
+    assert_eq!([3, 4].map(|class| check(6, class, &of_six)), [Ok(Verdict::Pass), pair(44, 46)]);
+    let walking: Vec<u64> = (0..10).map(|i| 1 << i).collect();
+    assert_eq!(
+        [9, 10, 11].map(|class| check(10, class, &walking)),
+        [Ok(Verdict::Pass), pair(0, 1023), Err(Refusal(6))]
+    );
+    assert_eq!([4, 9, 10].map(|class| check(11, class, &walking)), [Err(Refusal(6)); 3]);
+    assert_eq!([3, 11].map(|class| check(11, class, &walking)), [pair(1, 1025), pair(0, 2047)]);
+}
+
 #[test]
 fn checker_at_level_0() {
     assert_eq!(check(PULL_DOWN, 4, &[1, 2, 4, 8]), Ok(Verdict::Pass));
@@ -115,6 +131,19 @@ fn reading_back() {
     assert_eq!(respond(4, 4, &vectors, &[3, 3, 0, 8]), Ok(vec![4, 7, 7, 4, 12]));
     assert_eq!(diagnose(4, 4, &vectors, &[4, 7, 7, 4, 12]), Ok(vec![3, 3, 0, 8]));
     assert_eq!(diagnose(4, 4, &vectors, &[4, 7, 7, 4, 4]), Err(Refusal(14)));
+}
+
+/// Five nets, of which 0 to 3 are tied together, and receivers 2 and 3 float: a reach of four drivers.
+#[test]
+fn reading_back_a_short_of_four() {
+    let (vectors, state) = ([1, 2, 4, 8, 16], vec![15, 15, 0, 0, 16]);
+    assert_eq!(respond(5, 4, &vectors, &state), Ok(vec![15, 15, 15, 15, 28]));
+    assert_eq!(diagnose(5, 4, &vectors, &[15, 15, 15, 15, 28]), Ok(state.clone()));
+    assert_eq!(diagnose(5, 5, &vectors, &[15, 15, 15, 15, 28]), Err(Refusal(13)));
+    assert_eq!(diagnose(5, 3, &vectors, &[15, 15, 15, 15, 28]), Err(Refusal(14)));
+    assert_eq!(respond(5, 3, &vectors, &state), Err(Refusal(11)));
+    assert_eq!(respond(11, 4, &vectors, &[0; 11]), Err(Refusal(6)));
+    assert_eq!(diagnose(11, 4, &vectors, &[0; 5]), Err(Refusal(6)));
 }
 
 #[test]
@@ -237,7 +266,7 @@ fn a_refused_call_leaves_the_session() {
 fn refusals() {
     assert_eq!(check(1, 1, &[0]), Err(Refusal(5)));
     assert_eq!(check(49, 1, &[0]), Err(Refusal(5)));
-    assert_eq!(check(5, 4, &[0]), Err(Refusal(6)));
+    assert_eq!(check(11, 4, &[0]), Err(Refusal(6)));
     assert_eq!(check(4, 4, &[0; 65]), Err(Refusal(7)));
     assert_eq!(check(4, 4, &[16]), Err(Refusal(8)));
     assert_eq!(respond(2, 2, &[0], &[3, 1]), Err(Refusal(11)));

@@ -28,7 +28,7 @@ fn small_files() -> [Vec<u8>; 4] {
 /// A job that is admitted: any words below 2^n, with responses or without.
 fn random_job(g: &mut Generator) -> Job {
     let n = 2 + g.below(47) as u64;
-    let classes = [1, 2, 3.min(n), n];
+    let classes = if n <= 10 { (1..=n).collect() } else { vec![1, 2, 3, n] };
     let count = 1 + g.below(64);
     let words = |g: &mut Generator| (0..count).map(|_| g.word() & low_bits(n)).collect::<Vec<u64>>();
     let vectors = words(g);
@@ -60,7 +60,7 @@ fn jobs_that_are_seldom_admitted() {
     let mut refused = 0;
     for _ in 0..20_000 {
         let n = g.below(52) as u64;
-        let k = *g.pick(&[0, 1, 2, 3, 4, n, n + 1]);
+        let k = *g.pick(&[0, 1, 2, 3, 4, 9, n, n + 1]);
         let bits = low_bits(*g.pick(&[n, n, n + 1, 60]));
         let count = *g.pick(&[0, 1, 2, 3, 5, 64, 65]);
         let vectors: Vec<u64> = (0..count).map(|_| g.word() & bits).collect();

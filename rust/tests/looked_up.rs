@@ -6,6 +6,7 @@ mod support;
 
 use model::checker::{sets_of_class, verdict};
 use model::network::{read_along, response};
+use model::rows::bad_class;
 use model::{Network, Verdict};
 use support::boards::*;
 use support::calls::*;
@@ -14,6 +15,11 @@ use support::networks::each_combination;
 
 /// The remainder by this number gives the slot in which the library keeps a reading.
 const SLOT_PRIME: u64 = 32749;
+
+/// The classes below n that n nets have.
+fn classes_below(n: u64) -> Vec<u64> {
+    (1..n).filter(|k| !bad_class(n, *k)).collect()
+}
 
 /// The vectors along which net i drives word i, a bit a vector.
 fn vectors_of(words: &[u64], length: usize) -> Vec<u64> {
@@ -74,19 +80,20 @@ fn all_readings_share_a_slot() {
         let n = words.len() as u64;
         assert!(n >= 5, "{n} words of {bits} bits");
         let vectors = vectors_of(&words, 64);
-        let sets = sets_of_class(n, 3);
+        let classes = classes_below(n);
+        let sets = sets_of_class(n, classes[classes.len() - 1]);
         for net in each_combination(n) {
             let vectors = for_gate(net, &vectors);
             let slot = |set: u64| read_along(net, set, &vectors) % SLOT_PRIME;
             assert!(sets[1..].iter().all(|set| slot(*set) == slot(sets[1])));
         }
-        for k in 1..=3 {
+        for k in classes {
             assert_eq!(try_each(g, n, k, &vectors), [Verdict::Pass; 4]);
         }
     }
 }
 
-/// One net more, which drives what one, two or three others together do.
+/// One net more, which drives what one, two or three others together do: every class from 3 on shows a pair.
 #[test]
 fn pairs_in_a_shared_slot() {
     let g = &mut Generator::new(22);
@@ -96,9 +103,9 @@ fn pairs_in_a_shared_slot() {
         let place = g.below(words.len() + 1);
         words.insert(place, together);
         let (n, vectors) = (words.len() as u64, vectors_of(&words, 64));
-        assert!(!try_each(g, n, 3, &vectors).contains(&Verdict::Pass), "{words:?}");
-        for k in 1..=2 {
-            try_each(g, n, k, &vectors);
+        for k in classes_below(n) {
+            let shown = try_each(g, n, k, &vectors);
+            assert!(k < 3 || !shown.contains(&Verdict::Pass), "{k} {words:?}");
         }
     }
 }

@@ -177,7 +177,7 @@ fn set_ways() -> Vec<Way<Set>> {
         (6, |i| i.k = 49),
         (6, |i| i.k = u64::MAX),
         (6, |i| (i.board.network.nets, i.k) = (2, 3)),
-        (6, |i| (i.board, i.k) = (Network { nets: 5, ..i.board.network }.into(), 4)),
+        (6, |i| (i.board, i.k) = (Network { nets: 11, ..i.board.network }.into(), 4)),
         (7, |i| (i.vectors, i.responses) = (vec![], vec![])),
         (7, |i| {
             i.vectors.resize(65, 0);
@@ -404,6 +404,7 @@ fn content_ways() -> Vec<Way<Parts>> {
         (5, |i| i.nets[0] = 255),
         (6, |i| *i.nets.get_mut(1).unwrap_or(&mut 0) = 0),
         (6, |i| *i.nets.get_mut(1).unwrap_or(&mut 0) = 4),
+        (6, |i| i.nets.iter_mut().zip([11, 4]).for_each(|(byte, number)| *byte = number)),
         (17, |i| *i.nets.get_mut(2).unwrap_or(&mut 0) = 2),
         (17, |i| *i.nets.get_mut(2).unwrap_or(&mut 0) = 255),
         (20, |i| *i.nets.get_mut(3).unwrap_or(&mut 0) = 2),

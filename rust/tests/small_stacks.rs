@@ -10,6 +10,8 @@ use support::generator::Generator;
 use support::networks::{each_combination, extra_at_some_level, of_library, said_in_each_way};
 
 const N: u64 = MOST_NETS as u64;
+/// The most nets of which every class up to n is admitted.
+const SMALL: u64 = 10;
 
 /// The network with one receiver a net, and with the most.
 fn boards(g: &mut Generator, net: model::Network) -> [model::Board; 2] {
@@ -24,7 +26,7 @@ fn on_a_stack_of<T: Send>(bytes: usize, call: impl FnOnce() -> T + Send) -> T {
     })
 }
 
-/// 64 vectors for 48 nets, which pass for every class.
+/// 64 vectors, which pass for every class.
 fn largest_set(g: &mut Generator, net: model::Network) -> Vec<u64> {
     let mut vectors = walking_set(g, net);
     vectors.resize(MOST_VECTORS, extra_at_some_level(net));
@@ -53,11 +55,14 @@ fn check_and_diagnosis() {
     }
 }
 
-/// For class n they take no more than all else.
+/// For class n they take no more than all else, nor do they for a class from 4 to n - 1.
 #[test]
-fn check_and_diagnosis_of_class_n() {
+fn check_and_diagnosis_of_class_n_and_above_3() {
     let g = &mut Generator::new(17);
     each_combination(N).iter().for_each(|net| try_check_and_diagnosis(g, *net, N, OTHER_STACK_BYTES));
+    for net in each_combination(SMALL) {
+        (4..=SMALL).for_each(|class| try_check_and_diagnosis(g, net, class, OTHER_STACK_BYTES));
+    }
 }
 
 /// So does a check that has few sets to search.
@@ -80,8 +85,8 @@ fn try_response_and_findings(g: &mut Generator, net: model::Network, class: u64)
         for said in said_in_each_way(&board) {
             let response = on_a_stack_of(OTHER_STACK_BYTES, || respond(&said, class, &vectors, &board_state));
             let table = on_a_stack_of(OTHER_STACK_BYTES, || findings(&said, &board_state));
-            assert_eq!(response, respond(&said, class, &vectors, &board_state));
-            assert_eq!(table, findings(&said, &board_state));
+            assert_eq!(response, Ok(respond(&said, class, &vectors, &board_state).unwrap()));
+            assert_eq!(table, Ok(findings(&said, &board_state).unwrap()));
         }
     }
 }
@@ -92,6 +97,7 @@ fn response_and_findings() {
     for net in each_combination(N) {
         [1, 2, 3, N].iter().for_each(|class| try_response_and_findings(g, net, *class));
     }
+    each_combination(SMALL).iter().for_each(|net| try_response_and_findings(g, *net, SMALL - 1));
 }
 
 /// A session in which all receivers float, so that every net is unclear and step two has a vector for each, and the

@@ -2,6 +2,7 @@
 // that program and whose body is the call. So no call's contract can say less than the demands rest on. Nothing calls
 // these.
 ghost use mathlib.Core.Path.{_≡_};
+ghost use Prim.Native.Nat.{_≤_};
 ghost use lib.ListN.{length, replicate};
 ghost use Rattle.words.specs.Answers.{full, «lent-after»};
 ghost use Rattle.network.specs.Respond as Respond;
@@ -12,12 +13,14 @@ ghost use Rattle.reader.specs.Reader as Reader;
 ghost use Rattle.writer.specs.Writer as Writer;
 ghost use Rattle.exports.specs.Exported.{code};
 ghost use Rattle.demands.specs.SessionCalls.{begin, first, second};
-ghost use Rattle.demands.specs.Programs.{«our-check», «our-own-receivers», «our-response», «our-diagnosis», «our-findings»};
+ghost use Rattle.demands.specs.Programs.{«our-check», «our-plain-search», «our-own-receivers», «our-response»};
+ghost use Rattle.demands.specs.Programs.{«our-diagnosis», «our-findings»};
 ghost use Rattle.demands.specs.Programs.{«our-reader», «our-writer», «our-sessions», «our-drive», «our-report»};
 
 pub mod through_c;
 
 use checker::Checked;
+use checker::Verdict;
 use diagnosis::Diagnosed;
 use findings::Finding;
 use listing::Text;
@@ -33,6 +36,14 @@ pub fn check(net: Network, class: u64, vectors: &[u64]) -> Checked
     ensures { λ r. ⌜ Check.meaning r ≡ our-check net class (now (vectors .entry)) ⌝ }
 {
     checker::check(net, class, vectors)
+}
+
+// the plain search over all driver sets, which is no call: of at most 10 nets and 64 vectors
+pub fn plain_search(net: Network, class: u64, vectors: &[u64]) -> Verdict
+    requires { ⌜ (length (now vectors) ≤ 64) × (net .nets ≤ 10) ⌝ }
+    ensures { λ r. ⌜ r ≡ our-plain-search net class (now (vectors .entry)) ⌝ }
+{
+    checker::plain::plain_verdict(net, class, vectors)
 }
 
 // *own receivers*

@@ -1,7 +1,10 @@
 pub mod Verdicts
 pub mod Separation
 pub mod Walking
+pub mod Ascending
 pub mod Visits
 pub mod Branches
 pub mod Lookups
+pub mod PlainSearch
+pub mod Agreement
 pub mod Checking

@@ -32,13 +32,11 @@ use Rattle.checker.specs.Rule.{smaller-alike, pair-with, pair-at, bounde
 use Rattle.checker.specs.declared.search.Visited.{Visited}
 use Rattle.checker.specs.declared.search.Visited.the-variants.{Confused, Count}
 use Rattle.checker.specs.Seen.{Seen, Outcome}
+use Rattle.checker.proofs.Ascending.{confused-at, none-alike, first-pair, all-pass}
 
 module _ (net : Network) (k : ℕ) (vectors : List ℕ) where
   abbrev reads-as : ℕ → ℕ
   reads-as set = sequential-response net vectors set
-
-  abbrev confused-at : ℕ → Bool
-  confused-at set = few-drivers net k set && is-found (smaller-alike net k vectors set)
 
   pub seen-none : (words : List ℕ) → Seen net k vectors words 0 0
   unfolding sets-of-class passing
@@ -60,10 +58,7 @@ module _ (net : Network) (k : ℕ) (vectors : List ℕ) where
 
     -- all sets are seen
     pub seen-pass : 2 ^ (net .nets) ≤ next → bounded-verdict net k vectors ≡ Pass
-    unfolding bounded-verdict
-    seen-pass l =
-        ap (λ (s : Search). pair-at s (smaller-alike net k vectors))
-        (least-missing confused-at (2 ^ (net .nets)) (λ z n. seen .none-confused z (omega arith) n))
+    seen-pass l = all-pass net k vectors (λ z n. seen .none-confused z (omega arith) n)
 
     -- ---- the next set looked up
 
@@ -110,7 +105,6 @@ module _ (net : Network) (k : ℕ) (vectors : List ℕ) where
       -- a smaller set reads alike: the rule's pair
       pub seen-pair : (m : ℕ) → net .nets ≤ 48 → position (reads-as next) (take count words) ≡ Found m
           → (m < length (sets-of-class k (2 ^ 48))) × (bounded-verdict net k vectors ≡ Pair (at (sets-of-class k (2 ^ 48)) m) next)
-      unfolding bounded-verdict is-found
       seen-pair m most e =
           let r = read-found (reads-as next) m e in
           let up : next ≤ 2 ^ 48 = let h = pow-mono {i = net .nets} {j = 48} most in omega arith in
@@ -119,10 +113,7 @@ module _ (net : Network) (k : ℕ) (vectors : List ℕ) where
           (borrow.Author.Tests.eq-eqb _ _ (r .1)) (r .2) ∙ ap Found (sets-front k next (2 ^ 48) m up (r .0)) in
           let of-class : few-drivers net k next ≡ true = few-by-ones net k next inside ∙ le-leb (ones next) k few in (
             omega (arith, r .0, sets-grow k next (2 ^ 48) up),
-            ap (λ (s : Search). pair-at s (smaller-alike net k vectors))
-                (least-found confused-at (2 ^ (net .nets)) next inside
-                (λ z n. seen .none-confused z n (omega arith)) (and-both of-class (ap is-found found)))
-                ∙ ap (λ (s : Search). pair-with s next) found,
+            first-pair net k vectors _ next inside (λ z n. seen .none-confused z n (omega arith)) of-class found,
           )
 
       -- none does: one set more is seen
@@ -139,15 +130,15 @@ module _ (net : Network) (k : ℕ) (vectors : List ℕ) where
                 ∙ sym (map-snoc (sequential-response net vectors) (sets-of-class k next) next)
                 ∙ ap (map (sequential-response net vectors)) (sym more);
             none-confused = λ z m l. ⊎-elim (λ before. seen .none-confused z before l)
-                (λ after. let q : next ≡ z = omega arith in subst (λ (x : ℕ). confused-at x ≡ false) q alone) (less-or-not z next);
+                (λ after. let q : next ≡ z = omega arith in subst (λ (x : ℕ). confused-at net k vectors x ≡ false) q alone) (less-or-not z next);
           }
         where
-          alone : confused-at next ≡ false
+          alone : confused-at net k vectors next ≡ false
           alone =
               let none : smaller-alike net k vectors next ≡ Missing =
               by-class ∙ none-in-class k next (λ z. eqb (reads-as z) (reads-as next))
               (read-missing (reads-as next) (ap (λ (x : ℕ). position x (take count words)) (sym w) ∙ e)) in
-              ap (λ (s : Search). few-drivers net k next && is-found s) none ∙ and-false (few-drivers net k next)
+              none-alike net k vectors next none
 
 -- the empty set is seen first
 pub seen-empty : (net : Network) (k : ℕ) (vectors words after : List ℕ) (word : ℕ) → 0 < length words

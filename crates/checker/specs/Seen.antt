@@ -5,9 +5,11 @@ use mathlib.Core.Path.{_≡_}
 use mathlib.Core.Bool.{false, _&&_}
 use mathlib.Core.List.{List, map}
 use lib.Count.{ones}
+use lib.Dec.{eqb}
 use lib.ListN.{length, take}
 use Rattle.words.specs.Bits.{at}
-use Rattle.words.specs.Searching.{is-found, sets-of-class}
+use Rattle.words.specs.Searching.{least, is-found, sets-of-class}
+use Rattle.words.specs.declared.Search.{Search}
 use Rattle.words.specs.Turning.{Columns}
 use Rattle.network.specs.declared.Network.{Network}
 use Rattle.network.specs.Reading.{sequential-response}
@@ -63,6 +65,14 @@ OnlyAnswer net k vectors answered reach = (set : ℕ) → DriverSet net k set �
 -- such a set for each answer
 abbrev pub LookedUp : Network → ℕ → (vectors answers reaches : List ℕ) → Type 0
 LookedUp net k vectors answers reaches = (i : ℕ) → i < length answers → OnlyAnswer net k vectors (at answers i) (at reaches i)
+
+-- what each driver set reads, at its number
+abbrev pub AllRead : Network → (vectors words : List ℕ) → Type 0
+AllRead net vectors words = (set : ℕ) → set < 2 ^ (net .nets) → at words set ≡ sequential-response net vectors set
+
+-- of the sets whose readings are given, the smallest of the class that reads so
+abbrev pub first-alike : Network → ℕ → (words : List ℕ) → ℕ → Search
+first-alike net k words word = least (length words) 0 (λ set. few-drivers net k set && eqb (at words set) word)
 
 -- what a search of all sets of the class comes to: the rule's verdict, and where it is pass, the sets looked up
 pub record Searched (net : Network) (k : ℕ) (vectors answers reaches : List ℕ) (v : Verdict) : Type 0 where

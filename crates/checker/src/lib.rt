@@ -1,12 +1,12 @@
 // The checker: whether a test set tells the wiring states of a class apart.
 ghost use mathlib.Core.Path.{_≡_};
-ghost use mathlib.Core.Logic.{_⊎_};
-ghost use Prim.Native.Nat.{_<_, _≤_};
-ghost use lib.ListN.{length};
+ghost use Rattle.words.specs.Answers.{NoneHolds};
+ghost use Rattle.network.specs.Rows.{SetRows};
 ghost use Rattle.checker.specs.Rule.{verdict};
 ghost use Rattle.checker.specs.Check.{«check-answer», meaning};
 
 pub mod bounded;
+pub mod plain;
 mod search;
 mod unbounded;
 
@@ -28,11 +28,14 @@ pub enum Checked {
 
 // The rule on a test set that its rows admit. A helper between crates.
 pub fn verdict_of(net: Network, class: u64, vectors: &[u64]) -> Verdict
-    requires { ⌜ (length (now vectors) ≤ 64) × (net .nets ≤ 48) × (0 < class) × ((class ≤ 3) ⊎ (class ≡ net .nets)) ⌝ }
+    requires { ⌜ NoneHolds (SetRows net class (now vectors)) ⌝ }
     ensures { λ r. ⌜ r ≡ verdict net class (now (vectors .entry)) ⌝ }
 {
     if class == net.nets {
         return unbounded::full_verdict(net, vectors);
+    }
+    if 3 < class {
+        return plain::plain_verdict(net, class, vectors);
     }
     bounded::bounded_verdict(net, class, vectors)
 }

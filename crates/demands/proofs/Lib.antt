@@ -3,6 +3,7 @@ pub mod Diagnosing
 pub mod Findings
 pub mod OwnReceivers
 pub mod Checking
+pub mod PlainSearch
 pub mod Refuting
 pub mod Telling
 pub mod ReadBytes
@@ -25,6 +26,7 @@ pub mod Tables
 pub mod LevelTable
 pub mod GateTable
 pub mod ReceiverTable
+pub mod ClassTable
 pub mod FileTables
 pub mod SaidAloneCalls
 pub mod SaidAloneFindings

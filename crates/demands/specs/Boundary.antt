@@ -1,6 +1,6 @@
 -- Inputs on both sides of each bound of rows 4 to 14, for the calls other than the reader and the writer. Theirs are in
--- FileBounds.antt, those of row 17 in LevelCases.antt, those of row 20 in GateCases.antt, and those of row 21
--- in ReceiverCases.antt.
+-- FileBounds.antt, those of row 17 in LevelCases.antt, those of row 20 in GateCases.antt, those of row 21 in
+-- ReceiverCases.antt, and more of row 6 in ClassCases.antt.
 use Prim.Native.Nat.{ℕ, _-_, _^_}
 use mathlib.Core.Path.{_≡_}
 use mathlib.Core.List.{List, [], _∷_}
@@ -52,7 +52,11 @@ pub record Boundary : Type 0 where
   pub class-0 : check 5 0 (0 ∷ 1 ∷ 2 ∷ 4 ∷ 8 ∷ 16 ∷ []) ≡ refused 6
   pub class-1 : check 5 1 (0 ∷ 1 ∷ 2 ∷ 4 ∷ 8 ∷ 16 ∷ []) ≡ full Pass
   pub class-3 : check 5 3 (0 ∷ 1 ∷ 2 ∷ 4 ∷ 8 ∷ 16 ∷ []) ≡ full Pass
-  pub class-4 : check 5 4 (0 ∷ 1 ∷ 2 ∷ 4 ∷ 8 ∷ 16 ∷ []) ≡ refused 6
+  pub class-4 : check 5 4 (0 ∷ 1 ∷ 2 ∷ 4 ∷ 8 ∷ 16 ∷ []) ≡ full Pass
+  pub class-5 : check 5 5 (0 ∷ 1 ∷ 2 ∷ 4 ∷ 8 ∷ 16 ∷ []) ≡ full Pass
+  pub class-6 : check 5 6 (0 ∷ 1 ∷ 2 ∷ 4 ∷ 8 ∷ 16 ∷ []) ≡ refused 6
+  -- and at n = 11, document 01's case
+  pub class-4-of-11 : check 11 4 (0 ∷ 1 ∷ 2 ∷ 4 ∷ 8 ∷ 16 ∷ []) ≡ refused 6
   -- and above n, though it is 3
   pub class-above : check 2 3 (0 ∷ 1 ∷ 2 ∷ []) ≡ refused 6
   -- row 7: vectors

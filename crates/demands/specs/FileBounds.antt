@@ -171,10 +171,16 @@ pub record ReaderBounds : Type 0 where
   pub class-0 : read (set-file 5 0 (0 ∷ [])) ≡ refused 6
   pub class-1 : read (set-file 5 1 (0 ∷ [])) ≡ holds 5 1 (0 ∷ []) []
   pub class-3 : read (set-file 5 3 (0 ∷ [])) ≡ holds 5 3 (0 ∷ []) []
-  pub class-4 : read (set-file 5 4 (0 ∷ [])) ≡ refused 6
+  pub class-4 : read (set-file 5 4 (0 ∷ [])) ≡ holds 5 4 (0 ∷ []) []
   pub class-5 : read (set-file 5 5 (0 ∷ [])) ≡ holds 5 5 (0 ∷ []) []
   pub class-6 : read (set-file 5 6 (0 ∷ [])) ≡ refused 6
   pub class-above : read (set-file 2 3 (0 ∷ [])) ≡ refused 6
+  -- at n = 10 and 11
+  pub class-9-of-10 : read (set-file 10 9 (0 ∷ [])) ≡ holds 10 9 (0 ∷ []) []
+  pub class-11-of-10 : read (set-file 10 11 (0 ∷ [])) ≡ refused 6
+  pub class-3-of-11 : read (set-file 11 3 (0 ∷ [])) ≡ holds 11 3 (0 ∷ []) []
+  pub class-4-of-11 : read (set-file 11 4 (0 ∷ [])) ≡ refused 6
+  pub class-9-of-11 : read (set-file 11 9 (0 ∷ [])) ≡ refused 6
   -- rows 17 and 20: the soft level and the gate. Either gate goes with either level (`OR-0` is OR with level 0), and a
   -- level that is refused is 17 whatever the gate
   pub OR-0 : read (gate-file 0 0) ≡ holds-of (wired-or 4 0) 4 (0 ∷ []) []
@@ -249,10 +255,16 @@ pub record WriterBounds : Type 0 where
   pub class-0 : write 5 0 (0 ∷ []) [] ≡ refused 6
   pub class-1 : write 5 1 (0 ∷ []) [] ≡ full (set-file 5 1 (0 ∷ []))
   pub class-3 : write 5 3 (0 ∷ []) [] ≡ full (set-file 5 3 (0 ∷ []))
-  pub class-4 : write 5 4 (0 ∷ []) [] ≡ refused 6
+  pub class-4 : write 5 4 (0 ∷ []) [] ≡ full (set-file 5 4 (0 ∷ []))
   pub class-5 : write 5 5 (0 ∷ []) [] ≡ full (set-file 5 5 (0 ∷ []))
   pub class-6 : write 5 6 (0 ∷ []) [] ≡ refused 6
   pub class-above : write 2 3 (0 ∷ []) [] ≡ refused 6
+  -- at n = 10 and 11
+  pub class-9-of-10 : write 10 9 (0 ∷ []) [] ≡ full (set-file 10 9 (0 ∷ []))
+  pub class-11-of-10 : write 10 11 (0 ∷ []) [] ≡ refused 6
+  pub class-3-of-11 : write 11 3 (0 ∷ []) [] ≡ full (set-file 11 3 (0 ∷ []))
+  pub class-4-of-11 : write 11 4 (0 ∷ []) [] ≡ refused 6
+  pub class-9-of-11 : write 11 9 (0 ∷ []) [] ≡ refused 6
   -- rows 17 and 20: the soft level and the gate, as in the reader, also where the low byte is 0
   pub OR-0 : write-of (wired-or 4 0) 4 (0 ∷ []) [] ≡ full (gate-file 0 0)
   pub OR-1 : write-of (wired-or 4 1) 4 (0 ∷ []) [] ≡ full (gate-file 1 0)

@@ -180,6 +180,11 @@ pub record FileExamples : Type 0 where
   -- without all ones it does not pass there, and does at soft level 1
   pub no-ones-report : report (set-file-of (wired-and 4 0) 4 (14 ∷ 13 ∷ 11 ∷ 7 ∷ [])) ≡ text "pair 4 4 4 0 15\n"
   pub no-ones-needed-report : report (set-file-of (wired-and 4 1) 4 (14 ∷ 13 ∷ 11 ∷ 7 ∷ [])) ≡ text "pass 4 4 4\n"
+  -- a class from 4 to n - 1: n = 5, k = 4, walking ones alone, and four nets shorted
+  pub class-4-report : report (job-file 5 4 (1 ∷ 2 ∷ 4 ∷ 8 ∷ 16 ∷ []) (15 ∷ 15 ∷ 15 ∷ 15 ∷ 16 ∷ []))
+      ≡ text "pass 5 4 5\n0 2 15 14\n1 2 15 13\n2 2 15 11\n3 2 15 7\n4 0 16 0\n"
+  pub class-4-pair-report : report (set-file 5 4 (16 ∷ 1 ∷ 20 ∷ 5 ∷ 8 ∷ 2 ∷ 14 ∷ [])) ≡ text "pair 5 4 7 19 23\n"
+  pub class-4-of-11-report : report (set-file 11 4 (1 ∷ [])) ≡ text "refused 6\n"
   -- line one, then a refusal
   pub not-passed-report : report (job-file 4 4 (1 ∷ 2 ∷ 4 ∷ 8 ∷ []) (7 ∷ 7 ∷ 4 ∷ 12 ∷ [])) ≡ text "pair 4 4 4 0 15\nrefused 13\n"
   pub no-state-report : report (job-file 4 4 (0 ∷ 1 ∷ 2 ∷ 4 ∷ 8 ∷ []) (4 ∷ 7 ∷ 7 ∷ 4 ∷ 4 ∷ [])) ≡ text "pass 4 4 5\nrefused 14\n"

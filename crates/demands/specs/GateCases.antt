@@ -186,7 +186,7 @@ pub record GateCases : Type 0 where
   pub begin-2 : begin-answer (network-with 2 0 2) (own (network-with 2 0 2)) 2 ≡ refused 20
   -- its place: after 5, 6 and 17, before 7, 11 and 12
   pub five-first : check-answer (network-with 49 1 2) 49 walking-zeros ≡ refused 5
-  pub six-first : check-answer (network-with 5 1 2) 4 walking-zeros ≡ refused 6
+  pub six-first : check-answer (network-with 11 1 2) 4 walking-zeros ≡ refused 6
   pub level-first : check-answer (network-with 4 2 2) 4 walking-zeros ≡ refused 17
   pub before-7 : check-answer (network-with 4 1 2) 4 [] ≡ refused 20
   pub find-level-first : findings-answer (network-with 2 2 2) (own (network-with 2 2 2)) (1 ∷ 0 ∷ []) 2 ≡ refused 17

@@ -117,7 +117,7 @@ pub record LevelCases : Type 0 where
   pub begin-2 : begin-answer (wired-or 2 2) (own (wired-or 2 2)) 2 ≡ refused 17
   -- its place: after 5 and 6, before 7, 11 and 12
   pub five-first : check-answer (wired-or 49 2) 49 walking ≡ refused 5
-  pub six-first : check-answer (wired-or 5 2) 4 walking ≡ refused 6
+  pub six-first : check-answer (wired-or 11 2) 4 walking ≡ refused 6
   pub before-7 : check-answer (wired-or 4 2) 4 [] ≡ refused 17
   pub find-five-first : findings-answer (wired-or 49 2) (own (wired-or 49 2)) [] 0 ≡ refused 5
   pub find-before-11 : findings-answer (wired-or 2 2) (own (wired-or 2 2)) (3 ∷ 1 ∷ []) 0 ≡ refused 17

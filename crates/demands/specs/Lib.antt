@@ -3,6 +3,7 @@ pub mod FindingsCall
 pub mod OwnReceiversCall
 pub mod SessionCalls
 pub mod Demand3
+pub mod PlainSearch
 pub mod SessionRecords
 pub mod JobFiles
 pub mod Demand1
@@ -17,6 +18,7 @@ pub mod LevelCases
 pub mod GateCases
 pub mod PartnerCases
 pub mod ReceiverCases
+pub mod ClassCases
 pub mod FileExamples
 pub mod FileBounds
 pub mod SaidAlone

@@ -6,6 +6,7 @@ use lib.ListN.{length}
 use Rattle.words.specs.Answers.{Answer, lent-after, count-of}
 use Rattle.network.specs.Respond.{response-answer}
 use Rattle.network.specs.OwnReceivers.{own-receivers-answer}
+use Rattle.checker.specs.Rule.{bounded-verdict}
 use Rattle.checker.specs.Check.{check-answer}
 use Rattle.diagnosis.specs.ReadBack.{read-back}
 use Rattle.diagnosis.specs.Diagnosis.{diagnosis-answer}
@@ -26,6 +27,7 @@ use Rattle.demands.specs.SessionCalls.{Call, begin, first, second, lent,
 use Rattle.demands.specs.SessionRecords.{DriveProgram}
 use Rattle.demands.specs.Demand1.{Programs}
 use Rattle.demands.specs.Demand3.{CheckProgram}
+use Rattle.demands.specs.PlainSearch.{SearchProgram}
 use Rattle.demands.specs.Reports.{ReportProgram}
 
 abbrev pub our-response : ResponseProgram
@@ -40,6 +42,10 @@ our-own-receivers nets lent =
 
 abbrev pub our-check : CheckProgram
 our-check net k vectors = check-answer net k vectors
+
+-- the plain search is the rule for k below n, whatever the class
+abbrev pub our-plain-search : SearchProgram
+our-plain-search net k vectors = bounded-verdict net k vectors
 
 abbrev pub our-diagnosis : DiagnosisProgram
 our-diagnosis net owners k vectors responses lent =

@@ -2,14 +2,11 @@
 use mathlib.Core.Path.{_≡_, refl}
 use mathlib.Core.List.{List}
 use Prim.Native.Nat.{ℕ}
-use native.Mathlib.Nat.{not-suc-le-zero}
-use native.Mathlib.Omega.{arith}
 use Rattle.network.specs.declared.Network.{Network}
 use Rattle.network.proofs.Rows.{admitted-set}
-use Rattle.checker.specs.declared.Verdict.{Verdict}
-use Rattle.checker.specs.declared.Verdict.the-variants.{Pass, Pair}
-use Rattle.checker.specs.Rule.{BoundedRule, bounded-verdict}
-use Rattle.checker.proofs.Verdicts.{bounded-rule}
+use Rattle.checker.specs.declared.Verdict.the-variants.{Pass}
+use Rattle.checker.specs.Rule.{bounded-verdict}
+use Rattle.checker.proofs.Agreement.{pass-together, search-shows}
 use Rattle.checker.proofs.Separation.{SetsApart, rule-shows}
 use Rattle.diagnosis.specs.ReadBack.{Passed}
 
@@ -21,11 +18,6 @@ passed-sets-apart net k vectors (none, rule) =
 
 -- and the search of them passes
 pub passed-search : (net : Network) (k : ℕ) (vectors : List ℕ) → Passed net k vectors → bounded-verdict net k vectors ≡ Pass
-passed-search net k vectors p = go (bounded-verdict net k vectors) (bounded-rule net k vectors)
-  where
-    go : (v : Verdict) → BoundedRule net k vectors v → v ≡ Pass
-    go Pass r = refl
-    go (Pair a b) (c, x, y) =
-        absurd (not-suc-le-zero {n = 0} (let e : a ≡ b = passed-sets-apart net k vectors p a b (c .first-set) (c .second-set) (
-        c .read-alike) in
-        let l = c .smaller in omega arith))
+passed-search net k vectors p =
+    pass-together net k vectors Pass (bounded-verdict net k vectors) (passed-sets-apart net k vectors p)
+    (search-shows net k vectors) refl

@@ -202,7 +202,7 @@ module _ (net : Network) (admitted : AdmittedNetwork net) where
       ))
     where
       class : ¬ (Row6 net (net .nets))
-      class (inl n) = n (inr (inr (inr refl)))
+      class (inl n) = n (inr (inr (inr (inl refl))))
       class (inr l) = omega (arith, l)
 
       count : ¬ (Row7 (walking-set net))

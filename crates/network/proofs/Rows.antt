@@ -12,14 +12,15 @@ use lib.ListN.{length}
 use Rattle.words.specs.Bits.{at}
 use Rattle.words.specs.Answers.{Decides, Decided, NoneHolds, refused, full, by-tests}
 use Rattle.words.specs.Searching.{among}
-use Rattle.words.proofs.Tests.{cases, decides-less, decides-at-most, decides-equal, decides-or, decides-not, test-fails}
+use Rattle.words.proofs.Tests.{cases, decides-less, decides-at-most, decides-equal, decides-or, decides-and, decides-not}
+use Rattle.words.proofs.Tests.{test-fails}
 use Rattle.words.proofs.Searching.{decides-any, decides-among}
 use Rattle.words.proofs.Answers.{let-through, first-refuses, first-passes, shared-refuse, shared-pass}
 use Rattle.network.specs.declared.Network.{Network}
 use Rattle.network.specs.Rows.{HasReceiver, Row21, bad-receivers, ClassRows, class-tests, BoardRows, board-tests}
 use Rattle.network.specs.Rows.{board-refusal, AdmittedBoard, BoardSetRows, board-set-tests, board-admission}
 use Rattle.network.specs.Rows.{NoBit, no-bit, Row5, Row6, Row17, Row20, Row7, HighBit, Row9, Row12, bad-net-count}
-use Rattle.network.specs.Rows.{bad-class, bad-level, bad-gate, bad-vector-count, has-high-bit, bad-response-count}
+use Rattle.network.specs.Rows.{NamedClass, named-class, bad-class, bad-level, bad-gate, bad-vector-count, has-high-bit, bad-response-count}
 use Rattle.network.specs.Rows.{no-room, SetRows, set-tests, set-admission}
 
 pub decides-row-5 : (net : Network) → Decides (bad-net-count net) (Row5 net)
@@ -35,10 +36,13 @@ decides-row-21 net owners =
     (decides-any (λ i. not (among i owners)) (λ i. ¬ (HasReceiver owners i)) (net .nets)
     (λ i. decides-not (decides-among i owners))))
 
-decides-class : (net : Network) (k : ℕ)
-    → Decides (eqb k 1 || (eqb k 2 || (eqb k 3 || eqb k (net .nets)))) ((k ≡ 1) ⊎ ((k ≡ 2) ⊎ ((k ≡ 3) ⊎ (k ≡ net .nets))))
-decides-class net k = decides-or (decides-equal k 1)
-    (decides-or (decides-equal k 2) (decides-or (decides-equal k 3) (decides-equal k (net .nets))))
+decides-class : (net : Network) (k : ℕ) → Decides (named-class net k) (NamedClass net k)
+decides-class net k =
+    decides-or (decides-equal k 1)
+    (decides-or (decides-equal k 2)
+    (decides-or (decides-equal k 3)
+    (decides-or (decides-equal k (net .nets))
+    (decides-and (decides-at-most (net .nets) 10) (decides-and (decides-at-most 4 k) (decides-less k (net .nets)))))))
 
 decides-row-6 : (net : Network) (k : ℕ) → Decides (bad-class net k) (Row6 net k)
 decides-row-6 net k = decides-or (decides-not (decides-class net k)) (decides-less (net .nets) k)
@@ -195,18 +199,19 @@ receivers-of-board-set net owners k vectors (_, (receivers, _)) = receivers-admi
 pub record AdmittedSet (net : Network) (k : ℕ) (vectors : List ℕ) : Type 0 where
   pub two : 2 ≤ net .nets
   pub most : net .nets ≤ 48
-  pub class : (k ≤ 3) ⊎ (k ≡ net .nets)
+  pub class : (k ≤ 3) ⊎ ((k ≡ net .nets) ⊎ (net .nets ≤ 10))
   pub class-positive : 0 < k
+  pub class-most : k ≤ net .nets
   pub level-byte : net .level ≤ 1
   pub gate-byte : net .gate ≤ 1
   pub vectors-most : length vectors ≤ 64
   pub narrow : (t : ℕ) → t < length vectors → at vectors t < 2 ^ (net .nets)
 
 -- the classes that row 6 admits
-admitted-class : (net : Network) (k : ℕ) → ¬ (Row6 net k) → (k ≡ 1) ⊎ ((k ≡ 2) ⊎ ((k ≡ 3) ⊎ (k ≡ net .nets)))
+admitted-class : (net : Network) (k : ℕ) → ¬ (Row6 net k) → NamedClass net k
 admitted-class net k h =
     let d = decides-class net k in
-    ⊎-elim (d .0) (λ e. absurd (h (inl (d .1 e)))) (cases (eqb k 1 || (eqb k 2 || (eqb k 3 || eqb k (net .nets)))))
+    ⊎-elim (d .0) (λ e. absurd (h (inl (d .1 e)))) (cases (named-class net k))
 
 pub admitted-set : (net : Network) (k : ℕ) (vectors : List ℕ) → NoneHolds (SetRows net k vectors) → AdmittedSet net k vectors
 admitted-set net k vectors (a, (b, (level, (gate, (c, (d, e)))))) =
@@ -215,23 +220,33 @@ admitted-set net k vectors (a, (b, (level, (gate, (c, (d, e)))))) =
       most = nets .1;
       class = small (admitted-class net k b);
       class-positive = positive (nets .0) (admitted-class net k b);
+      class-most = at-most (λ l. b (inr l));
       level-byte = bit-admitted (net .level) level;
       gate-byte = bit-admitted (net .gate) gate;
       vectors-most = vectors-admitted vectors c;
       narrow = no-high-bit (net .nets) vectors d;
     }
   where
-    small : (k ≡ 1) ⊎ ((k ≡ 2) ⊎ ((k ≡ 3) ⊎ (k ≡ net .nets))) → (k ≤ 3) ⊎ (k ≡ net .nets)
+    small : NamedClass net k → (k ≤ 3) ⊎ ((k ≡ net .nets) ⊎ (net .nets ≤ 10))
     small (inl q) = inl (omega arith)
     small (inr (inl q)) = inl (omega arith)
     small (inr (inr (inl q))) = inl (omega arith)
-    small (inr (inr (inr q))) = inr q
+    small (inr (inr (inr (inl q)))) = inr (inl q)
+    small (inr (inr (inr (inr q)))) = inr (inr (q .0))
 
-    positive : 2 ≤ net .nets → (k ≡ 1) ⊎ ((k ≡ 2) ⊎ ((k ≡ 3) ⊎ (k ≡ net .nets))) → 0 < k
+    positive : 2 ≤ net .nets → NamedClass net k → 0 < k
     positive l (inl q) = omega arith
     positive l (inr (inl q)) = omega arith
     positive l (inr (inr (inl q))) = omega arith
-    positive l (inr (inr (inr q))) = omega arith
+    positive l (inr (inr (inr (inl q)))) = omega arith
+    positive l (inr (inr (inr (inr q)))) = omega (arith, q .1 .0)
+
+    at-most : ¬ (net .nets < k) → k ≤ net .nets
+    at-most n = omega (arith, n)
+
+-- a class that is neither n nor so small that any board has it is of a small board
+pub small-board : {net : Network} {k : ℕ} {vectors : List ℕ} → AdmittedSet net k vectors → k ≢ net .nets → 3 < k → net .nets ≤ 10
+small-board s differ more = ⊎-elim (λ l. omega (arith, l, more)) (⊎-elim (λ e. absurd (differ e)) (λ l. l)) (s .class)
 
 -- a call on a test set, by what those rows say
 module _ (net : Network) (k : ℕ) (vectors : List ℕ) where

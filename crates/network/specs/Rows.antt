@@ -2,7 +2,7 @@
 use Prim.Native.Nat.{ℕ, _^_, _<_, _≤_}
 use mathlib.Core.Path.{_≡_}
 use mathlib.Core.Logic.{_⊎_, _≢_}
-use mathlib.Core.Bool.{Bool, not, _||_}
+use mathlib.Core.Bool.{Bool, not, _||_, _&&_}
 use mathlib.Core.List.{List, [], _∷_}
 use lib.Dec.{eqb, leb, ltb}
 use lib.ListN.{length}
@@ -31,9 +31,14 @@ Row21 net owners =
     ⊎ (((r : ℕ) × (r < length owners) × (net .nets ≤ at owners r))
     ⊎ ((i : ℕ) × (i < net .nets) × (¬ (HasReceiver owners i))))
 
--- class: k not 1, 2, 3 or n, or above n
+-- 1, 2, 3, n or, for n up to 10, one from 4 to n - 1
+abbrev pub NamedClass : Network → ℕ → Type 0
+NamedClass net k =
+    (k ≡ 1) ⊎ ((k ≡ 2) ⊎ ((k ≡ 3) ⊎ ((k ≡ net .nets) ⊎ ((net .nets ≤ 10) × ((4 ≤ k) × (k < net .nets))))))
+
+-- class: k none of these, or above n
 abbrev pub Row6 : Network → ℕ → Type 0
-Row6 net k = (¬ ((k ≡ 1) ⊎ ((k ≡ 2) ⊎ ((k ≡ 3) ⊎ (k ≡ net .nets))))) ⊎ (net .nets < k)
+Row6 net k = (¬ (NamedClass net k)) ⊎ (net .nets < k)
 
 -- neither 0 nor 1
 abbrev pub NoBit : ℕ → Type 0
@@ -78,8 +83,12 @@ bad-receivers net owners =
     let no-receiver = any (net .nets) (λ i. not (among i owners)) in
     (ltb (length owners) (net .nets) || ltb 64 (length owners)) || (no-net || no-receiver)
 
+abbrev pub named-class : Network → ℕ → Bool
+named-class net k =
+    eqb k 1 || (eqb k 2 || (eqb k 3 || (eqb k (net .nets) || (leb (net .nets) 10 && (leb 4 k && ltb k (net .nets))))))
+
 abbrev pub bad-class : Network → ℕ → Bool
-bad-class net k = not (eqb k 1 || (eqb k 2 || (eqb k 3 || eqb k (net .nets)))) || ltb (net .nets) k
+bad-class net k = not (named-class net k) || ltb (net .nets) k
 
 abbrev pub no-bit : ℕ → Bool
 no-bit x = not (eqb x 0 || eqb x 1)

@@ -42,12 +42,14 @@ fn bad_receivers(net: Network, receivers: &[u64]) -> bool
     named != crate::drivers::all_drivers(net)
 }
 
-// Row 6: k not 1, 2, 3 or n, or above n.
+// Row 6: k not 1, 2, 3, n or, for n up to 10, one from 4 to n - 1; or above n.
 fn bad_class(net: Network, class: u64) -> bool
     ensures { λ r. ⌜ r ≡ bad-class net class ⌝ }
 {
     let n = net.nets;
-    !((class == 1) | ((class == 2) | ((class == 3) | (class == n)))) | (n < class)
+    let of_small_board = (n <= 10) & ((4 <= class) & (class < n));
+    let named = (class == 1) | ((class == 2) | ((class == 3) | ((class == n) | of_small_board)));
+    !named | (n < class)
 }
 
 // Row 17: the soft level neither 0 nor 1.
@@ -148,7 +150,7 @@ pub fn admit_board(net: Network, receivers: &[u64], class: u64, vectors: &[u64])
 }
 
 // At most k drivers: the count of ones decides.
-fn few_drivers(net: Network, class: u64, set: u64) -> bool
+pub fn few_drivers(net: Network, class: u64, set: u64) -> bool
     requires { ⌜ set < 2 ^ (net .nets) ⌝ }
     ensures { λ r. ⌜ r ≡ few-drivers net class set ⌝ }
 {

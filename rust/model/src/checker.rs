@@ -154,6 +154,44 @@ mod tests {
         assert_verdicts(AND, 1, &at_level_1);
     }
 
+    /// Five nets: drivers 0, 1, 3 and 4 each have a vector of their own, and driver 2 drives beside 4, beside 0, and
+    /// beside 1 and 3 (on 20, 5 and 14). So it is not seen in a reach with 4, 0, and 1 or 3, and has then three others
+    /// beside it: 19 with it is 23. Of all sets of at most four drivers only 27, which is 0, 1, 3 and 4, reads as a
+    /// floating receiver does.
+    ///
+    /// Six nets: all drivers but 1 have a vector of their own, and that one drives beside 5, beside 2, and beside 3 (on
+    /// 34, 6 and 10). So it is not seen with those three: 44 with it is 46. What reads as a floating receiver does has
+    /// all five others.
+    #[test]
+    fn sets_that_pass_for_class_3_and_not_for_class_4() {
+        let (of_five, of_six): (&[u64], &[u64]) = (&[16, 1, 20, 5, 8, 2, 14], &[34, 1, 6, 4, 8, 16, 32, 10]);
+        let cases: [Case; 4] = [
+            (5, 3, of_five, Verdict::Pass),
+            (5, 4, of_five, Verdict::Pair(19, 23)),
+            (6, 3, of_six, Verdict::Pass),
+            (6, 4, of_six, Verdict::Pair(44, 46)),
+        ];
+        assert_verdicts(OR, 1, &cases);
+        let eleven = Network { nets: 11, level: 1, gate: OR };
+        assert_eq!(check(eleven, 4, of_five), Err(6));
+    }
+
+    /// Ten nets and walking ones without vector 0: at level 1 only all ten drivers read as a floating receiver does,
+    /// and class 9 does not have them. Without that of net 9 the other nine drivers do, and up to class 8 driver 9 is
+    /// not seen beside driver 0; at level 0 it reads as a floating receiver does.
+    #[test]
+    fn walking_ones_of_ten_nets() {
+        let walking: Vec<u64> = (0..10).map(|i| 1 << i).collect();
+        for k in 4..=9 {
+            let at = |level: u64, vectors: &[u64]| check(Network { nets: 10, level, gate: OR }, k, vectors);
+            assert_eq!([1, 0].map(|level| at(level, &walking)), [Ok(Verdict::Pass); 2]);
+            let at_level_1 = if k == 9 { Verdict::Pair(0, 511) } else { Verdict::Pair(1, 513) };
+            assert_eq!([1, 0].map(|level| at(level, &walking[..9])), [Ok(at_level_1), Ok(Verdict::Pair(0, 512))]);
+        }
+        let whole = [1, 0].map(|level| check(Network { nets: 10, level, gate: OR }, 10, &walking));
+        assert_eq!(whole, [Ok(Verdict::Pair(0, 1023)), Ok(Verdict::Pass)]);
+    }
+
     #[test]
     fn grown_sets_are_those_among_all_numbers() {
         for n in 2..=ALL_NUMBERS {

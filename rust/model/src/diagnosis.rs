@@ -6,7 +6,7 @@ use crate::network::{
     all_states, extended, extra_vector, is_state, meet_and_differ, reads, response, shows_driver, walking_vector,
     Network,
 };
-use crate::rows::{bad_state, rows_of_board, rows_of_responses, rows_of_set_on_board, Rows};
+use crate::rows::{bad_class, bad_state, rows_of_board, rows_of_responses, rows_of_set_on_board, Rows};
 use crate::words::{bit, word_of};
 
 /// A record of the findings.
@@ -90,11 +90,11 @@ pub fn fitting(net: Network, m: usize, k: u64, vectors: &[u64], responses: &[u64
     }
 }
 
-/// Row 14. It may be asked of any input, so it says first what no state can give. Over 48 nets or 64 receivers it is
-/// taken not to hold.
+/// Row 14. It may be asked of any input, so it says first what no state can give. Over 48 nets or 64 receivers, and
+/// over 10 nets for a class that row 6 refuses, it is taken not to hold.
 fn no_state_fits(board: &Board, k: u64, vectors: &[u64], responses: &[u64]) -> bool {
     let (net, m) = (board.network, board.receivers());
-    if net.nets > 48 || m > 64 {
+    if net.nets > 48 || m > 64 || net.nets > 10 && bad_class(net.nets, k) {
         return false;
     }
     let shaped = rows_of_responses(m as u64, vectors.len(), responses).admit().is_ok();
@@ -206,6 +206,21 @@ mod tests {
         assert_eq!(diagnose(pull_down, &[6, 5, 3], &[3, 0, 0]), Err(13));
         assert_eq!(diagnose(pull_up, &[6, 5, 3], &[7, 4, 4]), Ok(vec![6, 6, 0]));
         assert_eq!(diagnose(pull_up, &[6, 5, 3], &[5, 4, 4]), Err(14));
+    }
+
+    /// Five nets, of which 0 to 3 are tied together and receivers 2 and 3 float: class 4 has that state, and class 3
+    /// does not. A reach of all five drivers is in class 5 alone.
+    #[test]
+    fn a_reach_of_four_drivers_is_read_back() {
+        let (board, vectors) = (Network { nets: 5, ..PULL_UP }.into(), [0, 1, 2, 4, 8, 16]);
+        let diagnose = |k: u64, responses: &[u64]| diagnose(&board, k, &vectors, responses, 5);
+        let four = [12, 15, 15, 15, 15, 28];
+        assert_eq!(
+            [3, 4, 5].map(|k| diagnose(k, &four)),
+            [Err(14), Ok(vec![15, 15, 0, 0, 16]), Ok(vec![15, 15, 0, 0, 16])]
+        );
+        let five = [30, 31, 31, 31, 31, 31];
+        assert_eq!([3, 4, 5].map(|k| diagnose(k, &five)), [Err(14), Err(14), Ok(vec![31, 0, 0, 0, 0])]);
     }
 
     /// A clock net of three receivers, the second of them floating, and a net of one.

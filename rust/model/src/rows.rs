@@ -57,9 +57,14 @@ pub fn bad_receivers(board: &Board) -> bool {
     m < n || m > 64 || board.owners.iter().any(names_no_net) || (0..n).any(has_none)
 }
 
-/// Row 6.
+/// The most nets for which row 6 admits every class up to n.
+const SMALL_BOARD: u64 = 10;
+
+/// Row 6: k is not 1, 2, 3, n or, for n up to 10, one from 4 to n - 1; or it is above n.
 pub fn bad_class(n: u64, k: u64) -> bool {
-    !(k == 1 || k == 2 || k == 3 || k == n) || k > n
+    let of_every_board = k == 1 || k == 2 || k == 3 || k == n;
+    let of_small_boards = n <= SMALL_BOARD && (4..n).contains(&k);
+    !(of_every_board || of_small_boards) || k > n
 }
 
 /// Row 17.
@@ -126,4 +131,21 @@ fn rows_of_class_and_vectors<'a>(net: Network, k: u64, vectors: &'a [u64]) -> Ro
 /// Rows 9 and 10 on the responses of m receivers to `asked` vectors.
 pub fn rows_of_responses<'a>(m: u64, asked: usize, responses: &'a [u64]) -> Rows<'a> {
     Rows::new().row(9, move || responses.len() != asked).row(10, move || has_high_bit(m, responses))
+}
+
+#[cfg(test)]
+mod tests {
+    use super::*;
+
+    /// The classes that row 6 admits for more than 10 nets, and for up to 10.
+    #[test]
+    fn row_6_by_hand() {
+        let admitted = |n: u64| (0..=n + 1).chain([u64::MAX]).filter(|k| !bad_class(n, *k)).collect::<Vec<u64>>();
+        assert_eq!([11, 12, 48].map(admitted), [[1, 2, 3, 11], [1, 2, 3, 12], [1, 2, 3, 48]]);
+        for n in 2..=10 {
+            assert_eq!(admitted(n), (1..=n).collect::<Vec<u64>>());
+        }
+        assert_eq!([(5, 4), (10, 9), (10, 10), (4, 3)].map(|(n, k)| bad_class(n, k)), [false; 4]);
+        assert_eq!([(11, 4), (11, 9), (11, 10), (10, 11), (4, 5), (2, 3)].map(|(n, k)| bad_class(n, k)), [true; 6]);
+    }
 }

@@ -6,7 +6,7 @@ use Rattle.words.specs.Answers.{refused, full}
 use Rattle.words.specs.Answers.{by-tests}
 use Rattle.network.specs.declared.Network.{Network}
 use Rattle.network.specs.Rows.{set-admission, admission}
-use Rattle.network.proofs.Rows.{set-refuses, set-admits, set-admitted}
+use Rattle.network.proofs.Rows.{set-refuses, set-admits, set-none-holds}
 use Rattle.checker.specs.Rule.{verdict}
 use Rattle.checker.specs.Check.{check-answer}
 use Rattle.checker.proofs.check.Statement.{statement}
@@ -46,8 +46,7 @@ admitted c = sym (c .before .before .admit-set .ensures) ∙ ap admission (c .en
 verdict-of-requires : tie.Need-verdict-of-requires
 verdict-of-requires c κs =
     let a = c .before .before .before .before .args in
-    let s = set-admitted (a .net) (a .class) (a .vectors .now) (admitted c) in
-    (s .vectors-most, s .most, s .class-positive, s .class)
+    set-none-holds (a .net) (a .class) (a .vectors .now) (admitted c)
 
 enum-told-2 : tie.Need-enum-told-2
 enum-told-2 c = search needs

@@ -1,6 +1,5 @@
 use Prim.Native.Nat.{ℕ, _≤_, _<_}
 use native.Mathlib.Omega.{arith}
-use mathlib.Core.Logic.{⊎-elim}
 use mathlib.Core.Path.{_≡_, sym, subst, _∙_}
 use mathlib.Core.List.{List}
 use lib.ListN.{length, take}
@@ -72,8 +71,7 @@ slice-aggregate-class-reaches c = sym (answered-size (c .before .before .before)
 class-reaches-requires : tie.Need-class-reaches-requires
 class-reaches-requires c κs =
     let d = c .before .before .before in
-    let s = admitted (start d) in
-    (⊎-elim (λ l. l) (λ e. absurd (c .before .if1 .left e)) (s .class), answered-few d, start d .pre .2)
+    (c .before .if1 .left, answered-few d, start d .pre .2)
 
 returns-2 : tie.Need-returns-2
 returns-2 c =

@@ -190,9 +190,7 @@ module _ (c : tie.Else3) where
 
 verdict-of-requires : tie.Need-verdict-of-requires
 verdict-of-requires c κs =
-    let a = start c .args in
-    let s = admitted-set (a .net) (a .class) (a .vectors .now) (set-admits-none (set-passed c)) in
-    (s .vectors-most, s .most, s .class-positive, s .class)
+    set-admits-none (set-passed c)
 
 enum-told-2 : tie.Need-enum-told-2
 enum-told-2 c = search needs

@@ -17,11 +17,7 @@ use Rattle.listing.proofs.put_content.Statement.{statement}
 use Rattle.listing.proofs.put_content.Tie as tie
 
 verdict-of-requires : tie.Need-verdict-of-requires
-verdict-of-requires c κs =
-    let s = c .before .before .before in
-    let a = s .args in
-    let set = admitted-set (a .net) (a .class) (a .vectors .now) (s .pre .0) in
-    (set .vectors-most, set .most, set .class-positive, set .class)
+verdict-of-requires c κs = c .before .before .before .pre .0
 
 put-verdict-requires : tie.Need-put-verdict-requires
 put-verdict-requires c κs = search needs

@@ -69,7 +69,7 @@ fit-bytes net k vectors s =
     let most = s .most in
     let level = s .level-byte in
     let gate = s .gate-byte in
-    let class : k ≤ 48 = ⊎-elim (λ l. omega arith) (λ e. omega arith) (s .class) in
+    let class = s .class-most in
     bytes-more (net .nets) (k ∷ net .level ∷ net .gate ∷ []) (omega arith)
     (bytes-more k (net .level ∷ net .gate ∷ []) (omega arith)
     (bytes-more (net .level) (net .gate ∷ []) (omega arith) (bytes-more (net .gate) [] (omega arith) bytes-none)))

@@ -9,13 +9,15 @@ mod timing;
 use fontarelga::{raw, Board, Job, Network, AND, OR};
 use fontarelga::{FINDING_WORDS, JOB_WORDS, MOST_FIRST_VECTORS, MOST_RECEIVERS, MOST_SECOND_VECTORS, RECORD_WORDS};
 use generator::Generator;
-use plain::checker::{hash, pairs};
+use plain::checker::{all_sets, hash, pairs, Search};
 use plain::session::{Record, REACHES};
 use std::hint::black_box;
-use timing::{print_head, print_lines};
+use timing::{print_head, print_lines, Version};
 
 const N: u64 = 48;
 const FEW: u64 = 4;
+/// The most nets for which there are classes between 3 and n.
+const SMALL: u64 = 10;
 const SESSIONS: usize = 1000;
 const STATES: usize = 1000;
 
@@ -40,31 +42,36 @@ fn named(job: &str, network: Network) -> String {
     format!("{job}{gate}{level}{nets}")
 }
 
+/// The baselines of the checker for a class, by name. For class n the search is not used.
+fn baselines(network: Network, k: u64) -> Vec<(&'static str, Search)> {
+    match k {
+        _ if k == network.nets() => vec![("rule", hash)],
+        1..=3 => vec![("pairs", pairs), ("hash", hash)],
+        _ => vec![("all sets", all_sets), ("pairs", pairs)],
+    }
+}
+
 /// Measures the check of one set for one class.
 fn bench_check(network: Network, set: &str, vectors: &[u64], k: u64) {
-    let (mut ours, mut theirs) = ([7; 3], [7; 3]);
+    let mut ours = [7; 3];
     assert_eq!(raw::check(network, k, vectors, &mut ours), 0);
-    assert_eq!(plain::checker::check(pairs, network, k, vectors, &mut theirs), 0);
-    assert_eq!(ours, theirs);
-    assert_eq!(plain::checker::check(hash, network, k, vectors, &mut theirs), 0);
-    assert_eq!(ours, theirs);
     let verdict = if ours[0] == 0 { "pass" } else { "pair" };
-    let mut by_pairs = [0; 3];
+    let plain_call = |(name, search): (&'static str, Search)| {
+        let mut theirs = [7; 3];
+        assert_eq!(plain::checker::check(search, network, k, vectors, &mut theirs), 0);
+        assert_eq!(ours, theirs);
+        let call = move || {
+            black_box(plain::checker::check(search, network, k, black_box(vectors), black_box(&mut theirs)));
+        };
+        (name, call)
+    };
+    let mut plain_calls: Vec<_> = baselines(network, k).into_iter().map(plain_call).collect();
+    let mut versions: Vec<Version> = plain_calls.iter_mut().map(|(name, call)| (*name, call as _)).collect();
     let mut call = || {
         black_box(raw::check(network, k, black_box(vectors), black_box(&mut ours)));
     };
-    let mut call_hash = || {
-        black_box(plain::checker::check(hash, network, k, black_box(vectors), black_box(&mut theirs)));
-    };
-    let mut call_pairs = || {
-        black_box(plain::checker::check(pairs, network, k, black_box(vectors), black_box(&mut by_pairs)));
-    };
     let job = format!("{}, k = {k}, {set}: {verdict}", named("check", network));
-    if k == network.nets() {
-        print_lines(&job, &mut call, &mut [("rule", &mut call_hash)]);
-    } else {
-        print_lines(&job, &mut call, &mut [("pairs", &mut call_pairs), ("hash", &mut call_hash)]);
-    }
+    print_lines(&job, &mut call, &mut versions);
 }
 
 fn bench_diagnosis(board: &Board, k: u64, g: &mut Generator) {
@@ -220,7 +227,7 @@ fn bench_checks(network: Network, g: &mut Generator) {
 /// each. The gate has no part in reading a file and in the findings, so these are measured once a level.
 fn bench_combination(gate: u64, level: u64) {
     let g = &mut Generator(2024);
-    let [network, few] = [N, FEW].map(|nets| Network::new(nets).with_level(level).with_gate(gate));
+    let [network, few, small] = [N, FEW, SMALL].map(|nets| Network::new(nets).with_level(level).with_gate(gate));
     let board = &Board::of(network);
     bench_checks(network, g);
     [1, 2, 3].iter().for_each(|k| bench_check(few, "walking", &walking(few), *k));
@@ -231,6 +238,13 @@ fn bench_combination(gate: u64, level: u64) {
         bench_findings(board, g);
     }
     bench_several_receivers(network, g);
+    bench_classes_of_small_boards(small, g);
+}
+
+/// Checks of every class between 3 and n, and diagnoses of the least and the greatest.
+fn bench_classes_of_small_boards(network: Network, g: &mut Generator) {
+    (4..SMALL).for_each(|k| bench_check(network, "walking", &walking(network), k));
+    [4, SMALL - 1].iter().for_each(|k| bench_diagnosis(&Board::of(network), *k, g));
 }
 
 /// The jobs that take receivers, with the most of them.

@@ -1,4 +1,4 @@
-//! The checker, with two ways to look for sets that read alike.
+//! The checker, with three ways to look for sets that read alike.
 
 use super::{admit_set, all_drivers, code, dominant, extra_vector, turned};
 use fontarelga::{Network, OR};
@@ -66,6 +66,20 @@ pub fn pairs(network: Network, k: u64, vectors: &[u64]) -> Pair {
     None
 }
 
+/// All driver sets, whatever the class: what each reads is worked out once, and then all pairs are gone over.
+pub fn all_sets(network: Network, k: u64, vectors: &[u64]) -> Pair {
+    let (driven, floating) = (turned(network.nets(), vectors), floating(network, vectors.len()));
+    let of_class = |set: usize| u64::from(set.count_ones()) <= k;
+    let sets = 0..=all_drivers(network);
+    let readings: Vec<u64> = sets.map(|set| reading(network.gate(), set, &driven, floating)).collect();
+    for (b, word) in readings.iter().enumerate().filter(|(b, _)| of_class(*b)) {
+        if let Some(a) = (0..b).find(|a| readings[*a] == *word && of_class(*a)) {
+            return Some((a as u64, b as u64));
+        }
+    }
+    None
+}
+
 /// A hash map of readings.
 pub fn hash(network: Network, k: u64, vectors: &[u64]) -> Pair {
     let (sets, readings) = readings(network, k, vectors);
@@ -92,8 +106,8 @@ pub fn walking(network: Network, vectors: &[u64]) -> Pair {
     }
 }
 
-/// One of the two searches for k below n.
-type Search = fn(Network, u64, &[u64]) -> Pair;
+/// One of the searches for k below n.
+pub type Search = fn(Network, u64, &[u64]) -> Pair;
 
 /// The call, with one of the searches.
 pub fn check(search: Search, network: Network, k: u64, vectors: &[u64], verdict: &mut [u64]) -> u64 {

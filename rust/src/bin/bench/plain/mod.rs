@@ -78,7 +78,8 @@ pub fn admit_set_on_board(board: &Board, k: u64, vectors: &[u64]) -> Result<(), 
 /// Rows 6, 17, 20, 7 and 8.
 fn admit_class_and_vectors(network: Network, k: u64, vectors: &[u64]) -> Result<(), u64> {
     let n = network.nets();
-    if !(1..=3).contains(&k) && k != n || k > n {
+    let most = if n <= 10 { n } else { 3 };
+    if !(1..=most).contains(&k) && k != n {
         return Err(6);
     }
     admit_level_and_gate(network)?;
