@@ -189,16 +189,13 @@ fn random_sets() {
     }
 }
 
-/// The extra vector, and the walking vectors but for one net's: that driver drives 1, or 0 with AND, beside each of
-/// `behind` others alone. In a reach with all of those it is not seen, and otherwise every set is. Gives the set, those
-/// others, and the driver.
-fn hiding_set(g: &mut Generator, net: Network, behind: usize) -> (Vec<u64>, u64, u64) {
-    let mut nets: Vec<u64> = (0..net.nets).collect();
-    g.shuffle(&mut nets);
+/// The extra vector, and the walking vectors but for that of the first net named: its driver drives 1, or 0 with AND,
+/// beside each of the next `behind` alone. In a reach with all of those it is not seen, and otherwise every set is.
+/// Gives the set, those others, and the driver.
+fn hiding_set(net: Network, nets: &[u64], behind: usize) -> (Vec<u64>, u64, u64) {
     let hidden = 1 << nets[0];
     let (others, before) = (nets[1..].iter().map(|i| 1u64 << i), nets[1..=behind].iter().map(|i| 1 << i));
-    let mut vectors: Vec<u64> = [0].into_iter().chain(others).chain(before.clone().map(|i: u64| i | hidden)).collect();
-    g.shuffle(&mut vectors);
+    let vectors: Vec<u64> = [0].into_iter().chain(others).chain(before.clone().map(|i: u64| i | hidden)).collect();
     (for_gate(net, &vectors), before.sum(), hidden)
 }
 
@@ -210,7 +207,10 @@ fn a_driver_hidden_behind_others() {
     let (mut passed, mut pairs) = (0, 0);
     for n in 5..=10 {
         for (behind, net) in (1..n).flat_map(|behind| each_combination(n).map(|net| (behind, net))) {
-            let (vectors, others, hidden) = hiding_set(g, net, behind as usize);
+            let mut nets: Vec<u64> = (0..n).collect();
+            g.shuffle(&mut nets);
+            let (mut vectors, others, hidden) = hiding_set(net, &nets, behind as usize);
+            g.shuffle(&mut vectors);
             for k in 1..n {
                 let shown = if k <= behind { Verdict::Pass } else { Verdict::Pair(others, others | hidden) };
                 check_gives(net, k, &vectors, &Ok(shown));
@@ -220,6 +220,20 @@ fn a_driver_hidden_behind_others() {
     }
     println!("sets in which a driver is hidden: {passed} passed, {pairs} shown as pairs");
     assert_eq!((passed, pairs), (4 * (10 + 15 + 21 + 28 + 36 + 45), 4 * (6 + 10 + 15 + 21 + 28 + 36)));
+}
+
+/// Driver 1 hidden behind all above it: only the last set of class n - 1, all drivers but 0, reads as a smaller one.
+#[test]
+fn the_last_set_of_a_class() {
+    for n in 5..=10 {
+        let (nets, last): (Vec<u64>, u64) = ((1..n).chain([0]).collect(), low_bits(n) - 1);
+        for net in each_combination(n) {
+            let (vectors, others, hidden) = hiding_set(net, &nets, n as usize - 2);
+            assert_eq!(others | hidden, last);
+            check_gives(net, n - 1, &vectors, &Ok(Verdict::Pair(last - 2, last)));
+            check_gives(net, n - 2, &vectors, &Ok(Verdict::Pass));
+        }
+    }
 }
 
 /// Walking vectors alone pass for every class below n, and for class n where there is no extra vector. Over vector 0

@@ -1,5 +1,5 @@
--- The checker's verdict and that of the rule for k below n agree, whatever the class: below n they are the same, and at n
--- both are pass or neither is.
+-- The checker's verdict and that of the rule for k below n agree, whatever the class: below n they are the same, and at
+-- n both are pass or neither is.
 use mathlib.Core.Path.{_≡_, refl}
 use mathlib.Core.Logic.{_≢_, _↔_}
 use mathlib.Core.List.{List}

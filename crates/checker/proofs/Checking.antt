@@ -24,7 +24,8 @@ module _ (net : Network) (k : ℕ) (vectors : List ℕ) where
   pub check-admitted : NoneHolds (SetRows net k vectors) → check-answer net k vectors ≡ full (verdict net k vectors)
   check-admitted none = go (check-answer net k vectors) check-by-table
     where
-      go : (a : Answer Verdict) → ByTable (SetRows net k vectors) (Rule net k vectors) a → a ≡ full (verdict net k vectors)
+      go : (a : Answer Verdict) → ByTable (SetRows net k vectors) (Rule net k vectors) a
+          → a ≡ full (verdict net k vectors)
       go (refused number) t = absurd (table-not-refused (Rule net k vectors) (SetRows net k vectors) number none t)
       go (full v) t =
           ap full (rule-determined net k vectors v (verdict net k vectors)

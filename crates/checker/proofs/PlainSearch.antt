@@ -23,7 +23,10 @@ module _ (net : Network) (k : ℕ) (vectors words : List ℕ) (read : AllRead ne
   unfolding smaller-alike
   finds-smaller b inside room =
       ap (first-alike net k (take b words)) (read b inside)
-      ∙ ap (λ (n : ℕ). least n 0 (λ set. few-drivers net k set && eqb (at (take b words) set) (sequential-response net vectors b)))
+      ∙ ap (λ (n : ℕ). least n 0 (λ set. few-drivers net k set && eqb (at (take b words) set) own))
       (length-take-le b words room)
-      ∙ least-same _ _ b (λ z l. ap (λ (w : ℕ). few-drivers net k z && eqb w (sequential-response net vectors b))
+      ∙ least-same _ _ b (λ z l. ap (λ (w : ℕ). few-drivers net k z && eqb w own)
       (getD-take b words z 0 l ∙ read z (omega arith)))
+    where
+      own : ℕ
+      own = sequential-response net vectors b

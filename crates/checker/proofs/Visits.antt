@@ -18,8 +18,8 @@ use Rattle.words.specs.declared.Search.{Search}
 use Rattle.words.specs.declared.Search.the-variants.{Found, Missing}
 use Rattle.words.specs.Bits.{at}
 use Rattle.words.specs.Searching.{least, is-found, passing, sets-of-class, position}
-use Rattle.words.proofs.Tests.{less-or-not, and-both, and-false}
-use Rattle.words.proofs.Searching.{Least, first, nowhere, least-found, least-missing, least-same, position-is}
+use Rattle.words.proofs.Tests.{less-or-not}
+use Rattle.words.proofs.Searching.{Least, first, nowhere, least-same, position-is}
 use Rattle.words.proofs.Making.{map-at, map-snoc}
 use Rattle.words.proofs.Counting.{sets-with, sets-gap, sets-front, sets-grow, least-in-class, none-in-class}
 use Rattle.chains.specs.Chains.{Chains}
@@ -28,7 +28,7 @@ use Rattle.network.specs.Reading.{sequential-response}
 use Rattle.network.specs.States.{few-drivers}
 use Rattle.network.proofs.States.{few-by-ones}
 use Rattle.checker.specs.declared.Verdict.the-variants.{Pass, Pair}
-use Rattle.checker.specs.Rule.{smaller-alike, pair-with, pair-at, bounded-verdict}
+use Rattle.checker.specs.Rule.{smaller-alike, bounded-verdict}
 use Rattle.checker.specs.declared.search.Visited.{Visited}
 use Rattle.checker.specs.declared.search.Visited.the-variants.{Confused, Count}
 use Rattle.checker.specs.Seen.{Seen, Outcome}
@@ -130,7 +130,8 @@ module _ (net : Network) (k : ℕ) (vectors : List ℕ) where
                 ∙ sym (map-snoc (sequential-response net vectors) (sets-of-class k next) next)
                 ∙ ap (map (sequential-response net vectors)) (sym more);
             none-confused = λ z m l. ⊎-elim (λ before. seen .none-confused z before l)
-                (λ after. let q : next ≡ z = omega arith in subst (λ (x : ℕ). confused-at net k vectors x ≡ false) q alone) (less-or-not z next);
+                (λ after. let q : next ≡ z = omega arith in
+                subst (λ (x : ℕ). confused-at net k vectors x ≡ false) q alone) (less-or-not z next);
           }
         where
           alone : confused-at net k vectors next ≡ false

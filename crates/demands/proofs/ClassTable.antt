@@ -1,6 +1,6 @@
 -- The cases of classes: which there are by the row's own words, the rest by computation.
 use mathlib.Core.Path.{_≡_, refl}
-use mathlib.Core.Logic.{_⊎_, inl, inr, ⊎-elim, _≢_}
+use mathlib.Core.Logic.{_⊎_, inl, inr, ⊎-elim}
 use Prim.Native.Nat.{ℕ, _≤_, _<_}
 use native.Mathlib.Omega.{arith}
 use Rattle.words.proofs.Tests.{less-or-not, three-ways}
@@ -84,6 +84,8 @@ small-classes = record {
   empty-or-1 = refl;
   empty-and-0 = refl;
   empty-and-1 = refl;
+  eight-4 = refl;
+  eight-5 = refl;
   walking-or-0 = refl;
   walking-or-1 = refl;
   walking-and-0 = refl;
@@ -93,6 +95,7 @@ small-classes = record {
   class-n = refl;
   searched-n = refl;
   class-n-walking = refl;
+  searched-n-walking = refl;
   responds-or = refl;
   responds-and = refl;
   four-of-3 = refl;

@@ -1,15 +1,9 @@
 -- The plain search and the call *check* agree.
 use mathlib.Core.Path.{_≡_, sym, ap, _∙_}
-use mathlib.Core.Logic.{_≢_, _↔_}
-use mathlib.Core.List.{List}
-use Prim.Native.Nat.{ℕ}
-use Rattle.words.specs.Answers.{full, NoneHolds}
-use Rattle.network.specs.declared.Network.{Network}
-use Rattle.network.specs.Rows.{SetRows}
+use Rattle.words.specs.Answers.{full}
 use Rattle.network.proofs.Rows.{admitted-set}
 use Rattle.checker.specs.declared.Verdict.the-variants.{Pass}
 use Rattle.checker.specs.Rule.{verdict}
-use Rattle.checker.specs.Check.{check-answer}
 use Rattle.checker.proofs.Agreement.{agree-below, agree-pass}
 use Rattle.checker.proofs.Checking.{check-admitted}
 use Rattle.demands.specs.PlainSearch.{SearchAgrees}
@@ -22,6 +16,8 @@ search-agrees = record {
   at-n = λ net vectors small none.
       let s = admitted-set net (net .nets) vectors none in
       let agree = agree-pass net (net .nets) vectors (s .two) (s .narrow) in
-      let called = check-admitted net (net .nets) vectors none in
-      (λ e. agree .0 (let same : full (verdict net (net .nets) vectors) ≡ full Pass = sym called ∙ e in cc), λ e. called ∙ ap full (agree .1 e));
+      let called = check-admitted net (net .nets) vectors none in (
+        λ e. agree .0 (let same : full (verdict net (net .nets) vectors) ≡ full Pass = sym called ∙ e in cc),
+        λ e. called ∙ ap full (agree .1 e),
+      );
 }

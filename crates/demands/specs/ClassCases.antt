@@ -45,6 +45,10 @@ set-of-six = 34 ∷ 1 ∷ 6 ∷ 4 ∷ 8 ∷ 16 ∷ 32 ∷ 10 ∷ []
 abbrev pub hides-driver-1 : List ℕ
 hides-driver-1 = 0 ∷ 1 ∷ 4 ∷ 8 ∷ 16 ∷ 6 ∷ 10 ∷ 18 ∷ []
 
+-- net 7 of eight never drives alone: nets 0 to 3 in a reach hide it
+abbrev pub strobe-of-eight : List ℕ
+strobe-of-eight = 1 ∷ 2 ∷ 4 ∷ 8 ∷ 16 ∷ 32 ∷ 64 ∷ 129 ∷ 130 ∷ 132 ∷ 136 ∷ []
+
 -- *response from a state* and *diagnosis* for a class of five nets, with room for five words
 abbrev pub respond-as : Network → ℕ → (vectors state : List ℕ) → Answer (List ℕ)
 respond-as net k vectors state = response-answer net (own net) k vectors state 5
@@ -90,7 +94,10 @@ pub record SmallClasses : Type 0 where
   pub empty-or-1 : check-answer (wired-or 5 1) 4 (31 ∷ []) ≡ full (Pair 0 1)
   pub empty-and-0 : check-answer (wired-and 5 0) 4 (0 ∷ []) ≡ full (Pair 0 1)
   pub empty-and-1 : check-answer (wired-and 5 1) 4 (31 ∷ []) ≡ full (Pair 0 1)
-  -- the walking vectors alone pass below n: what reads as the empty set does would be all five drivers
+  -- a pair that only sets of five drivers show
+  pub eight-4 : check 8 4 strobe-of-eight ≡ full Pass
+  pub eight-5 : check 8 5 strobe-of-eight ≡ full (Pair 15 143)
+  -- the walking vectors alone pass below n: only all five drivers could read as the empty set does
   pub walking-or-0 : check-answer (wired-or 5 0) 4 walking-ones ≡ full Pass
   pub walking-or-1 : check-answer (wired-or 5 1) 4 walking-ones ≡ full Pass
   pub walking-and-0 : check-answer (wired-and 5 0) 4 walking-zeros ≡ full Pass
@@ -101,7 +108,9 @@ pub record SmallClasses : Type 0 where
   -- ---- class n keeps its rule, and its pair, where the search shows another
   pub class-n : check 5 5 (0 ∷ []) ≡ full (Pair 30 31)
   pub searched-n : our-plain-search (network-of 5) 5 (0 ∷ []) ≡ Pair 1 2
+  -- it goes up to all drivers
   pub class-n-walking : check 5 5 walking-ones ≡ full (Pair 0 31)
+  pub searched-n-walking : our-plain-search (network-of 5) 5 walking-ones ≡ Pair 0 31
   -- ---- *response from a state*: a reach of four drivers is of class 4 and not of 3, one of five is not of 4
   pub responds-or : respond-as (network-of 5) 4 walking-ones four-shorted ≡ full (15 ∷ 15 ∷ 15 ∷ 15 ∷ 16 ∷ [])
   pub responds-and : respond-as (wired-and 5 1) 4 walking-zeros four-shorted ≡ full (16 ∷ 16 ∷ 16 ∷ 16 ∷ 15 ∷ [])
@@ -130,7 +139,8 @@ pub record SmallClasses : Type 0 where
       (16 ∷ 1 ∷ 20 ∷ 5 ∷ 8 ∷ 2 ∷ 14 ∷ []) 5
       ≡ full (1 ∷ 2 ∷ 4 ∷ 8 ∷ 16 ∷ [])
   -- the room is that of any class
-  pub no-room : diagnosis-answer (network-of 5) (own (network-of 5)) 4 walking-ones (15 ∷ 15 ∷ 15 ∷ 15 ∷ 16 ∷ []) 4 ≡ refused 12
+  pub no-room : diagnosis-answer (network-of 5) (own (network-of 5)) 4 walking-ones (15 ∷ 15 ∷ 15 ∷ 15 ∷ 16 ∷ []) 4
+      ≡ refused 12
 
 pub record ClassCases : Type 0 where
   pub row-6 : RowSix

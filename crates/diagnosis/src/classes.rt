@@ -14,7 +14,8 @@ use network::Network;
 fn note(set: u64, word: u64, answers: &[u64], reaches: &mut [u64])
     requires { ⌜ length (now answers) ≤ length (now reaches) ⌝ }
     ensures { λ r. ⌜ ((i : ℕ) → i < length (now (answers .entry))
-        → at (now (reaches .exit)) i ≡ cond (eqb (at (now (answers .entry)) i) word) set (at (now (reaches .entry)) i)) ⌝ }
+        → at (now (reaches .exit)) i
+        ≡ cond (eqb (at (now (answers .entry)) i) word) set (at (now (reaches .entry)) i)) ⌝ }
 {
     let mut i: usize = 0;
     while i < answers.len() {
@@ -25,9 +26,9 @@ fn note(set: u64, word: u64, answers: &[u64], reaches: &mut [u64])
     }
 }
 
-// Of each receiver the only set of the class that can have answered so, by one pass over all driver sets.
+// Of each receiver the only set of the class that can have answered so, by one pass over all driver sets: at most 1,024.
 fn note_all(net: Network, class: u64, vectors: &[u64], answers: &[u64], reaches: &mut [u64])
-    requires { ⌜ (length (now answers) ≤ length (now reaches)) × Passed net class (now vectors) ⌝ }
+    requires { ⌜ (net .nets ≤ 10) × (length (now answers) ≤ length (now reaches)) × Passed net class (now vectors) ⌝ }
     ensures { λ r. ⌜ LookedUp net class (now (vectors .entry)) (now (answers .entry)) (now (reaches .exit)) ⌝ }
 {
     let end = words::sets::bit_word(net.nets);

@@ -1,13 +1,13 @@
 -- Each row's test decides the row, and what rows that do not hold tell.
 use mathlib.Core.Path.{_≡_, refl}
-use mathlib.Core.Bool.{Bool, not, _||_}
+use mathlib.Core.Bool.{Bool, not}
 use mathlib.Core.Logic.{_⊎_, inl, inr, ⊎-elim, _≢_}
 use mathlib.Core.List.{List, [], _++_}
 use Prim.Native.Nat.{ℕ, _^_, _≤_, _<_}
 use native.Mathlib.Nat.{lt-of-not-le, eq-or-lt-of-le}
 use native.Mathlib.Omega.{arith}
 use lib.Arith.{lt-one}
-use lib.Dec.{leb, eqb}
+use lib.Dec.{leb}
 use lib.ListN.{length}
 use Rattle.words.specs.Bits.{at}
 use Rattle.words.specs.Answers.{Decides, Decided, NoneHolds, refused, full, by-tests}
@@ -20,8 +20,8 @@ use Rattle.network.specs.declared.Network.{Network}
 use Rattle.network.specs.Rows.{HasReceiver, Row21, bad-receivers, ClassRows, class-tests, BoardRows, board-tests}
 use Rattle.network.specs.Rows.{board-refusal, AdmittedBoard, BoardSetRows, board-set-tests, board-admission}
 use Rattle.network.specs.Rows.{NoBit, no-bit, Row5, Row6, Row17, Row20, Row7, HighBit, Row9, Row12, bad-net-count}
-use Rattle.network.specs.Rows.{NamedClass, named-class, bad-class, bad-level, bad-gate, bad-vector-count, has-high-bit, bad-response-count}
-use Rattle.network.specs.Rows.{no-room, SetRows, set-tests, set-admission}
+use Rattle.network.specs.Rows.{bad-class, bad-level, bad-gate, bad-vector-count, has-high-bit, bad-response-count}
+use Rattle.network.specs.Rows.{NamedClass, named-class, no-room, SetRows, set-tests, set-admission}
 
 pub decides-row-5 : (net : Network) → Decides (bad-net-count net) (Row5 net)
 decides-row-5 net = decides-or (decides-less (net .nets) 2) (decides-less 48 (net .nets))
@@ -244,8 +244,9 @@ admitted-set net k vectors (a, (b, (level, (gate, (c, (d, e)))))) =
     at-most : ¬ (net .nets < k) → k ≤ net .nets
     at-most n = omega (arith, n)
 
--- a class that is neither n nor so small that any board has it is of a small board
-pub small-board : {net : Network} {k : ℕ} {vectors : List ℕ} → AdmittedSet net k vectors → k ≢ net .nets → 3 < k → net .nets ≤ 10
+-- a class that is neither n nor one that every board has is of a small board
+pub small-board : {net : Network} {k : ℕ} {vectors : List ℕ} → AdmittedSet net k vectors → k ≢ net .nets → 3 < k
+    → net .nets ≤ 10
 small-board s differ more = ⊎-elim (λ l. omega (arith, l, more)) (⊎-elim (λ e. absurd (differ e)) (λ l. l)) (s .class)
 
 -- a call on a test set, by what those rows say

@@ -10,7 +10,7 @@ use Rattle.words.proofs.Answers.{owed-refused}
 use Rattle.network.specs.declared.Network.{Network}
 use Rattle.network.specs.Rows.{SetRows, board-admission, admission, bad-response-count, has-high-bit, no-room}
 use Rattle.network.proofs.Rows.{board-set-refuses, board-set-admits, board-set-none-holds, set-of-board-set}
-use Rattle.network.proofs.Rows.{receivers-of-board-set, admitted-set, decides-high-bit}
+use Rattle.network.proofs.Rows.{receivers-of-board-set, decides-high-bit}
 use Rattle.checker.specs.Rule.{verdict}
 use Rattle.diagnosis.specs.ReadBack.{read-back}
 use Rattle.diagnosis.specs.Diagnosis.{not-passed, own-tests, fit-answer, diagnosis-answer}

@@ -64,8 +64,8 @@ loop-again c =
     let a = start g .args in
     let word = c .sequential-response .result .0 in (
       length-set (l .words) (l .next) word ∙ l .inv .0,
-      below-more (λ z. at (set (l .words) (l .next) word) z ≡ sequential-response (a .net) (a .vectors .now) z) (l .next)
-          (λ z m. getD-set-other (l .words) (l .next) z word 0 (λ e. omega (arith, e, m)) ∙ l .inv .1 z m)
+      below-more (λ z. at (set (l .words) (l .next) word) z ≡ sequential-response (a .net) (a .vectors .now) z)
+          (l .next) (λ z m. getD-set-other (l .words) (l .next) z word 0 (λ e. omega (arith, e, m)) ∙ l .inv .1 z m)
           (getD-set-same (l .words) (l .next) word 0 (room g) ∙ c .sequential-response .ensures),
     )
 
@@ -73,7 +73,8 @@ same-length : tie.Need-same-length Inv-loop μ-loop
 same-length c = search needs
 
 returns : tie.Need-returns Inv-loop μ-loop
-returns c set m = c .before .loop .inv .1 set (omega (arith, m, c .before .before .bit-word .ensures, c .loop-test .left))
+returns c set m =
+    c .before .loop .inv .1 set (omega (arith, m, c .before .before .bit-word .ensures, c .loop-test .left))
 
 pub fill-readings-spec : {M : Type 1} → statement M
 fill-readings-spec =

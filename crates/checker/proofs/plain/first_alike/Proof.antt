@@ -69,7 +69,8 @@ loop-again c =
     let not-here : alike (a .net) (a .class) (a .words .now) (a .word) (l .set) ≡ false =
     ⊎-elim {C = few && same ≡ false} (λ w. ap (λ (t : Bool). t && same) (sym (w .1 .ensures) ∙ w .2 .left))
     (λ w. ap (λ (t : Bool). few && t) (ne-eqb _ _ (w .left)) ∙ and-false few) (c .if1 .came) in
-    (search needs, below-more (λ z. alike (a .net) (a .class) (a .words .now) (a .word) z ≡ false) (l .set) (l .inv .1) not-here)
+    let all = below-more (λ z. alike (a .net) (a .class) (a .words .now) (a .word) z ≡ false) (l .set) (l .inv .1) not-here in
+    (search needs, all)
 
 returns-2 : tie.Need-returns-2 Inv-loop μ-loop
 returns-2 c =

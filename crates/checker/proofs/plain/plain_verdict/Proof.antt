@@ -86,9 +86,8 @@ looked-for : (c : tie.After-first-alike Inv-loop μ-loop) → let g = c .before 
 looked-for c =
     let g = c .before .before .before .before in
     let a = start g .args in
-    c .first-alike .ensures
-    ∙ finds-smaller (a .net) (a .class) (a .vectors .now) (words g) (g .before .before .before .fill-readings .ensures) (b g)
-    (inside g) (fits g)
+    let read = g .before .before .before .fill-readings .ensures in
+    c .first-alike .ensures ∙ finds-smaller (a .net) (a .class) (a .vectors .now) (words g) read (b g) (inside g) (fits g)
 
 enum-known-found : tie.Need-enum-known-found Inv-loop μ-loop
 enum-known-found c = search needs
@@ -98,8 +97,8 @@ returns c =
     let f = c .before .before .before in
     let g = f .before .before .before .before in
     let a = start g .args in
-    sym (first-pair (a .net) (a .class) (a .vectors .now) (c .before .found .given .0 .0) (b g) (inside g) (g .before .loop .inv)
-    (sym (f .before .before .before .few-drivers .ensures) ∙ f .before .before .if1 .taken)
+    sym (first-pair (a .net) (a .class) (a .vectors .now) (c .before .found .given .0 .0) (b g) (inside g)
+    (g .before .loop .inv) (sym (f .before .before .before .few-drivers .ensures) ∙ f .before .before .if1 .taken)
     (sym (looked-for f) ∙ c .before .found .given .1))
 
 enum-told : tie.Need-enum-told Inv-loop μ-loop
@@ -116,20 +115,21 @@ loop-again c =
     let d = c .before in
     let g = d .before in
     let a = start g .args in
-    let not-confused : confused-at (a .net) (a .class) (a .vectors .now) (b g) ≡ false =
-    ⊎-elim {C = confused-at (a .net) (a .class) (a .vectors .now) (b g) ≡ false}
+    below-more (λ z. confused-at (a .net) (a .class) (a .vectors .now) z ≡ false) (b g) (g .before .loop .inv)
+    (⊎-elim {C = confused-at (a .net) (a .class) (a .vectors .now) (b g) ≡ false}
     (λ w. none-alike (a .net) (a .class) (a .vectors .now) (b g)
-    (sym (looked-for (record { before = record { before = record { before = d; if1 = w .0 }; words3 = w .1 }; first-alike = w .2 }))
-    ∙ w .4 .given .1))
-    (λ w. not-few (a .net) (a .class) (a .vectors .now) (b g) (sym (d .few-drivers .ensures) ∙ w .left)) (c .if1 .came) in
-    below-more (λ z. confused-at (a .net) (a .class) (a .vectors .now) z ≡ false) (b g) (g .before .loop .inv) not-confused
+    (sym (looked-for (record {
+      before = record { before = record { before = d; if1 = w .0 }; words3 = w .1 };
+      first-alike = w .2;
+    })) ∙ w .4 .given .1))
+    (λ w. not-few (a .net) (a .class) (a .vectors .now) (b g) (sym (d .few-drivers .ensures) ∙ w .left)) (c .if1 .came))
 
 returns-2 : tie.Need-returns-2 Inv-loop μ-loop
 returns-2 c =
     let l = c .before .loop in
     let a = c .before .before .before .before .before .before .before .args in
-    sym (all-pass (a .net) (a .class) (a .vectors .now)
-    (λ z m. l .inv z (omega (arith, m, c .before .before .before .before .before .bit-word .ensures, c .loop-test .left))))
+    let end = c .before .before .before .before .before .bit-word .ensures in
+    sym (all-pass (a .net) (a .class) (a .vectors .now) (λ z m. l .inv z (omega (arith, m, end, c .loop-test .left))))
 
 pub plain-verdict-spec : {M : Type 1} → statement M
 plain-verdict-spec =

@@ -1,7 +1,7 @@
 use borrow.Author.Needs.{needs}
 use native.Mathlib.Omega.{arith}
 use mathlib.Core.Path.{_∙_}
-use Rattle.network.proofs.Rows.{AdmittedSet, admitted-set}
+use Rattle.network.proofs.Rows.{AdmittedSet, admitted-set, small-board}
 use Rattle.diagnosis.proofs.PassedSets.{passed-search}
 use Rattle.diagnosis.proofs.classes.class_reaches.Statement.{statement}
 use Rattle.diagnosis.proofs.classes.class_reaches.Tie as tie
@@ -14,7 +14,8 @@ slice-aggregate-note-all c = search needs
 
 note-all-requires : tie.Need-note-all-requires
 note-all-requires c κs =
-    let d = c .before .before .before .before in (omega (arith, d .pre .1), d .pre .2)
+    let d = c .before .before .before .before in
+    (small-board (admitted d) (d .pre .0) (c .before .if1 .taken), omega (arith, d .pre .1), d .pre .2)
 
 returns : tie.Need-returns
 returns c = (search needs, λ i l. c .before .note-all .ensures i l)

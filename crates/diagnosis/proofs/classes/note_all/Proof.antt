@@ -23,10 +23,10 @@ abbrev μ-loop : tie.MeasureT-loop
 μ-loop net class vectors answers reaches₀ end set₀ reaches set = end - set
 
 admitted : (c : tie.Start Inv-loop μ-loop) → AdmittedSet (c .args .net) (c .args .class) (c .args .vectors .now)
-admitted c = admitted-set (c .args .net) (c .args .class) (c .args .vectors .now) (c .pre .1 .0)
+admitted c = admitted-set (c .args .net) (c .args .class) (c .args .vectors .now) (c .pre .2 .0)
 
 bit-word-requires : tie.Need-bit-word-requires Inv-loop μ-loop
-bit-word-requires c κs = let s = admitted (c .before .before .before) in omega (arith, s .most)
+bit-word-requires c κs = omega (arith, c .before .before .before .pre .0)
 
 loop-holds : tie.Need-loop-holds Inv-loop μ-loop
 loop-holds c =
@@ -41,10 +41,10 @@ module _ (c : tie.In-loop Inv-loop μ-loop) where
   inside : c .before .loop .set < 2 ^ (start .args .net .nets)
   inside = omega (arith, c .before .before .bit-word .ensures, c .loop-test .taken)
 
-  below : c .before .loop .set < 2 ^ 48
-  below =
+  few : c .before .loop .set < 1024
+  few =
       let n = start .args .net .nets in
-      let most : 2 ^ n ≤ 2 ^ 48 = pow-mono {i = n} {j = 48} (admitted start .most) in
+      let most : 2 ^ n ≤ 2 ^ 10 = pow-mono {i = n} {j = 10} (start .pre .0) in
       omega (arith, inside, most)
 
 few-drivers-requires : tie.Need-few-drivers-requires Inv-loop μ-loop
@@ -55,10 +55,10 @@ sequential-response-requires c κs = let g = c .before .before in (admitted (sta
 
 note-requires : tie.Need-note-requires Inv-loop μ-loop
 note-requires c κs =
-    let g = c .before .before .before .before in omega (arith, start g .pre .0, g .before .loop .inv .0)
+    let g = c .before .before .before .before in omega (arith, start g .pre .1, g .before .loop .inv .0)
 
 add-set : tie.Need-add-set Inv-loop μ-loop
-add-set c = omega (arith, below (c .before .before))
+add-set c = omega (arith, few (c .before .before))
 
 loop-less : tie.Need-loop-less Inv-loop μ-loop
 loop-less c = omega (arith, c .before .before .loop-test .taken)
@@ -73,7 +73,7 @@ loop-again c =
     (λ w. (
       let same : length (w .3 .last .1 .1 .1 .0) ≡ length (l .reaches) = search needs in ap length (w .6) ∙ same ∙ l .inv .0,
       noted-next (a .net) (a .class) (a .vectors .now) (a .answers .now) (l .reaches) (c .if1 .reaches) (l .set) (l .inv .1)
-          (passed-sets-apart (a .net) (a .class) (a .vectors .now) (s .pre .1)) (inside g)
+          (passed-sets-apart (a .net) (a .class) (a .vectors .now) (s .pre .2)) (inside g)
           (sym (c .before .few-drivers .ensures) ∙ w .0 .taken)
           (λ i m. ap (λ (ws : List ℕ). at ws i) (w .6) ∙ w .3 .ensures i m
           ∙ ap (λ (x : ℕ). cond (eqb (at (a .answers .now) i) x) (l .set) (at (l .reaches) i)) (w .1 .ensures)),
