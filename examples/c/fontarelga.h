@@ -23,8 +23,8 @@
  *
  * nets is n, 2 to 48. level is the soft level, 0 or 1: what a receiver reads that no driver reaches. gate is
  * FONTARELGA_GATE_OR or FONTARELGA_GATE_AND. receivers has the net of each receiver, n to 64 of them, at least one on
- * each net; its length is m, and an empty list is refused with 21 as any other that is too short. class_ is k: 1, 2,
- * 3, n or, for n up to 10, one from 4 to n - 1.
+ * each net; its length is m, and an empty list is refused with 21 as any other that is too short. class_ is k, the most
+ * drivers of a reach: 1, 2, 3, n or, for n up to 10, one from 4 to n - 1.
  * Bit i of a word stands for net i, and in responses and answers for receiver i. */
 
 #ifndef FONTARELGA_H

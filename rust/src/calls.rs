@@ -70,7 +70,8 @@ pub struct Finding {
 /// assert_eq!(check(network, 4, &[1, 2, 4, 8]), Ok(Verdict::Pair { a: 0, b: 15 }));
 /// assert_eq!(check(network.with_level(0), 4, &[1, 2, 4, 8]), Ok(Verdict::Pass));
 /// assert_eq!(check(network.with_gate(AND), 4, &[14, 13, 11, 7]), Ok(Verdict::Pass));
-/// // Walking ones of five nets: a receiver that all five drivers reach reads as one that floats, and class 4 has none.
+/// // Walking ones of five nets: a receiver that all five drivers reach reads as one that floats, and class 4
+/// // has no such reach.
 /// assert_eq!(check(5, 4, &[1, 2, 4, 8, 16]), Ok(Verdict::Pass));
 /// assert_eq!(check(5, 5, &[1, 2, 4, 8, 16]), Ok(Verdict::Pair { a: 0, b: 31 }));
 /// ```
@@ -85,7 +86,7 @@ pub fn check(network: impl Into<Network>, class: u64, vectors: &[u64]) -> Result
 
 /// The response of a wiring state: a word a vector, bit r read by receiver r.
 ///
-/// `state` has m words, the reaches of receivers 0 to m - 1; 0 is a receiver that floats.
+/// `class` is as for [`check`]. `state` has m words, the reaches of receivers 0 to m - 1; 0 is a receiver that floats.
 ///
 /// Refused: 5, 21, 6, 17, 20, 7, 8, 11.
 ///
@@ -112,7 +113,7 @@ pub fn respond<'a>(
 
 /// The only wiring state of the class that gives exactly these responses: its m reaches.
 ///
-/// `responses` has a word a vector.
+/// `class` is as for [`check`]. `responses` has a word a vector.
 ///
 /// Refused: 5, 21, 6, 17, 20, 7, 8, 9, 10, 13, 14.
 ///

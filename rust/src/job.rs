@@ -7,6 +7,7 @@ use crate::sizes::{JOB_WORDS, MOST_FILE_BYTES, MOST_VECTORS};
 #[derive(Clone, Debug, PartialEq, Eq, Hash)]
 pub struct Job {
     pub network: Network,
+    /// As for [`check`](crate::check).
     pub class: u64,
     pub vectors: Vec<u64>,
     pub responses: Vec<u64>,

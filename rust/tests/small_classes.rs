@@ -189,8 +189,8 @@ fn random_sets() {
     }
 }
 
-/// The extra vector, and the walking vectors but for that of the first net named: its driver drives 1, or 0 with AND,
-/// beside each of the next `behind` alone. In a reach with all of those it is not seen, and otherwise every set is.
+/// Vector 0, and the walking vectors but for that of the first net named: its driver drives 1 beside each of the next
+/// `behind` alone; with AND all that turned. In a reach with all of those it is not seen, and otherwise every set is.
 /// Gives the set, those others, and the driver.
 fn hiding_set(net: Network, nets: &[u64], behind: usize) -> (Vec<u64>, u64, u64) {
     let hidden = 1 << nets[0];
@@ -199,10 +199,10 @@ fn hiding_set(net: Network, nets: &[u64], behind: usize) -> (Vec<u64>, u64, u64)
     (for_gate(net, &vectors), before.sum(), hidden)
 }
 
-/// A driver that is hidden behind r others: every class up to r passes, and every class above shows those others, and
-/// the same with the driver. Said without the model.
+/// A driver that is not seen beside `behind` others: every class up to that number passes, and every class above shows
+/// those others, and the same with the driver. Said without the model.
 #[test]
-fn a_driver_hidden_behind_others() {
+fn a_driver_that_others_hide() {
     let g = &mut Generator::new(42);
     let (mut passed, mut pairs) = (0, 0);
     for n in 5..=10 {
@@ -222,7 +222,8 @@ fn a_driver_hidden_behind_others() {
     assert_eq!((passed, pairs), (4 * (10 + 15 + 21 + 28 + 36 + 45), 4 * (6 + 10 + 15 + 21 + 28 + 36)));
 }
 
-/// Driver 1 hidden behind all above it: only the last set of class n - 1, all drivers but 0, reads as a smaller one.
+/// Driver 1 is not seen beside all above it: only the last set of class n - 1, all drivers but 0, reads as a smaller
+/// one.
 #[test]
 fn the_last_set_of_a_class() {
     for n in 5..=10 {
@@ -237,7 +238,8 @@ fn the_last_set_of_a_class() {
 }
 
 /// Walking vectors alone pass for every class below n, and for class n where there is no extra vector. Over vector 0
-/// alone with OR, and all ones with AND, every driver reads the same: as a floating receiver does where there is none.
+/// alone with OR, and all ones with AND, every driver reads the same: as a floating receiver does where there is no
+/// extra vector.
 #[test]
 fn walking_vectors_and_the_extra_one_apart() {
     for net in (5..=10).flat_map(each_combination) {

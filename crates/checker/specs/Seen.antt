@@ -48,7 +48,7 @@ Outcome net k vectors words links heads next (Confused a b) =
     (a < length (sets-of-class k (2 ^ 48))) × (bounded-verdict net k vectors ≡ Verdict.Pair (at (sets-of-class k (2 ^ 48)) a) b)
 Outcome net k vectors words links heads next (Count count) = Seen net k vectors words count next × Chains words links heads count
 
--- what a search of all sets of the class asks: what rows 5, 6 and 7 admit, no words yet, and room for all
+-- what a search of all sets of the class asks: what rows 5, 6 and 7 admit, k up to 3, no words yet, and room for all
 pub record Searchable (net : Network) (k : ℕ) (vectors words links heads : List ℕ) : Type 0 where
   pub vectors-most : length vectors ≤ 64
   pub nets-most : net .nets ≤ 48

@@ -1,5 +1,5 @@
 // The rule for k below n, and the sets that read as receivers answered. Helpers: the test set is one that rows 5, 6
-// and 7 admit.
+// and 7 admit, and k is at most 3.
 ghost use mathlib.Core.Path.{_≡_};
 ghost use Prim.Native.Nat.{_<_, _≤_, _^_};
 ghost use lib.ListN.{length};

@@ -49,7 +49,7 @@ hides-driver-1 = 0 ∷ 1 ∷ 4 ∷ 8 ∷ 16 ∷ 6 ∷ 10 ∷ 18 ∷ []
 abbrev pub strobe-of-eight : List ℕ
 strobe-of-eight = 1 ∷ 2 ∷ 4 ∷ 8 ∷ 16 ∷ 32 ∷ 64 ∷ 129 ∷ 130 ∷ 132 ∷ 136 ∷ []
 
--- *response from a state* and *diagnosis* for a class of five nets, with room for five words
+-- *response from a state* and *diagnosis* for a class, with room for five words
 abbrev pub respond-as : Network → ℕ → (vectors state : List ℕ) → Answer (List ℕ)
 respond-as net k vectors state = response-answer net (own net) k vectors state 5
 

@@ -26,7 +26,8 @@ fn note(set: u64, word: u64, answers: &[u64], reaches: &mut [u64])
     }
 }
 
-// Of each receiver the only set of the class that can have answered so, by one pass over all driver sets: at most 1,024.
+// Of each receiver the only set of the class that can have answered so, by one pass over all driver sets, at most
+// 1,024.
 fn note_all(net: Network, class: u64, vectors: &[u64], answers: &[u64], reaches: &mut [u64])
     requires { ⌜ (net .nets ≤ 10) × (length (now answers) ≤ length (now reaches)) × Passed net class (now vectors) ⌝ }
     ensures { λ r. ⌜ LookedUp net class (now (vectors .entry)) (now (answers .entry)) (now (reaches .exit)) ⌝ }
