@@ -49,6 +49,10 @@ hides-driver-1 = 0 ∷ 1 ∷ 4 ∷ 8 ∷ 16 ∷ 6 ∷ 10 ∷ 18 ∷ []
 abbrev pub strobe-of-eight : List ℕ
 strobe-of-eight = 1 ∷ 2 ∷ 4 ∷ 8 ∷ 16 ∷ 32 ∷ 64 ∷ 129 ∷ 130 ∷ 132 ∷ 136 ∷ []
 
+-- nor net 6 of seven: nets 0 to 4 hide it
+abbrev pub strobe-of-seven : List ℕ
+strobe-of-seven = 0 ∷ 1 ∷ 2 ∷ 4 ∷ 8 ∷ 16 ∷ 32 ∷ 65 ∷ 66 ∷ 68 ∷ 72 ∷ 80 ∷ []
+
 -- *response from a state* and *diagnosis* for a class, with room for five words
 abbrev pub respond-as : Network → ℕ → (vectors state : List ℕ) → Answer (List ℕ)
 respond-as net k vectors state = response-answer net (own net) k vectors state 5
@@ -94,9 +98,11 @@ pub record SmallClasses : Type 0 where
   pub empty-or-1 : check-answer (wired-or 5 1) 4 (31 ∷ []) ≡ full (Pair 0 1)
   pub empty-and-0 : check-answer (wired-and 5 0) 4 (0 ∷ []) ≡ full (Pair 0 1)
   pub empty-and-1 : check-answer (wired-and 5 1) 4 (31 ∷ []) ≡ full (Pair 0 1)
-  -- a pair that only sets of five drivers show
+  -- a pair that only sets of five drivers show, and one that only sets of six do
   pub eight-4 : check 8 4 strobe-of-eight ≡ full Pass
   pub eight-5 : check 8 5 strobe-of-eight ≡ full (Pair 15 143)
+  pub seven-5 : check 7 5 strobe-of-seven ≡ full Pass
+  pub seven-6 : check 7 6 strobe-of-seven ≡ full (Pair 31 95)
   -- the walking vectors alone pass below n: only all five drivers could read as the empty set does
   pub walking-or-0 : check-answer (wired-or 5 0) 4 walking-ones ≡ full Pass
   pub walking-or-1 : check-answer (wired-or 5 1) 4 walking-ones ≡ full Pass
