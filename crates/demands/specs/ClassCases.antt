@@ -45,7 +45,7 @@ set-of-six = 34 ∷ 1 ∷ 6 ∷ 4 ∷ 8 ∷ 16 ∷ 32 ∷ 10 ∷ []
 abbrev pub hides-driver-1 : List ℕ
 hides-driver-1 = 0 ∷ 1 ∷ 4 ∷ 8 ∷ 16 ∷ 6 ∷ 10 ∷ 18 ∷ []
 
--- net 7 of eight never drives alone: nets 0 to 3 in a reach hide it
+-- net 7 of eight never drives 1 alone: nets 0 to 3 in a reach hide it
 abbrev pub strobe-of-eight : List ℕ
 strobe-of-eight = 1 ∷ 2 ∷ 4 ∷ 8 ∷ 16 ∷ 32 ∷ 64 ∷ 129 ∷ 130 ∷ 132 ∷ 136 ∷ []
 
@@ -114,7 +114,7 @@ pub record SmallClasses : Type 0 where
   -- ---- class n keeps its rule, and its pair, where the search shows another
   pub class-n : check 5 5 (0 ∷ []) ≡ full (Pair 30 31)
   pub searched-n : our-plain-search (network-of 5) 5 (0 ∷ []) ≡ Pair 1 2
-  -- it goes up to all drivers
+  -- the search goes up to the set of all drivers; here both show the same pair
   pub class-n-walking : check 5 5 walking-ones ≡ full (Pair 0 31)
   pub searched-n-walking : our-plain-search (network-of 5) 5 walking-ones ≡ Pair 0 31
   -- ---- *response from a state*: a reach of four drivers is of class 4 and not of 3, one of five is not of 4

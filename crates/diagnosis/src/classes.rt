@@ -43,7 +43,7 @@ fn note_all(net: Network, class: u64, vectors: &[u64], answers: &[u64], reaches:
     }
 }
 
-// The same, for a class up to 3 by the checker's own search.
+// The same, for a class up to 3 by the checker's search for those.
 pub fn class_reaches(net: Network, class: u64, vectors: &[u64], answers: &[u64]) -> [u64; 64]
     requires { ⌜ (class ≢ net .nets) × (length (now answers) ≤ 64) × Passed net class (now vectors) ⌝ }
     ensures { λ r. ⌜ (length r ≡ 64)
