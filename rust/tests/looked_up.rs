@@ -1,6 +1,6 @@
 //! Classes below n; up to 3 the library looks up what a set reads. Readings that share a slot, pairs that come early
-//! and late, the most sets, and the numbers of nets at which the library changes the size of its lists. All of each gate
-//! and soft level and by the model, which compares all pairs.
+//! and late, the most sets, and the numbers of nets at which the library changes the size of its lists. All of each
+//! gate and soft level and by the model, which compares all pairs.
 
 mod support;
 
