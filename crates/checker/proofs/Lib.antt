@@ -8,3 +8,4 @@ pub mod Lookups
 pub mod PlainSearch
 pub mod Agreement
 pub mod Checking
+pub mod PassedSets

@@ -1,4 +1,5 @@
 pub mod Rule
+pub mod Passed
 pub mod Seen
 pub mod Check
 pub mod Open

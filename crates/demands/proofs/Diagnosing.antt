@@ -16,7 +16,8 @@ use Rattle.network.proofs.States.{test→state}
 use Rattle.checker.proofs.Separation.{apart-one-fits}
 use Rattle.diagnosis.specs.Diagnosis.{Row14, DiagnosisRows, diagnosis-answer}
 use Rattle.diagnosis.specs.Open.{open-diagnosis}
-use Rattle.diagnosis.proofs.DiagnosisLaws.{diagnosis-by-table, diagnosis-determined, passed-apart}
+use Rattle.checker.proofs.PassedSets.{passed-apart}
+use Rattle.diagnosis.proofs.DiagnosisLaws.{diagnosis-by-table, diagnosis-determined}
 use Rattle.findings.specs.Findings.{finding}
 use Rattle.findings.specs.Open.{open-findings}
 use Rattle.demands.specs.Demand2.{DiagnosisProgram, BeforeFitting, EarlierRows, Diagnoses, open-and-short, OpenAndShort, Demand2}

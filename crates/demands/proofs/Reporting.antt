@@ -18,7 +18,8 @@ use Rattle.checker.specs.Rule.{verdict}
 use Rattle.checker.proofs.Verdicts.{verdict-rule, rule-determined}
 use Rattle.checker.proofs.Separation.{apart-one-fits}
 use Rattle.diagnosis.specs.Diagnosis.{OwnRows, diagnosis-answer}
-use Rattle.diagnosis.proofs.DiagnosisLaws.{passed-apart, diagnosis-by-table}
+use Rattle.checker.proofs.PassedSets.{passed-apart}
+use Rattle.diagnosis.proofs.DiagnosisLaws.{diagnosis-by-table}
 use Rattle.jobfile.specs.Layout.{body-words, has-responses, file-responses}
 use Rattle.reader.specs.Reader.{JobContent, content, ListRows, ReaderRows, read-answer}
 use Rattle.reader.proofs.ReaderLaws.{read-by-table}

@@ -15,7 +15,8 @@ use Rattle.network.specs.Reading.{wired-or, wired-and, Response}
 use Rattle.network.specs.States.{State, Fits}
 use Rattle.network.specs.Rows.{BoardSetRows, Row9, HighBit, Row12}
 use Rattle.network.specs.Respond.{ResponseRows}
-use Rattle.diagnosis.specs.Diagnosis.{Row13, DiagnosisRows}
+use Rattle.checker.specs.Passed.{Row13}
+use Rattle.diagnosis.specs.Diagnosis.{DiagnosisRows}
 use Rattle.findings.specs.Findings.{finding}
 
 -- ---- the response

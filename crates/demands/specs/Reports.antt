@@ -9,7 +9,8 @@ use Rattle.words.specs.Answers.{NoneHolds}
 use Rattle.network.specs.States.{Fits}
 use Rattle.checker.specs.declared.Verdict.{Verdict}
 use Rattle.checker.specs.Rule.{Rule}
-use Rattle.diagnosis.specs.Diagnosis.{Row13, Row14}
+use Rattle.checker.specs.Passed.{Row13}
+use Rattle.diagnosis.specs.Diagnosis.{Row14}
 use Rattle.reader.specs.Reader.{JobContent, content, ReaderRows}
 use Rattle.listing.specs.Report.{refused-line, verdict-line, net-lines, deciding-bytes}
 use Rattle.demands.specs.Demand1.{FirstRow}

@@ -1,10 +1,9 @@
 -- The call *diagnosis* answers as its rows and its result say, and nothing is left open.
 use mathlib.Core.Path.{_≡_, refl}
-use mathlib.Core.Bool.{true, false, true≢false, false≢true}
 use mathlib.Core.List.{List, _++_}
 use Prim.Native.Nat.{ℕ}
 use lib.ListN.{length}
-use Rattle.words.specs.Answers.{Answer, ByTable, NoneHolds, Decides, Decided}
+use Rattle.words.specs.Answers.{Answer, ByTable, NoneHolds, Decided}
 use Rattle.words.proofs.Tests.{test-fails, equal-if-not-unequal}
 use Rattle.words.proofs.Answers.{none-front, none-rest, decided-append, tests-by-table, table-determined}
 use Rattle.network.specs.declared.Network.{Network}
@@ -12,44 +11,15 @@ use Rattle.network.specs.States.{Fits}
 use Rattle.network.specs.Rows.{BoardSetRows, Row9, board-set-tests}
 use Rattle.network.proofs.Rows.{decides-board-set, set-of-board-set, decides-row-9, decides-high-bit, decides-row-12}
 use Rattle.network.proofs.Rows.{no-high-bit, AdmittedSet, admitted-set}
-use Rattle.checker.specs.declared.Verdict.{Verdict}
-use Rattle.checker.specs.declared.Verdict.the-variants.{Pass, Pair}
-use Rattle.checker.specs.Rule.{Rule, verdict}
-use Rattle.checker.proofs.Verdicts.{verdict-rule, rule-determined, pair-not-pass}
-use Rattle.checker.proofs.Separation.{SetsApart, rule-shows, apart-one-fits}
+use Rattle.checker.proofs.PassedSets.{decides-row-13, passed-apart}
+use Rattle.checker.proofs.Separation.{apart-one-fits}
 use Rattle.diagnosis.specs.ReadBack.{read-back}
-use Rattle.diagnosis.specs.Diagnosis.{Row13, OwnRows, DiagnosisRows, not-passed, own-tests, diagnosis-answer}
+use Rattle.diagnosis.specs.Diagnosis.{OwnRows, DiagnosisRows, own-tests, diagnosis-answer}
 use Rattle.diagnosis.proofs.ReadingBack.{read-back-fits, decides-no-state-fits}
 
 -- as many responses as vectors
 pub same-count : (vectors responses : List ℕ) → ¬ (Row9 (length vectors) (length responses)) → length responses ≡ length vectors
 same-count vectors responses h = equal-if-not-unequal (length responses) (length vectors) h
-
-module _ (net : Network) (k : ℕ) (vectors : List ℕ) where
-  -- the rule passes the set exactly where the computed verdict does
-  pub passes-rule : not-passed (verdict net k vectors) ≡ false → Rule net k vectors Pass
-  passes-rule e = go (verdict net k vectors) (verdict-rule net k vectors) e
-    where
-      go : (v : Verdict) → Rule net k vectors v → not-passed v ≡ false → Rule net k vectors Pass
-      go Pass r q = r
-      go (Pair a b) r q = absurd (true≢false q)
-
-  decides-row-13 : Decides (not-passed (verdict net k vectors)) (Row13 net k vectors)
-  decides-row-13 = (
-    λ e r. go (verdict net k vectors)
-        (rule-determined net k vectors (verdict net k vectors) Pass (verdict-rule net k vectors) r) e,
-    λ e n. n
-        (passes-rule e),
-  )
-    where
-      go : (v : Verdict) → v ≡ Pass → not-passed v ≡ true → ⊥
-      go Pass q e = false≢true e
-      go (Pair a b) q e = pair-not-pass q
-
-  -- where row 13 does not hold, the sets of the class are told apart
-  pub passed-apart : AdmittedSet net k vectors → ¬ (Row13 net k vectors) → SetsApart net k vectors
-  passed-apart s h =
-      rule-shows net k vectors Pass (s .two) (s .narrow) (passes-rule (test-fails decides-row-13 h))
 
 module _ (net : Network) (owners : List ℕ) (k : ℕ) (vectors responses : List ℕ) (room : ℕ) where
   decides-own : NoneHolds (BoardSetRows net owners k vectors)

@@ -1,6 +1,6 @@
 -- The call *diagnosis*: rows 5, 21, 6, 17, 20, 7, 8, 9, 10, 12, 13, 14, then the state.
 use Prim.Native.Nat.{ℕ}
-use mathlib.Core.Bool.{Bool, true, false}
+use mathlib.Core.Bool.{Bool, not}
 use mathlib.Core.List.{List, [], _∷_, _++_}
 use lib.ListN.{length}
 use Rattle.words.specs.Answers.{Answer, refused, full, by-tests}
@@ -8,16 +8,10 @@ use Rattle.network.specs.declared.Network.{Network}
 use Rattle.network.specs.States.{Fits}
 use Rattle.network.specs.Rows.{BoardSetRows, Row9, HighBit, Row12, board-set-tests, bad-response-count, has-high-bit}
 use Rattle.network.specs.Rows.{no-room}
-use Rattle.checker.specs.declared.Verdict.{Verdict}
-use Rattle.checker.specs.declared.Verdict.the-variants.{Pass, Pair}
-use Rattle.checker.specs.Rule.{Rule, verdict}
+use Rattle.checker.specs.Passed.{Row13, passes}
 use Rattle.diagnosis.specs.declared.Diagnosed.{Diagnosed}
 use Rattle.diagnosis.specs.declared.Diagnosed.the-variants.{Wrote, Refused}
 use Rattle.diagnosis.specs.ReadBack.{read-back, no-state-fits}
-
--- separation: the checker does not pass the set
-abbrev pub Row13 : Network → ℕ → List ℕ → Type 0
-Row13 net k vectors = ¬ (Rule net k vectors Pass)
 
 -- fit: no state of the class fits
 abbrev pub Row14 : Network → (m k : ℕ) → (vectors responses : List ℕ) → Type 0
@@ -37,16 +31,12 @@ abbrev pub DiagnosisRows : Network → (owners : List ℕ) → ℕ → (vectors 
 DiagnosisRows net owners k vectors responses room =
     BoardSetRows net owners k vectors ++ OwnRows net (length owners) k vectors responses room
 
-abbrev pub not-passed : Verdict → Bool
-not-passed Pass = false
-not-passed (Pair a b) = true
-
 abbrev pub own-tests : Network → (m k : ℕ) → (vectors responses : List ℕ) → ℕ → List (ℕ × Bool)
 own-tests net m k vectors responses room =
     (9, bad-response-count (length vectors) (length responses))
     ∷ (10, has-high-bit m responses)
     ∷ (12, no-room m room)
-    ∷ (13, not-passed (verdict net k vectors))
+    ∷ (13, not (passes net k vectors))
     ∷ (14, no-state-fits net m k vectors responses)
     ∷ []
 

@@ -3,16 +3,12 @@ use Prim.Native.Nat.{ℕ, _^_}
 use mathlib.Core.Bool.{Bool, not, _&&_, _||_}
 use mathlib.Core.List.{List}
 use lib.Dec.{eqb}
-use Rattle.words.specs.Answers.{NoneHolds}
 use Rattle.words.specs.Searching.{least, is-found, or-zero, any}
 use Rattle.words.specs.Turning.{tabulate, column}
 use Rattle.words.specs.declared.Search.{Search}
 use Rattle.network.specs.declared.Network.{Network}
 use Rattle.network.specs.Reading.{sequential-response}
 use Rattle.network.specs.States.{few-drivers, has-conflict}
-use Rattle.network.specs.Rows.{SetRows}
-use Rattle.checker.specs.declared.Verdict.the-variants.{Pass}
-use Rattle.checker.specs.Rule.{Rule}
 
 -- the smallest set of the class that reads as a receiver answered, its sequential word (SRV) given
 unfoldable pub reach-read : Network → ℕ → List ℕ → ℕ → Search
@@ -29,7 +25,3 @@ unfoldable pub no-state-fits : Network → (m k : ℕ) → (vectors responses : 
 no-state-fits net m k vectors responses =
     let conflict = has-conflict net (read-back net m k vectors responses) in
     any m (λ i. not (is-found (reach-read net k vectors (column responses i)))) || conflict
-
--- a test set that its rows admit and the checker's rule passes
-abbrev pub Passed : Network → ℕ → List ℕ → Type 0
-Passed net k vectors = NoneHolds (SetRows net k vectors) × Rule net k vectors Pass

@@ -7,7 +7,7 @@ ghost use lib.Dec.{eqb};
 ghost use lib.ListN.{length};
 ghost use Rattle.words.specs.Bits.{at};
 ghost use Rattle.checker.specs.Seen.{OnlyAnswer, LookedUp};
-ghost use Rattle.diagnosis.specs.ReadBack.{Passed};
+ghost use Rattle.checker.specs.Passed.{Passed};
 use network::Network;
 
 // The set noted for each receiver that answered so.

@@ -7,7 +7,7 @@ ghost use Rattle.words.specs.Answers.{«count-of», «lent-after»};
 ghost use Rattle.words.specs.Turning.{column};
 ghost use Rattle.network.specs.Rows.{HighBit};
 ghost use Rattle.checker.specs.Seen.{OnlyAnswer};
-ghost use Rattle.diagnosis.specs.ReadBack.{Passed};
+ghost use Rattle.checker.specs.Passed.{Passed};
 ghost use Rattle.diagnosis.specs.Diagnosis.{«fit-answer», «diagnosis-answer», meaning};
 
 mod classes;

@@ -6,7 +6,7 @@ ghost use Prim.Native.Nat.{ℕ, _<_, _≤_};
 ghost use lib.ListN.{length};
 ghost use Rattle.words.specs.Bits.{at};
 ghost use Rattle.checker.specs.Seen.{OnlyAnswer};
-ghost use Rattle.diagnosis.specs.ReadBack.{Passed};
+ghost use Rattle.checker.specs.Passed.{Passed};
 ghost use Rattle.diagnosis.specs.Walking.{Walked};
 use network::Network;
 use words::Stv;

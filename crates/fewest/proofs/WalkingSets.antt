@@ -9,25 +9,22 @@ use native.Mathlib.Omega.{arith}
 use lib.ListN.{length, length-map}
 use borrow.Author.Tests.{eq-eqb, eqb-true}
 use Rattle.words.specs.Bits.{has, at}
-use Rattle.words.specs.Answers.{full, ByTable}
 use Rattle.words.specs.Turning.{tabulate}
 use Rattle.words.proofs.Tests.{cases, contrary, less-or-not, not-less}
 use Rattle.words.proofs.Making.{map-at}
-use Rattle.words.proofs.Answers.{table-full, table-none-holds}
 use Rattle.words.proofs.Columns.{length-tabulate, tabulate-at}
 use Rattle.words.proofs.Places.{no-longer}
 use Rattle.network.specs.declared.Network.{Network}
 use Rattle.network.specs.Reading.{active, walking-vector, extra-vector, needs-extra, extra-vectors}
-use Rattle.network.specs.Rows.{Row6, Row7, HighBit, SetRows, AdmittedNetwork}
+use Rattle.network.specs.Rows.{Row6, Row7, HighBit, AdmittedNetwork}
 use Rattle.network.proofs.Reading.{active-walking, active-extra, walking-below, extra-below, extra-none, extra-most}
 use Rattle.network.proofs.Rows.{nets-admitted, no-high-bit}
 use Rattle.checker.specs.declared.Verdict.{Verdict}
 use Rattle.checker.specs.declared.Verdict.the-variants.{Pass, Pair}
 use Rattle.checker.specs.Rule.{Among, Rule, verdict, shown-state}
-use Rattle.checker.specs.Check.{check-answer}
 use Rattle.checker.proofs.Verdicts.{verdict-rule}
 use Rattle.checker.proofs.Separation.{SetsAlike, rule-shows, apart-one-fits, not-one-fits, shown-is-state, shown-differ, shown-alike}
-use Rattle.checker.proofs.Checking.{check-by-table, check-determined}
+use Rattle.checker.proofs.PassedSets.{passed-sets-apart, passed-check, check-passed}
 use Rattle.steps.proofs.BothSteps.{settling-size, settling-extra, settling-walking}
 use Rattle.fewest.specs.Fewest.{Separates, TwoStates, Passes, walking-set, walking-count, Fewest}
 use Rattle.fewest.proofs.DrivenBits.{driven-bits, driven-bits-below, response-driven-bits}
@@ -178,28 +175,15 @@ module _ (net : Network) (admitted : AdmittedNetwork net) where
 
   passed-separates : (vectors : List ℕ) → Passes net vectors → Separates net vectors
   passed-separates vectors e =
-      let rows = SetRows net (net .nets) vectors in
-      let rule = Rule net (net .nets) vectors in
-      let table = subst (ByTable rows rule) e (check-by-table net (net .nets) vectors) in
-      rule-separates vectors (table-none-holds rule rows Pass table .1 .1 .1 .1 .1 .0) (table-full rule rows Pass table)
+      apart-one-fits net (net .nets) (net .nets) vectors
+      (passed-sets-apart net (net .nets) vectors (check-passed net (net .nets) vectors e))
 
   walking-passes : Passes net (walking-set net)
   walking-passes =
-      check-determined net (net .nets) (walking-set net) (check-answer net (net .nets) (walking-set net)) (full Pass)
-      (check-by-table net (net .nets) (walking-set net))
-      (inr (
-        admitted .0,
-        inr (
-          class,
-          inr (
-            admitted .1 .0,
-            inr (
-              admitted .1 .1 .0,
-              inr (count, inr (walking-narrow, (Pass, refl, walking-passes-rule))),
-            ),
-          ),
-        ),
-      ))
+      passed-check net (net .nets) (walking-set net) (
+        (admitted .0, (class, (admitted .1 .0, (admitted .1 .1 .0, (count, (walking-narrow, tt)))))),
+        walking-passes-rule,
+      )
     where
       class : ¬ (Row6 net (net .nets))
       class (inl n) = n (inr (inr (inr (inl refl))))

@@ -44,7 +44,7 @@ decides-class net k =
     (decides-or (decides-equal k (net .nets))
     (decides-and (decides-at-most (net .nets) 10) (decides-and (decides-at-most 4 k) (decides-less k (net .nets)))))))
 
-decides-row-6 : (net : Network) (k : ℕ) → Decides (bad-class net k) (Row6 net k)
+pub decides-row-6 : (net : Network) (k : ℕ) → Decides (bad-class net k) (Row6 net k)
 decides-row-6 net k = decides-or (decides-not (decides-class net k)) (decides-less (net .nets) k)
 
 decides-no-bit : (x : ℕ) → Decides (no-bit x) (NoBit x)
@@ -160,11 +160,11 @@ module _ (net : Network) (owners : List ℕ) where
 
 -- ---- rows 5, 6, 17, 20, 7 and 8, and 21
 
-decides-class-rows : (net : Network) (k : ℕ) (vectors : List ℕ)
-    → Decided (ClassRows net k vectors) (class-tests net k vectors)
-decides-class-rows net k vectors = (
+pub decides-class-rows : {row-6 : Type 0} {test-6 : Bool} → Decides test-6 row-6 → (net : Network) (vectors : List ℕ)
+    → Decided (ClassRows row-6 net vectors) (class-tests test-6 net vectors)
+decides-class-rows decides-6 net vectors = (
   refl,
-  decides-row-6 net k,
+  decides-6,
   λ _. (
     refl,
     decides-row-17 net,
@@ -177,12 +177,15 @@ decides-class-rows net k vectors = (
 )
 
 pub decides-set : (net : Network) (k : ℕ) (vectors : List ℕ) → Decided (SetRows net k vectors) (set-tests net k vectors)
-decides-set net k vectors = (refl, decides-row-5 net, λ _. decides-class-rows net k vectors)
+decides-set net k vectors = (refl, decides-row-5 net, λ _. decides-class-rows (decides-row-6 net k) net vectors)
 
 pub decides-board-set : (net : Network) (owners : List ℕ) (k : ℕ) (vectors : List ℕ)
     → Decided (BoardSetRows net owners k vectors) (board-set-tests net owners k vectors)
-decides-board-set net owners k vectors =
-    (refl, decides-row-5 net, λ _. (refl, decides-row-21 net owners, λ _. decides-class-rows net k vectors))
+decides-board-set net owners k vectors = (
+  refl,
+  decides-row-5 net,
+  λ _. (refl, decides-row-21 net owners, λ _. decides-class-rows (decides-row-6 net k) net vectors),
+)
 
 -- a call that takes receivers has tested all that one without them tests
 pub set-of-board-set : (net : Network) (owners : List ℕ) (k : ℕ) (vectors : List ℕ)

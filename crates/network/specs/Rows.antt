@@ -135,27 +135,28 @@ AdmittedNetwork net = NoneHolds ((5, Row5 net) ∷ (17, Row17 net) ∷ (20, Row2
 
 -- ---- rows 5, 6, 17, 20, 7 and 8, with which every call on a test set begins; 21 after 5 if it takes receivers
 
-abbrev pub ClassRows : Network → ℕ → List ℕ → List (ℕ × Type 0)
-ClassRows net k vectors =
-    (6, Row6 net k) ∷ (17, Row17 net) ∷ (20, Row20 net) ∷ (7, Row7 vectors) ∷ (8, HighBit (net .nets) vectors) ∷ []
+-- all but 5, with row 6 as the call has it
+abbrev pub ClassRows : Type 0 → Network → List ℕ → List (ℕ × Type 0)
+ClassRows row-6 net vectors =
+    (6, row-6) ∷ (17, Row17 net) ∷ (20, Row20 net) ∷ (7, Row7 vectors) ∷ (8, HighBit (net .nets) vectors) ∷ []
 
 abbrev pub SetRows : Network → ℕ → List ℕ → List (ℕ × Type 0)
-SetRows net k vectors = (5, Row5 net) ∷ ClassRows net k vectors
+SetRows net k vectors = (5, Row5 net) ∷ ClassRows (Row6 net k) net vectors
 
 abbrev pub BoardSetRows : Network → List ℕ → ℕ → List ℕ → List (ℕ × Type 0)
-BoardSetRows net owners k vectors = (5, Row5 net) ∷ (21, Row21 net owners) ∷ ClassRows net k vectors
+BoardSetRows net owners k vectors = (5, Row5 net) ∷ (21, Row21 net owners) ∷ ClassRows (Row6 net k) net vectors
 
-abbrev pub class-tests : Network → ℕ → List ℕ → List (ℕ × Bool)
-class-tests net k vectors =
-    (6, bad-class net k) ∷ (17, bad-level net) ∷ (20, bad-gate net)
+abbrev pub class-tests : Bool → Network → List ℕ → List (ℕ × Bool)
+class-tests test-6 net vectors =
+    (6, test-6) ∷ (17, bad-level net) ∷ (20, bad-gate net)
     ∷ (7, bad-vector-count vectors) ∷ (8, has-high-bit (net .nets) vectors) ∷ []
 
 abbrev pub set-tests : Network → ℕ → List ℕ → List (ℕ × Bool)
-set-tests net k vectors = (5, bad-net-count net) ∷ class-tests net k vectors
+set-tests net k vectors = (5, bad-net-count net) ∷ class-tests (bad-class net k) net vectors
 
 abbrev pub board-set-tests : Network → List ℕ → ℕ → List ℕ → List (ℕ × Bool)
 board-set-tests net owners k vectors =
-    (5, bad-net-count net) ∷ (21, bad-receivers net owners) ∷ class-tests net k vectors
+    (5, bad-net-count net) ∷ (21, bad-receivers net owners) ∷ class-tests (bad-class net k) net vectors
 
 -- what they say alone, computed, and as the code's enum means it
 abbrev pub set-admission : Network → ℕ → List ℕ → Answer (Unit {0})

@@ -5,7 +5,7 @@ use mathlib.Core.Logic.{_⊎_, inl, inr, _≢_}
 use mathlib.Core.List.{List, [], _∷_, _++_}
 use Prim.Native.Nat.{ℕ, _≤_}
 use native.Mathlib.Omega.{arith}
-use lib.ListN.{length, take, drop, length-append}
+use lib.ListN.{length, take, drop, length-append, length-drop}
 use lib.Seq.{drop-append-seam, take-append-seam}
 use Rattle.words.specs.Answers.{Answer, refused, full, ByTable, NoneHolds, by-tests, first-number, Decided, lent-after}
 use Rattle.words.specs.Answers.{count-of, Filled, FillsByTable}
@@ -198,6 +198,13 @@ module _ {A : Type 0} where
   pub front-written : (xs old : List A) → take (length xs) (lent-after (full xs) old) ≡ xs
   unfolding lent-after
   front-written xs old = take-append-seam xs (drop (length xs) old)
+
+  -- a list that has room keeps its length
+  pub lent-length : (xs old : List A) → length xs ≤ length old → length (lent-after (full xs) old) ≡ length old
+  unfolding lent-after
+  lent-length xs old fits =
+      let both = length-append xs (drop (length xs) old) in
+      let tail = length-drop (length xs) old in omega arith
 
   -- what was written is within the list
   pub written-fits : (xs old : List A) → length xs ≤ length (lent-after (full xs) old)

@@ -14,17 +14,12 @@ use borrow.Author.Tests.{leb-true, le-leb, lt-leb}
 use Rattle.words.specs.declared.Search.the-variants.{Found, Missing}
 use Rattle.words.specs.Bits.{at}
 use Rattle.words.specs.Searching.{least, passing, sets-of-class}
+use Rattle.words.specs.Counting.{class-size}
 use Rattle.words.proofs.Classes.{ones-top, ones-positive}
 use Rattle.words.proofs.Passing.{passing-same, passing-yes, passing-gap, passing-front}
 use Rattle.words.proofs.Passing.{count-parts, count-grows, count-grows-past, Entry, entry-of, entry-is, least-in, none-in}
 
 -- ---- the size of a class
-
--- how many words of n bits have at most k ones
-unfoldable pub class-size : ℕ → ℕ → ℕ
-class-size n zero = 1
-class-size zero (suc k) = 1
-class-size (suc n) (suc k) = class-size n (suc k) + class-size n k
 
 class-size-positive : (n k : ℕ) → 0 < class-size n k
 unfolding class-size
@@ -32,7 +27,7 @@ class-size-positive n zero = omega arith
 class-size-positive zero (suc k) = omega arith
 class-size-positive (suc n) (suc k) = omega (arith, class-size-positive n k)
 
-class-size-grows : (n k m j : ℕ) → n ≤ m → k ≤ j → class-size n k ≤ class-size m j
+pub class-size-grows : (n k m j : ℕ) → n ≤ m → k ≤ j → class-size n k ≤ class-size m j
 unfolding class-size
 class-size-grows n zero m j h l = class-size-positive m j
 class-size-grows zero (suc k) m j h l = class-size-positive m j
@@ -46,7 +41,7 @@ class-size-grows (suc n) (suc k) (suc m) (suc j) h l =
           (le-of-suc-le-suc h) (le-of-suc-le-suc l),
     )
 
-class-size-largest : class-size 48 3 ≡ 18473
+pub class-size-largest : class-size 48 3 ≡ 18473
 unfolding class-size
 class-size-largest = refl
 
@@ -70,7 +65,7 @@ sets-first : (k : ℕ) → sets-of-class k 1 ≡ 0 ∷ []
 unfolding sets-of-class passing ones
 sets-first k = rw (leb·zero k)
 
-sets-counted : (n k : ℕ) → length (sets-of-class k (2 ^ n)) ≡ class-size n k
+pub sets-counted : (n k : ℕ) → length (sets-of-class k (2 ^ n)) ≡ class-size n k
 unfolding sets-of-class class-size
 sets-counted n zero =
     ap length (passing-gap _ 1 (2 ^ n) (pow-pos n) (λ z i j. lt-leb (ones z) 0 (ones-positive z i))) ∙ ap length (sets-first 0)

@@ -1,5 +1,6 @@
 pub mod Bits
 pub mod Searching
+pub mod Counting
 pub mod Turning
 pub mod Answers
 pub mod Writing

@@ -8,7 +8,7 @@ use Rattle.words.specs.Bits.{at}
 use Rattle.words.specs.Turning.{column}
 use Rattle.network.specs.States.{DriverSet}
 use Rattle.network.proofs.Rows.{AdmittedSet, admitted-set}
-use Rattle.diagnosis.specs.ReadBack.{Passed}
+use Rattle.checker.specs.Passed.{Passed}
 use Rattle.diagnosis.proofs.candidate.Statement.{statement}
 use Rattle.diagnosis.proofs.candidate.Tie as tie
 

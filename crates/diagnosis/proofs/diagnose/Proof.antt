@@ -11,10 +11,10 @@ use Rattle.network.specs.declared.Network.{Network}
 use Rattle.network.specs.Rows.{SetRows, board-admission, admission, bad-response-count, has-high-bit, no-room}
 use Rattle.network.proofs.Rows.{board-set-refuses, board-set-admits, board-set-none-holds, set-of-board-set}
 use Rattle.network.proofs.Rows.{receivers-of-board-set, decides-high-bit}
-use Rattle.checker.specs.Rule.{verdict}
+use Rattle.checker.specs.Passed.{is-pass, passes}
+use Rattle.checker.proofs.PassedSets.{decides-pass}
 use Rattle.diagnosis.specs.ReadBack.{read-back}
-use Rattle.diagnosis.specs.Diagnosis.{not-passed, own-tests, fit-answer, diagnosis-answer}
-use Rattle.diagnosis.proofs.DiagnosisLaws.{passes-rule}
+use Rattle.diagnosis.specs.Diagnosis.{own-tests, fit-answer, diagnosis-answer}
 use Rattle.diagnosis.proofs.diagnose.Statement.{statement}
 use Rattle.diagnosis.proofs.diagnose.Tie as tie
 
@@ -53,12 +53,12 @@ module _ (net : Network) (owners : List ℕ) (k : ℕ) (vectors responses lent :
         by-row-12 e = by-own ∙ rw (nine, ten, e)
 
         module _ (twelve : no-room (length owners) (length lent) ≡ false) where
-          by-row-13 : not-passed (verdict net k vectors) ≡ true
+          by-row-13 : passes net k vectors ≡ false
               → diagnosis-answer net owners k vectors responses (length lent) ≡ refused 13
           unfolding by-tests
           by-row-13 e = by-own ∙ rw (nine, ten, twelve, e)
 
-          by-fit : not-passed (verdict net k vectors) ≡ false
+          by-fit : passes net k vectors ≡ true
               → diagnosis-answer net owners k vectors responses (length lent)
               ≡ fit-answer net (length owners) k vectors responses
           unfolding by-tests fit-answer
@@ -165,7 +165,7 @@ module _ (c : tie.Else3) where
   twelve : no-room (length (start .args .receivers .now)) (length (start .args .out .now)) ≡ false
   twelve = sym (c .before .no-room .ensures) ∙ c .if3 .left
 
-  refuses-13 : not-passed (verdict (start .args .net) (start .args .class) (start .args .vectors .now)) ≡ true
+  refuses-13 : passes (start .args .net) (start .args .class) (start .args .vectors .now) ≡ false
       → diagnosis-answer (start .args .net) (start .args .receivers .now) (start .args .class)
       (start .args .vectors .now)
       (start .args .responses .now) (length (start .args .out .now)) ≡ refused 13
@@ -175,7 +175,7 @@ module _ (c : tie.Else3) where
       (admitted set-passed)
       (nine count-passed) (ten response-passed) twelve e
 
-  reads-back : not-passed (verdict (start .args .net) (start .args .class) (start .args .vectors .now)) ≡ false
+  reads-back : passes (start .args .net) (start .args .class) (start .args .vectors .now) ≡ true
       → diagnosis-answer (start .args .net) (start .args .receivers .now) (start .args .class)
       (start .args .vectors .now)
       (start .args .responses .now) (length (start .args .out .now))
@@ -202,11 +202,11 @@ returns-5 : tie.Need-returns-5
 returns-5 c =
     let v = c .before .before in
     let e = v .before in
-    owed-refused _ 13 (start e .args .out .now) (refuses-13 e (ap not-passed (sym (v .verdict-of .ensures) ∙ c .enum-told3 .given .1)))
+    owed-refused _ 13 (start e .args .out .now) (refuses-13 e (ap is-pass (sym (v .verdict-of .ensures) ∙ c .enum-told3 .given .1)))
 
 passed : (c : tie.After-enum-told2) → let e = c .before .before .before in
-    not-passed (verdict (start e .args .net) (start e .args .class) (start e .args .vectors .now)) ≡ false
-passed c = ap not-passed (sym (c .before .before .verdict-of .ensures) ∙ c .enum-told2 .given .1)
+    passes (start e .args .net) (start e .args .class) (start e .args .vectors .now) ≡ true
+passed c = ap is-pass (sym (c .before .before .verdict-of .ensures) ∙ c .enum-told2 .given .1)
 
 read-back-requires : tie.Need-read-back-requires
 read-back-requires c κs =
@@ -214,7 +214,7 @@ read-back-requires c κs =
     let e = p .before .before .before in
     let a = start e .args in (
       receivers-most (set-passed e),
-      (set-admits-none (set-passed e), passes-rule (a .net) (a .class) (a .vectors .now) (passed p)),
+      (set-admits-none (set-passed e), decides-pass (a .net) (a .class) (a .vectors .now) .0 (passed p)),
       eqb-true _ _ (not-false _ (nine (count-passed e))),
       decides-high-bit (length (a .receivers .now)) (a .responses .now) .1 (ten (response-passed e)),
       ltb-false _ _ (twelve e),

@@ -17,10 +17,10 @@ use Rattle.network.specs.Rows.{HighBit}
 use Rattle.network.proofs.States.{test→state, state→test}
 use Rattle.network.proofs.Rows.{admitted-set, no-high-bit}
 use Rattle.checker.specs.Seen.{OnlyAnswer}
-use Rattle.diagnosis.specs.ReadBack.{Passed}
+use Rattle.checker.specs.Passed.{Passed}
 use Rattle.diagnosis.specs.Diagnosis.{fit-answer}
 use Rattle.diagnosis.proofs.ReadingBack.{only-answers-fit, candidate-fails, fits-read-back}
-use Rattle.diagnosis.proofs.PassedSets.{passed-sets-apart}
+use Rattle.checker.proofs.PassedSets.{passed-sets-apart}
 use Rattle.diagnosis.proofs.read_back.Statement.{statement}
 use Rattle.diagnosis.proofs.read_back.Tie as tie
 

@@ -4,7 +4,8 @@ use native.Mathlib.Nat.{le-of-suc-le-suc}
 use native.Mathlib.Omega.{arith}
 use mathlib.Core.Path.{_≡_, refl}
 use mathlib.Core.Logic.{⊎-elim}
-use Rattle.words.proofs.Counting.{class-size, sets-most}
+use Rattle.words.specs.Counting.{class-size}
+use Rattle.words.proofs.Counting.{sets-most}
 use Rattle.checker.proofs.bounded.bounded_verdict.Statement.{statement}
 use Rattle.checker.proofs.bounded.bounded_verdict.Tie as tie
 

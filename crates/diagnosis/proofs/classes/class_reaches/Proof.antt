@@ -2,7 +2,7 @@ use borrow.Author.Needs.{needs}
 use native.Mathlib.Omega.{arith}
 use mathlib.Core.Path.{_∙_}
 use Rattle.network.proofs.Rows.{AdmittedSet, admitted-set, small-board}
-use Rattle.diagnosis.proofs.PassedSets.{passed-search}
+use Rattle.checker.proofs.PassedSets.{passed-search}
 use Rattle.diagnosis.proofs.classes.class_reaches.Statement.{statement}
 use Rattle.diagnosis.proofs.classes.class_reaches.Tie as tie
 

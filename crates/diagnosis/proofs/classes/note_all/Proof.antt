@@ -10,7 +10,7 @@ use lib.ListN.{length}
 use lib.Pow.{pow-mono}
 use Rattle.words.specs.Bits.{at}
 use Rattle.network.proofs.Rows.{AdmittedSet, admitted-set}
-use Rattle.diagnosis.proofs.PassedSets.{passed-sets-apart}
+use Rattle.checker.proofs.PassedSets.{passed-sets-apart}
 use Rattle.diagnosis.proofs.Noting.{NotedBelow, noted-first, noted-none, noted-next}
 use Rattle.diagnosis.proofs.classes.note_all.Statement.{statement}
 use Rattle.diagnosis.proofs.classes.note_all.Tie as tie
