@@ -6,20 +6,20 @@
  * call stand its rows, in the table's order. After a refusal every list is as it was. A result goes to the front of a
  * list; a longer list keeps its tail.
  *
- * A list is a pointer and a length in elements. One that always has the same length (verdict, session, job) is a
- * pointer alone, and its length stands in the brackets. Any numbers, any bytes and any lengths are ordinary inputs.
- * The caller owes:
+ * A list is a pointer and a length in elements. One that always has the same length (verdict, shortened, session,
+ * job) is a pointer alone, and its length stands in the brackets. Any numbers, any bytes and any lengths are ordinary
+ * inputs. The caller owes:
  *
  * - pointers that are not null, also for length 0, and words aligned to 8 bytes;
  * - as many elements behind a pointer as its length says, or the brackets; behind size one word;
  * - that what a call writes overlaps nothing else that it is given.
  *
- * A call allocates nothing: what it needs it takes from the stack. Check and diagnosis take up to 270,000 bytes of it
- * for class 1, 2 or 3 below nets; all else takes up to 12,000. So check and diagnosis run on a thread with a stack of
- * at least FONTARELGA_CHECK_STACK_BYTES (320 KB), all else with FONTARELGA_OTHER_STACK_BYTES (32 KB); either leaves at
- * least 20 KB to the thread itself, and one that needs more adds it. By default a thread has 8 MB on Linux with glibc,
- * but 128 KB with musl. A program whose threads have less makes the call on a thread to which it gives as much, with
- * pthread_attr_setstacksize.
+ * A call allocates nothing: what it needs it takes from the stack. Shortening, and check and diagnosis for class 1, 2
+ * or 3 below nets, take up to 270,000 bytes of it; all else takes up to 12,000. So check, shortening and diagnosis run
+ * on a thread with a stack of at least FONTARELGA_CHECK_STACK_BYTES (320 KB), all else with
+ * FONTARELGA_OTHER_STACK_BYTES (32 KB); either leaves at least 20 KB to the thread itself, and one that needs more adds
+ * it. By default a thread has 8 MB on Linux with glibc, but 128 KB with musl. A program whose threads have less makes
+ * the call on a thread to which it gives as much, with pthread_attr_setstacksize.
  *
  * nets is n, 2 to 48. level is the soft level, 0 or 1: what a receiver reads that no driver reaches. gate is
  * FONTARELGA_GATE_OR or FONTARELGA_GATE_AND. receivers has the net of each receiver, n to 64 of them, at least one on
@@ -48,7 +48,7 @@ extern "C" {
 #define FONTARELGA_GATE_OR 0
 #define FONTARELGA_GATE_AND 1
 
-/* The stack of a thread that is enough for check and diagnosis, and for all else. */
+/* The stack of a thread that is enough for check, shortening and diagnosis, and for all else. */
 #define FONTARELGA_CHECK_STACK_BYTES 327680
 #define FONTARELGA_OTHER_STACK_BYTES 32768
 
@@ -61,6 +61,22 @@ extern "C" {
 /* Can the test set tell all states of the class apart? Rows 5, 6, 17, 20, 7, 8. */
 uint64_t fontarelga_check(uint64_t nets, uint64_t level, uint64_t gate, uint64_t class_, const uint64_t *vectors,
                           size_t vectors_len, uint64_t verdict[FONTARELGA_VERDICT_WORDS]);
+
+/* What is said of a shortened set: how many vectors are kept, the checks made, and the floor, which is the smallest q
+ * with 2^q at least the number of sets of at most class_ drivers, the empty one included. Every passed set of the class
+ * has at least q vectors. */
+#define FONTARELGA_SHORTENED_WORDS 3
+#define FONTARELGA_SHORTENED_KEPT 0
+#define FONTARELGA_SHORTENED_CHECKS 1
+#define FONTARELGA_SHORTENED_FLOOR 2
+
+/* A shorter test set, for class 1, 2 or 3. From the last vector to the first, each is left out if those kept so far are
+ * passed without it. Each trial costs one check; allowed is how many may be made, any number, and with none left the
+ * rest is kept. The vectors kept go to kept in the order given, and no other word of it is written; it must have room
+ * for all of vectors. Rows 5, 6 (also for every class above 3), 17, 20, 7, 8, 12, 13 (the set given is not passed). */
+uint64_t fontarelga_shorten(uint64_t nets, uint64_t level, uint64_t gate, uint64_t class_, const uint64_t *vectors,
+                            size_t vectors_len, uint64_t allowed, uint64_t *kept, size_t kept_len,
+                            uint64_t shortened[FONTARELGA_SHORTENED_WORDS]);
 
 /* The list of receivers of a network with one receiver a net: 0 to nets - 1, receiver i on net i. Rows 5, 12. */
 uint64_t fontarelga_own_receivers(uint64_t nets, uint64_t *receivers, size_t receivers_len);

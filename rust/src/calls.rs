@@ -4,7 +4,7 @@ use crate::board::Board;
 use crate::interface as raw;
 use crate::network::Network;
 use crate::refusal::Refusal;
-use crate::sizes::{FINDING_WORDS, MOST_RECEIVERS, VERDICT_WORDS};
+use crate::sizes::{FINDING_WORDS, MOST_RECEIVERS, SHORTENED_WORDS, VERDICT_WORDS};
 
 /// The checker's answer.
 #[derive(Clone, Copy, Debug, PartialEq, Eq, Hash)]
@@ -13,6 +13,19 @@ pub enum Verdict {
     Pass,
     /// Two driver sets that the test set cannot tell apart: reach `a` or `b` at receiver 0, all others floating.
     Pair { a: u64, b: u64 },
+}
+
+/// What is kept of a test set, and how far it can be from the shortest.
+#[derive(Clone, Debug, PartialEq, Eq, Hash)]
+pub struct Shorter {
+    /// The vectors that are kept, in the order given: a passed set.
+    pub kept: Vec<u64>,
+    /// How many checks were made, one for each vector that was tried: as many as were allowed, or as there were vectors
+    /// if those are fewer. The check of the set given is not counted.
+    pub checks: u64,
+    /// The smallest q with 2^q at least the number of sets of at most k drivers, the empty one included. Every passed
+    /// set of the class has at least q vectors, so the shortest has at most `kept.len()` minus q fewer than `kept`.
+    pub floor: u64,
 }
 
 /// What is found at a receiver: it is open if its own net's driver does not reach it, and a short if it has partners
@@ -82,6 +95,32 @@ pub fn check(network: impl Into<Network>, class: u64, vectors: &[u64]) -> Result
         [0, ..] => Verdict::Pass,
         [_, a, b] => Verdict::Pair { a, b },
     })
+}
+
+/// A shorter test set, by a number of checks that the caller gives.
+///
+/// The network and `vectors` are as for [`check`]; `class` is 1, 2 or 3, and at most n. From the last vector to the
+/// first, each is left out if those kept so far are passed without it. Each trial costs one check. `allowed` is how
+/// many may be made, any number; with none left, the rest is kept.
+///
+/// Refused: 5, 6 (here also for every class above 3), 17, 20, 7, 8, 13 (the set given is not passed).
+///
+/// ```
+/// use fontarelga::{shorten, Refusal, Shorter};
+/// let vectors = [0, 1, 2, 4, 8, 3, 5];
+/// assert_eq!(shorten(4, 2, &vectors, 7), Ok(Shorter { kept: vec![1, 2, 4, 8], checks: 7, floor: 4 }));
+/// // With two checks 5 and 3 are tried, and with none all vectors are kept.
+/// assert_eq!(shorten(4, 2, &vectors, 2), Ok(Shorter { kept: vec![0, 1, 2, 4, 8], checks: 2, floor: 4 }));
+/// assert_eq!(shorten(4, 2, &vectors, 0), Ok(Shorter { kept: vectors.to_vec(), checks: 0, floor: 4 }));
+/// assert_eq!(shorten(4, 2, &[0, 1, 2, 4], 7), Err(Refusal(13)));
+/// ```
+pub fn shorten(network: impl Into<Network>, class: u64, vectors: &[u64], allowed: u64) -> Result<Shorter, Refusal> {
+    let mut kept = vec![0; vectors.len()];
+    let mut shortened = [0; SHORTENED_WORDS];
+    Refusal::from_code(raw::shorten(network, class, vectors, allowed, &mut kept, &mut shortened))?;
+    let [count, checks, floor] = shortened;
+    kept.truncate(count as usize);
+    Ok(Shorter { kept, checks, floor })
 }
 
 /// The response of a wiring state: a word a vector, bit r read by receiver r.

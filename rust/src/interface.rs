@@ -5,7 +5,7 @@
 
 use crate::board::Board;
 use crate::network::Network;
-use crate::sizes::{JOB_WORDS, RECORD_WORDS, VERDICT_WORDS};
+use crate::sizes::{JOB_WORDS, RECORD_WORDS, SHORTENED_WORDS, VERDICT_WORDS};
 
 mod c {
     extern "C" {
@@ -17,6 +17,19 @@ mod c {
             vectors: *const u64,
             vectors_len: usize,
             verdict: *mut u64,
+        ) -> u64;
+
+        pub fn fontarelga_shorten(
+            nets: u64,
+            level: u64,
+            gate: u64,
+            class: u64,
+            vectors: *const u64,
+            vectors_len: usize,
+            allowed: u64,
+            kept: *mut u64,
+            kept_len: usize,
+            shortened: *mut u64,
         ) -> u64;
 
         pub fn fontarelga_own_receivers(nets: u64, receivers: *mut u64, receivers_len: usize) -> u64;
@@ -134,6 +147,33 @@ pub fn check(network: impl Into<Network>, class: u64, vectors: &[u64], verdict: 
             vectors.as_ptr(),
             vectors.len(),
             verdict.as_mut_ptr(),
+        )
+    }
+}
+
+/// The vectors kept into the front of `kept`, which must have room for all of `vectors`; their number, the checks made
+/// and the floor into `shortened`.
+pub fn shorten(
+    network: impl Into<Network>,
+    class: u64,
+    vectors: &[u64],
+    allowed: u64,
+    kept: &mut [u64],
+    shortened: &mut [u64; SHORTENED_WORDS],
+) -> u64 {
+    let network = network.into();
+    unsafe {
+        c::fontarelga_shorten(
+            network.nets(),
+            network.level(),
+            network.gate(),
+            class,
+            vectors.as_ptr(),
+            vectors.len(),
+            allowed,
+            kept.as_mut_ptr(),
+            kept.len(),
+            shortened.as_mut_ptr(),
         )
     }
 }

@@ -5,14 +5,15 @@
 //!
 //! A word has 64 bits; bit i stands for net i, and in responses for receiver i. [`respond`], [`diagnose`], [`findings`]
 //! and [`Session::begin`] take a [`Board`], a network with its receivers, or the network alone, which then has one
-//! receiver a net. [`check`] and [`Job`] take the network.
+//! receiver a net. [`check`], [`shorten`] and [`Job`] take the network.
 //!
 //! Each call gives its full result or a [`Refusal`], the number of the first row of the table that holds; a call's rows
 //! are listed with it in the table's order, in which 21 follows 5, and 17 and 20 follow 6. Any numbers, any bytes and
 //! any lengths are ordinary inputs. The wrappers lend lists that are long enough, so row 12 is met in [`raw`] only.
 //!
-//! The library takes what it needs from the stack. [`check`] and [`diagnose`] run on a thread with a stack of at least
-//! [`CHECK_STACK_BYTES`], all else with [`OTHER_STACK_BYTES`]. Threads of the standard library have 2 MB by default.
+//! The library takes what it needs from the stack. [`check`], [`shorten`] and [`diagnose`] run on a thread with a stack
+//! of at least [`CHECK_STACK_BYTES`], all else with [`OTHER_STACK_BYTES`]. Threads of the standard library have 2 MB by
+//! default.
 
 mod board;
 mod calls;
@@ -24,14 +25,14 @@ mod session;
 mod sizes;
 
 pub use board::Board;
-pub use calls::{check, diagnose, findings, respond, Finding, Kind, Verdict};
+pub use calls::{check, diagnose, findings, respond, shorten, Finding, Kind, Shorter, Verdict};
 pub use job::Job;
 pub use network::{Network, AND, OR};
 pub use refusal::Refusal;
 pub use session::{Session, Waits};
 pub use sizes::{
     CHECK_STACK_BYTES, FINDING_WORDS, JOB_WORDS, MOST_FILE_BYTES, MOST_FIRST_VECTORS, MOST_NETS, MOST_RECEIVERS,
-    MOST_SECOND_VECTORS, MOST_VECTORS, OTHER_STACK_BYTES, RECORD_WORDS, VERDICT_WORDS,
+    MOST_SECOND_VECTORS, MOST_VECTORS, OTHER_STACK_BYTES, RECORD_WORDS, SHORTENED_WORDS, VERDICT_WORDS,
 };
 
 /// The calls as the C interface has them, on lists that the caller lends.
@@ -51,7 +52,7 @@ pub use sizes::{
 /// ```
 pub mod raw {
     pub use crate::interface::{
-        begin, check, diagnose, findings, first_answers, own_receivers, read_job, respond, second_answers, to_drive,
-        write_job,
+        begin, check, diagnose, findings, first_answers, own_receivers, read_job, respond, second_answers, shorten,
+        to_drive, write_job,
     };
 }

@@ -23,7 +23,10 @@ impl Refusal {
             4 => "session step: the record does not wait for this call, or no accepted calls leave such a record",
             5 => "net count: n below 2 or above 48",
             21 => "receivers: m below n or above 64, a receiver that names no net, or a net that has none",
-            6 => "class: k not 1, 2, 3, n or, for n up to 10, one from 4 to n - 1; or above n",
+            6 => {
+                "class: k not 1, 2, 3, n or, for n up to 10, one from 4 to n - 1; or above n; \
+                 or above 3 where a set is to be shortened"
+            }
             17 => "soft level: neither 0 nor 1",
             20 => "gate: neither OR (0) nor AND (1)",
             7 => "vectors: fewer than 1 or more than 64",
@@ -34,7 +37,7 @@ impl Refusal {
                 "wiring state: not m words, a bit at or above n, more than k drivers, \
                  or two non-empty reaches that meet and differ"
             }
-            12 => "lent list: shorter than the result",
+            12 => "lent list: shorter than the result, or than the set to be shortened",
             13 => "separation: the checker does not pass the set",
             14 => "fit: no state of the class fits",
             _ => "no row of the table",

@@ -15,6 +15,8 @@ pub const MOST_FILE_BYTES: usize = 2048;
 
 /// The words of a verdict: 0 0 0 for pass, 1 A B for a pair.
 pub const VERDICT_WORDS: usize = 3;
+/// The words on a shortened set: vectors kept, checks made, floor.
+pub const SHORTENED_WORDS: usize = 3;
 /// The words of a finding: kind, reach, partners.
 pub const FINDING_WORDS: usize = 3;
 /// The words of a session record: step, nets, level, gate, number of receivers, the net of each (64), 8 first answers,
@@ -23,7 +25,8 @@ pub const RECORD_WORDS: usize = 142;
 /// The words of a job: nets, level, gate, class, number of vectors, number of responses.
 pub const JOB_WORDS: usize = 6;
 
-/// The stack of a thread that is enough for [`check`](crate::check) and [`diagnose`](crate::diagnose).
+/// The stack of a thread that is enough for [`check`](crate::check), [`shorten`](crate::shorten) and
+/// [`diagnose`](crate::diagnose).
 pub const CHECK_STACK_BYTES: usize = 320 * 1024;
 /// The stack of a thread that is enough for every other call.
 pub const OTHER_STACK_BYTES: usize = 32 * 1024;

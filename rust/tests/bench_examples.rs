@@ -1,4 +1,4 @@
-//! Document 01's bench examples and document 02's partners, soft level 0 and gate AND, by the wrappers.
+//! Document 01's bench examples and document 02's partners, soft level 0, gate AND and shorter sets, by the wrappers.
 
 mod support;
 
@@ -28,6 +28,44 @@ fn checker() {
     assert_eq!(check(4, 1, &[3, 5, 12, 10]), Ok(Verdict::Pass));
     assert_eq!(check(4, 2, &[3, 5, 12, 10]), pair(0, 6));
     assert_eq!(check(2, 2, &[1, 2, 0]), Ok(Verdict::Pass));
+}
+
+/// The set that is left, the checks made and the floor.
+fn shorter(kept: &[u64], checks: u64, floor: u64) -> Result<Shorter, Refusal> {
+    Ok(Shorter { kept: kept.to_vec(), checks, floor })
+}
+
+/// Of seven vectors the last two and the first can be left out; two checks reach the last two.
+#[test]
+fn shorter_sets() {
+    let vectors = [0, 1, 2, 4, 8, 3, 5];
+    assert_eq!(shorten(4, 2, &vectors, 7), shorter(&[1, 2, 4, 8], 7, 4));
+    assert_eq!(shorten(4, 2, &vectors, 2), shorter(&[0, 1, 2, 4, 8], 2, 4));
+    assert_eq!(shorten(4, 2, &vectors, 0), shorter(&vectors, 0, 4));
+    assert_eq!(shorten(4, 2, &vectors, u64::MAX), shorten(4, 2, &vectors, 7));
+    assert_eq!(shorten(4, 2, &[0, 1, 2, 4], 0), Err(Refusal(13)));
+}
+
+/// Class n of two and three nets: vector 0 is wanted with OR at level 1, and not at level 0.
+#[test]
+fn shorter_sets_of_class_n() {
+    let vectors = [4, 0, 2, 1, 7, 0];
+    let [pull_up, pull_down] = [1, 0].map(|level| Network::new(3).with_level(level));
+    assert_eq!(shorten(pull_up, 3, &vectors, 6), shorter(&[4, 0, 2, 1], 6, 3));
+    assert_eq!(shorten(pull_down, 3, &vectors, 6), shorter(&[4, 2, 1], 6, 3));
+    assert_eq!(shorten(2, 2, &[0, 1, 2, 3], 4), shorter(&[0, 1, 2], 4, 2));
+    assert_eq!(shorten(2, 3, &[0, 1, 2, 3], 4), Err(Refusal(6)));
+    assert_eq!(shorten(4, 4, &[0, 1, 2, 4, 8], 5), Err(Refusal(6)));
+}
+
+/// The published set for two shorts has two vectors more than the floor. The walking ones of 48 nets have many more.
+#[test]
+fn floors() {
+    assert_eq!(shorten(7, 2, &TABLE_TWO, 0), shorter(&TABLE_TWO, 0, 5));
+    let walking: Vec<u64> = (0..48).map(|i| 1 << i).collect();
+    for (class, floor) in [(1, 6), (2, 11), (3, 15)] {
+        assert_eq!(shorten(48, class, &walking, 0), shorter(&walking, 0, floor));
+    }
 }
 
 /// Classes from 4 to n - 1, for up to 10 nets. Driver 2 of five is hidden behind 0, 1 and 4, and driver 1 of six behind
@@ -274,12 +312,13 @@ fn refusals() {
 }
 
 /// Every call that takes a network, on two nets with this level and gate.
-fn calls_on(level: u64, gate: u64) -> [Result<(), Refusal>; 6] {
+fn calls_on(level: u64, gate: u64) -> [Result<(), Refusal>; 7] {
     let (network, vectors, state) = (Network::new(2).with_level(level).with_gate(gate), vec![0, 1, 2, 3], [1, 2]);
     assert_eq!((network.nets(), network.level(), network.gate()), (2, level, gate));
     let job = Job { network, class: 2, vectors: vectors.clone(), responses: vec![] };
     [
         check(network, 2, &vectors).map(drop),
+        shorten(network, 2, &vectors, 4).map(drop),
         respond(network, 2, &vectors, &state).map(drop),
         diagnose(network, 2, &vectors, &vectors).map(drop),
         findings(network, &state).map(drop),
@@ -298,7 +337,7 @@ fn levels_and_gates() {
                 (0 | 1, _) => Err(Refusal(20)),
                 _ => Err(Refusal(17)),
             };
-            assert_eq!(calls_on(level, gate), [answer; 6], "level {level}, gate {gate}");
+            assert_eq!(calls_on(level, gate), [answer; 7], "level {level}, gate {gate}");
         }
     }
 }
@@ -312,6 +351,10 @@ fn the_rows_around_the_gate() {
     assert_eq!(check(bad_both, 4, &[]), Err(Refusal(17)));
     assert_eq!(check(bad_gate, 4, &[]), Err(Refusal(20)));
     assert_eq!(check(PULL_DOWN, 4, &[]), Err(Refusal(7)));
+    assert_eq!(shorten(bad_both, 4, &[], 0), Err(Refusal(6)));
+    assert_eq!(shorten(bad_both, 3, &[], 0), Err(Refusal(17)));
+    assert_eq!(shorten(bad_gate, 3, &[], 0), Err(Refusal(20)));
+    assert_eq!(shorten(PULL_DOWN, 3, &[], 0), Err(Refusal(7)));
     assert_eq!(findings(Network::new(1).with_gate(2), &[]), Err(Refusal(5)));
     assert_eq!(findings(bad_gate, &[]), Err(Refusal(20)));
     assert_eq!(Session::begin(Network::new(49).with_gate(2)), Err(Refusal(5)));
@@ -352,6 +395,7 @@ fn a_number_of_nets_and_a_network_give_the_same() {
     let (network, vectors, state) = (Network::new(4), [0, 1, 2, 4, 8], [3, 3, 0, 8]);
     let responses = respond(network, 4, &vectors, &state).unwrap();
     assert_eq!(check(4, 4, &vectors), check(network, 4, &vectors));
+    assert_eq!(shorten(4, 3, &vectors, 5), shorten(network, 3, &vectors, 5));
     assert_eq!(respond(4, 4, &vectors, &state).as_ref(), Ok(&responses));
     assert_eq!(diagnose(4, 4, &vectors, &responses), diagnose(network, 4, &vectors, &responses));
     assert_eq!(findings(4, &state), findings(network, &state));

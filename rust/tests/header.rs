@@ -45,7 +45,7 @@ fn functions() {
         of_interface.push((name, parameters.into_iter().map(String::from).collect::<Vec<_>>()));
     }
     assert_eq!(of_header, of_interface);
-    assert_eq!(of_header.len(), 11);
+    assert_eq!(of_header.len(), 12);
 }
 
 /// The number that the header gives to a name, which stands after `FONTARELGA_`.
@@ -65,6 +65,7 @@ fn sizes() {
         ("CHECK_STACK_BYTES", CHECK_STACK_BYTES),
         ("OTHER_STACK_BYTES", OTHER_STACK_BYTES),
         ("VERDICT_WORDS", VERDICT_WORDS),
+        ("SHORTENED_WORDS", SHORTENED_WORDS),
         ("FINDING_WORDS", FINDING_WORDS),
         ("SESSION_WORDS", RECORD_WORDS),
         ("MOST_FIRST_VECTORS", MOST_FIRST_VECTORS),
@@ -87,6 +88,15 @@ fn verdict() {
     assert_eq!(raw::check(4, 4, &[1, 2, 4, 8], &mut verdict), 0);
     let word = |name: &str| verdict[stated(name)];
     assert_eq!((word("VERDICT_IS_PAIR"), word("VERDICT_A"), word("VERDICT_B")), (1, 0, 15));
+}
+
+#[test]
+fn shortened() {
+    let (mut kept, mut shortened) = ([9; 7], [0; SHORTENED_WORDS]);
+    assert_eq!(raw::shorten(4, 2, &[0, 1, 2, 4, 8, 3, 5], 6, &mut kept, &mut shortened), 0);
+    assert_eq!(kept, [0, 1, 2, 4, 8, 9, 9]);
+    let word = |name: &str| shortened[stated(name)];
+    assert_eq!((word("SHORTENED_KEPT"), word("SHORTENED_CHECKS"), word("SHORTENED_FLOOR")), (5, 6, 4));
 }
 
 #[test]

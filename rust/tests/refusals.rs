@@ -13,7 +13,8 @@ use model::diagnosis::{rows_of_diagnose, rows_of_findings};
 use model::jobfile::{laid_out, reader_rows_holding, rows_of_write_job};
 use model::responding::{respond, rows_of_respond};
 use model::session::{rows_of_begin, rows_of_first_answers, rows_of_second_answers};
-use model::{check, diagnose, findings, read_job, write_job, Board, Network, Record, AND, OR};
+use model::shortening::rows_of_shorten;
+use model::{check, diagnose, findings, read_job, shorten, write_job, Board, Network, Record, AND, OR};
 use std::collections::BTreeSet;
 use support::calls::*;
 use support::networks::each_combination;
@@ -255,11 +256,9 @@ fn response_from_a_state() {
     );
 }
 
-#[test]
-fn diagnosis() {
-    let own: Vec<Way<Set>> = vec![
-        (12, |i| i.room = i.board.receivers().saturating_sub(1)),
-        (12, |i| i.room = 0),
+/// Ways for row 13.
+fn separation_ways() -> Vec<Way<Set>> {
+    vec![
         // Without a walking vector, and without the extra vector or, where there is none, without another walking one.
         (13, |i| i.vectors = if i.board.network.gate == OR { vec![0, 1, 2, 2] } else { vec![7, 6, 5, 5] }),
         (13, |i| {
@@ -274,6 +273,40 @@ fn diagnosis() {
             i.k = 2;
             i.vectors.fill(0);
         }),
+    ]
+}
+
+#[test]
+fn shorter_set() {
+    let own: Vec<Way<Set>> = vec![
+        (6, |i| (i.board, i.k) = (Network { nets: 4, ..i.board.network }.into(), 4)),
+        (6, |i| (i.board, i.k) = (Network { nets: 10, ..i.board.network }.into(), 4)),
+        (6, |i| (i.board, i.k) = (Network { nets: 48, ..i.board.network }.into(), 48)),
+        (12, |i| i.room = 3),
+        (12, |i| i.room = 0),
+    ];
+    let table = Table {
+        rows: &[5, 6, 17, 20, 7, 8, 12, 13],
+        accepted: accepted_sets(4),
+        ways: [set_ways(), own, separation_ways()].concat(),
+    };
+    for allowed in [0, 2, u64::MAX] {
+        table.try_all(
+            |i| rows_of_shorten(i.board.network, i.k, &i.vectors, i.room).holding(),
+            |i, first| {
+                let net = i.board.network;
+                let answer = by_rows(shorten(net, i.k, &i.vectors, allowed, i.room), first);
+                shorten_gives(net, i.k, &i.vectors, allowed, i.room, &answer)
+            },
+        );
+    }
+}
+
+#[test]
+fn diagnosis() {
+    let own: Vec<Way<Set>> = vec![
+        (12, |i| i.room = i.board.receivers().saturating_sub(1)),
+        (12, |i| i.room = 0),
         // Reaches that meet and differ, and a receiver that floats, but for what it reads on the first vector.
         (14, |i| *i.responses.get_mut(1).unwrap_or(&mut 0) ^= 2),
         (14, |i| *i.responses.get_mut(0).unwrap_or(&mut 0) ^= 4),
@@ -281,7 +314,7 @@ fn diagnosis() {
     let table = Table {
         rows: &[5, 21, 6, 17, 20, 7, 8, 9, 10, 12, 13, 14],
         accepted: accepted_boards(4),
-        ways: [set_ways(), receiver_ways(), response_ways(), own].concat(),
+        ways: [set_ways(), receiver_ways(), response_ways(), separation_ways(), own].concat(),
     };
     table.try_all(
         |i| rows_of_diagnose(&i.board, i.k, &i.vectors, &i.responses, i.room).holding(),

@@ -1,5 +1,6 @@
 //! Every class of few nets, of each gate and soft level: which of them every call with row 6 admits, for 2 to 12 nets;
-//! and those from 4 to n - 1, for 5 to 10 nets: verdicts, pairs, states read back, and job files.
+//! and those from 4 to n - 1, for 5 to 10 nets: verdicts, pairs, states read back, and job files. Shortening alone
+//! admits none above 3.
 
 mod support;
 
@@ -30,6 +31,9 @@ fn try_class(net: Network, k: u64) -> bool {
     let vectors = whole_walking_set(net);
     let checked = model::check(net, k, &vectors);
     check_gives(net, k, &vectors, &checked);
+    let shortened = model::shorten(net, k, &vectors, u64::MAX, vectors.len());
+    shorten_gives(net, k, &vectors, u64::MAX, vectors.len(), &shortened);
+    assert_eq!(shortened.is_ok(), checked.is_ok() && k <= 3);
     for (board, state) in sound(net) {
         let (m, v, answers) = (board.receivers(), vectors.len(), response(net, &vectors, &state));
         respond_gives(&board, k, &vectors, &state, v, &model::respond(&board, k, &vectors, &state, v));

@@ -55,6 +55,22 @@ fn check_and_diagnosis() {
     }
 }
 
+/// With every check that can be made. What is kept is passed, and none of it can be left out.
+#[test]
+fn shortening() {
+    let g = &mut Generator::new(20);
+    for net in each_combination(N) {
+        for class in [1, 2, 3] {
+            let (network, vectors) = (of_library(net), largest_set(g, net));
+            let shorter = on_a_stack_of(CHECK_STACK_BYTES, || shorten(network, class, &vectors, u64::MAX)).unwrap();
+            assert_eq!(shorter.checks, MOST_VECTORS as u64);
+            assert_eq!(check(network, class, &shorter.kept), Ok(Verdict::Pass));
+            let again = on_a_stack_of(CHECK_STACK_BYTES, || shorten(network, class, &shorter.kept, u64::MAX)).unwrap();
+            assert_eq!(again.kept, shorter.kept);
+        }
+    }
+}
+
 /// For class n they take no more than all else, nor do they for a class from 4 to n - 1.
 #[test]
 fn check_and_diagnosis_of_class_n_and_above_3() {

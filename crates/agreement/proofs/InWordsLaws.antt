@@ -6,15 +6,16 @@ use mathlib.Core.List.{List, [], _∷_, _++_}
 use lib.ListN.{length}
 use Rattle.words.specs.Answers.{Answer, refused, full, lent-after, count-of}
 use Rattle.network.specs.declared.Network.{Network}
+use Rattle.shorter.specs.Shorten.{Shorter, counted as shorter-counted}
 use Rattle.findings.specs.declared.Finding.{Finding}
 use Rattle.findings.specs.FindingsTable.{findings-answer}
 use Rattle.findings.proofs.FindingsLaws.{records-fit}
 use Rattle.reader.specs.Reader.{JobContent, counted}
-use Rattle.packing.specs.Packed.{finding-words, job-words, size-words}
+use Rattle.packing.specs.Packed.{shorter-words, finding-words, job-words, size-words}
 use Rattle.exports.specs.Exported.{code, in-words}
 use Rattle.exports.proofs.CallLaws.{code-counted}
 use Rattle.demands.specs.Programs.{our-findings}
-use Rattle.agreement.specs.InWords.{records-of, rest-of, returned-job-words, returned-size-words}
+use Rattle.agreement.specs.InWords.{records-of, rest-of, returned-shorter-words, returned-job-words, returned-size-words}
 
 -- ---- tables
 
@@ -65,6 +66,11 @@ found-in-words net owners state words table number e f =
     )
 
 -- ---- what is returned
+
+pub shortened-in-words : (a : Answer Shorter) → in-words shorter-words a ≡ in-words returned-shorter-words (shorter-counted a)
+unfolding in-words shorter-words
+shortened-in-words (refused number) = refl
+shortened-in-words (full result) = refl
 
 pub read-in-words : (a : Answer JobContent) → in-words job-words a ≡ in-words returned-job-words (counted a)
 unfolding in-words job-words

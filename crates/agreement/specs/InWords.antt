@@ -1,6 +1,7 @@
--- A table of findings from words, and what the reader and the writer return, as words.
+-- A table of findings from words, and what *shorten*, the reader and the writer return, as words.
 use Prim.Native.Nat.{ℕ}
 use mathlib.Core.List.{List, [], _∷_}
+use Rattle.shorter.specs.declared.Shortened.{Shortened}
 use Rattle.findings.specs.declared.Finding.{Finding}
 use Rattle.reader.specs.declared.Job.{Job}
 
@@ -17,6 +18,10 @@ rest-of [] = []
 rest-of (a ∷ []) = a ∷ []
 rest-of (a ∷ b ∷ []) = a ∷ b ∷ []
 rest-of (a ∷ b ∷ c ∷ words) = rest-of words
+
+-- what *shorten* returns: how many vectors are kept, the checks made, the floor
+abbrev pub returned-shorter-words : Shortened → List ℕ
+returned-shorter-words counts = counts .kept ∷ counts .checks ∷ counts .floor ∷ []
 
 -- what the reader returns: nets, level, gate, class, number of vectors, number of responses
 abbrev pub returned-job-words : Job → List ℕ

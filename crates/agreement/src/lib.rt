@@ -8,13 +8,14 @@ ghost use Rattle.words.specs.Answers.{full, «lent-after»};
 ghost use Rattle.network.specs.Respond as Respond;
 ghost use Rattle.checker.specs.Check as Check;
 ghost use Rattle.diagnosis.specs.Diagnosis as Diagnosis;
+ghost use Rattle.shorter.specs.Shorten as Shorten;
 ghost use Rattle.findings.specs.FindingsTable.{«table-meaning»};
 ghost use Rattle.reader.specs.Reader as Reader;
 ghost use Rattle.writer.specs.Writer as Writer;
 ghost use Rattle.exports.specs.Exported.{code};
 ghost use Rattle.demands.specs.SessionCalls.{begin, first, second};
-ghost use Rattle.demands.specs.Programs.{«our-check», «our-plain-search», «our-own-receivers», «our-response»};
-ghost use Rattle.demands.specs.Programs.{«our-diagnosis», «our-findings»};
+ghost use Rattle.demands.specs.Programs.{«our-check», «our-plain-search», «our-shorten», «our-own-receivers»};
+ghost use Rattle.demands.specs.Programs.{«our-response», «our-diagnosis», «our-findings»};
 ghost use Rattle.demands.specs.Programs.{«our-reader», «our-writer», «our-sessions», «our-drive», «our-report»};
 
 pub mod through_c;
@@ -29,6 +30,7 @@ use network::Responded;
 use reader::ReadJob;
 use session::Session;
 use session::Stepped;
+use shorter::Shortening;
 use writer::Wrote;
 
 // *check*
@@ -44,6 +46,21 @@ pub fn plain_search(net: Network, class: u64, vectors: &[u64]) -> Verdict
     ensures { λ r. ⌜ r ≡ our-plain-search net class (now (vectors .entry)) ⌝ }
 {
     checker::plain::plain_verdict(net, class, vectors)
+}
+
+// *shorten*
+pub fn shorten(
+    net: Network,
+    class: u64,
+    vectors: &[u64],
+    allowed: u64,
+    out: &mut [u64],
+) -> Shortening
+    ensures returned { λ r. ⌜ Shorten.meaning r
+        ≡ our-shorten net class (now (vectors .entry)) allowed (now (out .entry)) .returned ⌝ }
+    ensures list { λ r. ⌜ now (out .exit) ≡ our-shorten net class (now (vectors .entry)) allowed (now (out .entry)) .list ⌝ }
+{
+    shorter::shorten(net, class, vectors, allowed, out)
 }
 
 // *own receivers*

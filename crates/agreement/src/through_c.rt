@@ -6,10 +6,11 @@ ghost use Rattle.network.specs.Reading.{«network-with»};
 ghost use Rattle.packing.specs.Packed.{«verdict-words», «finding-words»};
 ghost use Rattle.exports.specs.Exported.{code, «in-words», «fixed-after», «drive-count»};
 ghost use Rattle.demands.specs.SessionCalls.{begin, first, second};
-ghost use Rattle.demands.specs.Programs.{«our-check», «our-own-receivers», «our-response», «our-diagnosis»};
+ghost use Rattle.demands.specs.Programs.{«our-check», «our-shorten», «our-own-receivers», «our-response», «our-diagnosis»};
 ghost use Rattle.demands.specs.Programs.{«our-findings», «our-reader», «our-writer»};
 ghost use Rattle.demands.specs.ThroughC.{exported};
-ghost use Rattle.agreement.specs.InWords.{«records-of», «rest-of», «returned-job-words», «returned-size-words»};
+ghost use Rattle.agreement.specs.InWords.{«records-of», «rest-of», «returned-shorter-words»};
+ghost use Rattle.agreement.specs.InWords.{«returned-job-words», «returned-size-words»};
 
 // *check*
 pub fn check(
@@ -26,6 +27,30 @@ pub fn check(
         (now (verdict .entry)) ⌝ }
 {
     exports::fontarelga_check(nets, level, gate, class, vectors, verdict)
+}
+
+// *shorten*
+pub fn shorten(
+    nets: u64,
+    level: u64,
+    gate: u64,
+    class: u64,
+    vectors: &[u64],
+    allowed: u64,
+    kept: &mut [u64],
+    shortened: &mut [u64; 3],
+) -> u64
+    ensures returned { λ r. ⌜ r
+        ≡ code (our-shorten (network-with nets level gate) class (now (vectors .entry)) allowed
+        (now (kept .entry)) .returned) ⌝ }
+    ensures kept { λ r. ⌜ now (kept .exit)
+        ≡ our-shorten (network-with nets level gate) class (now (vectors .entry)) allowed (now (kept .entry)) .list ⌝ }
+    ensures shortened { λ r. ⌜ now (shortened .exit)
+        ≡ fixed-after (in-words returned-shorter-words
+        (our-shorten (network-with nets level gate) class (now (vectors .entry)) allowed (now (kept .entry)) .returned))
+        (now (shortened .entry)) ⌝ }
+{
+    exports::fontarelga_shorten(nets, level, gate, class, vectors, allowed, kept, shortened)
 }
 
 // *own receivers*

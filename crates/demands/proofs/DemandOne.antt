@@ -16,6 +16,7 @@ use Rattle.network.specs.States.{Fits}
 use Rattle.network.specs.OwnReceivers.{OwnReceivers}
 use Rattle.network.specs.Rows.{Row9, Row12}
 use Rattle.checker.specs.Rule.{Rule}
+use Rattle.shorter.specs.Shorten.{Shorter, IsShorter, kept-of, counted as shorter-counted}
 use Rattle.findings.specs.FindingsTable.{Findings}
 use Rattle.steps.specs.FirstStep.{first-vectors}
 use Rattle.steps.specs.SecondStep.{unclear, second-vectors}
@@ -29,7 +30,7 @@ use Rattle.demands.specs.SessionCalls.{finished-first, finished-second, 
 use Rattle.demands.specs.SessionCalls.{record-after, history-from, history, LeftBy, Awaits, FitsAnswers}
 use Rattle.demands.specs.SessionRecords.{WaitsFor}
 use Rattle.demands.specs.Demand3.{BeginRows, Written, second-words}
-use Rattle.demands.specs.Demand1.{PublicCall, own, check, respond, diagnose, find, read, write, advance, drive}
+use Rattle.demands.specs.Demand1.{PublicCall, own, check, shorten, respond, diagnose, find, read, write, advance, drive}
 use Rattle.demands.specs.Demand1.{awaited-vectors, SessionHighBit, InSession, SessionRows, Rows, numbers}
 use Rattle.demands.specs.Demand1.{RefusedFill, FullFill, Before, RefusedWith, FullResult, FirstRow, RefusedOrFull}
 use Rattle.demands.specs.Demand1.{Demand1}
@@ -40,6 +41,7 @@ use Rattle.demands.proofs.Responding.{responds}
 use Rattle.demands.proofs.Diagnosing.{diagnoses}
 use Rattle.demands.proofs.Findings.{finds}
 use Rattle.demands.proofs.Checking.{checks-by-rule}
+use Rattle.demands.proofs.Shortening.{shortens}
 use Rattle.demands.proofs.JobFiles.{writes, reads-files}
 use Rattle.demands.proofs.Telling.{Tells, first-refused, second-refused, begin-by-table, step-of, is-begun, step-told}
 use Rattle.demands.proofs.Sessions.{goes-through, left-tells, row-four, call-by-table, drives}
@@ -232,6 +234,17 @@ read-call file vectors responses =
           ∙ ap responses-after q,
     )) (f .allowed)
 
+shorten-call : (net : Network) (k : ℕ) (vectors : List ℕ) (allowed : ℕ) (list : List ℕ)
+    → RefusedOrFull ours (shorten net k vectors allowed list)
+unfolding lent-after
+shorten-call net k vectors allowed list =
+    let call : PublicCall = shorten net k vectors allowed list in
+    let f = shortens net k vectors allowed list in
+    let list-after : Answer Shorter → List ℕ = λ a. lent-after (kept-of a) list in
+    either (IsShorter net k vectors allowed) (RefusedWith ours call) (FullResult ours call) (Rows ours call) (f .answer)
+    (λ number e. (f .returned ∙ ap shorter-counted e, f .list ∙ ap list-after e))
+    (λ result e is. (result, is, f .returned ∙ ap shorter-counted e, f .list ∙ ap list-after e)) (f .by-table)
+
 advance-call : (session : Session) (call : Call) → RefusedOrFull ours (advance session call)
 unfolding lent-after
 advance-call session call =
@@ -257,6 +270,7 @@ each-call (check net k vectors) =
     either (Rule net k vectors) (RefusedWith ours call) (FullResult ours call) (Rows ours call)
     (our-check net k vectors) (λ number e. e) (λ verdict e r. (verdict, r, e))
     (checks-by-rule net k vectors)
+each-call (shorten net k vectors allowed list) = shorten-call net k vectors allowed list
 each-call (respond net owners k vectors state list) =
     fills (Rows ours (respond net owners k vectors state list)) (Response net state vectors) list
     (our-response net owners k vectors state list) (responds net owners k vectors state list)
@@ -276,6 +290,7 @@ each-call (drive session one two) = inr (tt, drives session one two)
 by-its-rows : (call : PublicCall) → map (λ (row : ℕ × Type 0). row .0) (Rows ours call) ≡ numbers call
 by-its-rows (own nets list) = refl
 by-its-rows (check net k vectors) = refl
+by-its-rows (shorten net k vectors allowed list) = refl
 by-its-rows (respond net owners k vectors state list) = refl
 by-its-rows (diagnose net owners k vectors responses list) = refl
 by-its-rows (find net owners state table) = refl

@@ -4,6 +4,7 @@ pub mod Findings
 pub mod OwnReceivers
 pub mod Checking
 pub mod PlainSearch
+pub mod Shortening
 pub mod Refuting
 pub mod Telling
 pub mod ReadBytes
@@ -22,11 +23,13 @@ pub mod SessionsAlike
 pub mod RefutingSessions
 pub mod RefutingFindings
 pub mod RefutingCalls
+pub mod RefutingShorter
 pub mod Tables
 pub mod LevelTable
 pub mod GateTable
 pub mod ReceiverTable
 pub mod ClassTable
+pub mod ShorterTable
 pub mod FileTables
 pub mod SaidAloneCalls
 pub mod SaidAloneFindings

@@ -29,6 +29,7 @@ use Rattle.demands.proofs.RefutingFindings.{table-as-lent, record-not-w
 use Rattle.demands.proofs.RefutingSessions.{own-two, guessed, second-ignored, counted-itself}
 use Rattle.demands.proofs.RefutingSessions.{refuses-begins, uncounted, no-vectors}
 use Rattle.demands.proofs.RefutingCalls.{vectors-cleared, started-again}
+use Rattle.demands.proofs.RefutingShorter as Shorter
 
 -- walking ones with vector 0, and a set without it
 abbrev enough : List ℕ
@@ -139,6 +140,15 @@ refuted = record {
   passes-all = passes-all;
   one-pair = one-pair;
   refuses-sets = refuses-sets;
+  from-the-first = Shorter.from-the-first;
+  first-check-counted = Shorter.first-check-counted;
+  whole-set-tried = Shorter.whole-set-tried;
+  nothing-tried = Shorter.nothing-tried;
+  not-passed = Shorter.not-passed;
+  floor-too-high = Shorter.floor-too-high;
+  floor-too-low = Shorter.floor-too-low;
+  rest-cleared = Shorter.rest-cleared;
+  given-left = Shorter.given-left;
   list-as-lent = list-as-lent;
   tail-dropped = tail-dropped;
   written-when-refused = written-when-refused;

@@ -19,6 +19,7 @@ use Rattle.demands.proofs.Responding.{response-determined}
 use Rattle.demands.proofs.Diagnosing.{diagnosis-determined-program}
 use Rattle.demands.proofs.OwnReceivers.{own-determined-program}
 use Rattle.demands.proofs.Findings.{findings-determined-program}
+use Rattle.demands.proofs.Shortening.{shorten-determined-program}
 use Rattle.demands.proofs.Checking.{check-determined-program}
 use Rattle.demands.proofs.SessionsAlike.{sessions-determined}
 use Rattle.demands.proofs.JobFiles.{writer-determined, reader-determined}
@@ -162,6 +163,7 @@ determined = record {
   own-receivers = own-determined-program;
   response = response-determined;
   check = check-determined-program;
+  shorten = shorten-determined-program;
   diagnosis = diagnosis-determined-program;
   findings = findings-determined-program;
   session = sessions-determined;

@@ -15,6 +15,7 @@ use Rattle.network.specs.OwnReceivers.{OwnReceivers, OwnReceiversRows}
 use Rattle.checker.specs.declared.Verdict.{Verdict}
 use Rattle.checker.specs.Rule.{Rule}
 use Rattle.diagnosis.specs.Diagnosis.{DiagnosisRows}
+use Rattle.shorter.specs.Shorten.{ShortenRows, Shorter, IsShorter}
 use Rattle.findings.specs.declared.Finding.{Finding}
 use Rattle.findings.specs.FindingsTable.{FindingsRows, Findings}
 use Rattle.session.specs.declared.Session.{Session}
@@ -28,6 +29,7 @@ use Rattle.demands.specs.SessionCalls.{Call, begin, first, second, lent,
 use Rattle.demands.specs.SessionCalls.{waits-first, waits-second, finished-first, finished-second, accepted}
 use Rattle.demands.specs.SessionCalls.{LeftBy, FitsAnswers}
 use Rattle.demands.specs.Demand3.{CheckProgram, BeginRows, Written, second-words}
+use Rattle.demands.specs.ShortenCall.{ShortenDone, ShortenProgram}
 use Rattle.demands.specs.SessionRecords.{WaitsFor, DriveProgram, DrivesNext}
 
 -- ---- the calls
@@ -36,6 +38,7 @@ use Rattle.demands.specs.SessionRecords.{WaitsFor, DriveProgram, DrivesN
 pub data PublicCall : Type 0 where
   own : (nets : ℕ) (list : List ℕ) → PublicCall
   check : (net : Network) (k : ℕ) (vectors : List ℕ) → PublicCall
+  shorten : (net : Network) (k : ℕ) (vectors : List ℕ) (allowed : ℕ) (list : List ℕ) → PublicCall
   -- in the next three, and in begin, `owners` has the net of each receiver
   respond : (net : Network) (owners : List ℕ) (k : ℕ) (vectors state list : List ℕ) → PublicCall
   diagnose : (net : Network) (owners : List ℕ) (k : ℕ) (vectors responses list : List ℕ) → PublicCall
@@ -51,6 +54,7 @@ pub data PublicCall : Type 0 where
 pub record Programs : Type 0 where
   pub owns : OwnReceiversProgram
   pub checks : CheckProgram
+  pub shortens : ShortenProgram
   pub responds : ResponseProgram
   pub diagnoses : DiagnosisProgram
   pub finds : FindingsProgram
@@ -102,6 +106,7 @@ SessionRows program session (second answers) =
 abbrev pub Rows : Programs → PublicCall → List (ℕ × Type 0)
 Rows p (own nets list) = OwnReceiversRows nets (length list)
 Rows p (check net k vectors) = SetRows net k vectors
+Rows p (shorten net k vectors allowed list) = ShortenRows net k vectors (length list)
 Rows p (respond net owners k vectors state list) = ResponseRows net owners k vectors state (length list)
 Rows p (diagnose net owners k vectors responses list) = DiagnosisRows net owners k vectors responses (length list)
 Rows p (find net owners state table) = FindingsRows net owners state (length table)
@@ -119,6 +124,7 @@ session-numbers (second answers) = 4 ∷ 9 ∷ 10 ∷ 14 ∷ []
 abbrev pub numbers : PublicCall → List ℕ
 numbers (own nets list) = 5 ∷ 12 ∷ []
 numbers (check net k vectors) = 5 ∷ 6 ∷ 17 ∷ 20 ∷ 7 ∷ 8 ∷ []
+numbers (shorten net k vectors allowed list) = 5 ∷ 6 ∷ 17 ∷ 20 ∷ 7 ∷ 8 ∷ 12 ∷ 13 ∷ []
 numbers (respond net owners k vectors state list) = 5 ∷ 21 ∷ 6 ∷ 17 ∷ 20 ∷ 7 ∷ 8 ∷ 11 ∷ 12 ∷ []
 numbers (diagnose net owners k vectors responses list) = 5 ∷ 21 ∷ 6 ∷ 17 ∷ 20 ∷ 7 ∷ 8 ∷ 9 ∷ 10 ∷ 12 ∷ 13 ∷ 14 ∷ []
 numbers (find net owners state table) = 5 ∷ 21 ∷ 17 ∷ 20 ∷ 11 ∷ 12 ∷ []
@@ -140,6 +146,15 @@ abbrev pub FullFill : {A : Type 0} → (List A → Type 0) → List A → Filled
 FullFill {A} result lent did =
     (written : List A) × result written × (did .returned ≡ full (length written))
     × FrontWritten written lent (did .list)
+
+-- what the rule keeps, written, and how many they are, the checks made and the floor returned
+abbrev pub FullShorten : Network → (k : ℕ) → (vectors : List ℕ) → (allowed : ℕ) → (lent : List ℕ) → ShortenDone → Type 0
+FullShorten net k vectors allowed lent did =
+    (result : Shorter)
+    × IsShorter net k vectors allowed result
+    × (did .returned
+    ≡ full (record { kept = length (result .kept); checks = result .checks; floor = result .floor }))
+    × FrontWritten (result .kept) lent (did .list)
 
 abbrev pub FullRead : (file vectors responses : List ℕ) → ReadDone → Type 0
 FullRead file vectors responses did =
@@ -174,6 +189,8 @@ FullAdvance program session call =
 abbrev pub RefusedWith : Programs → PublicCall → ℕ → Type 0
 RefusedWith p (own nets list) number = RefusedFill list (p .owns nets list) number
 RefusedWith p (check net k vectors) number = p .checks net k vectors ≡ refused number
+RefusedWith p (shorten net k vectors allowed list) number =
+    let did = p .shortens net k vectors allowed list in (did .returned ≡ refused number) × (did .list ≡ list)
 RefusedWith p (respond net owners k vectors state list) number = RefusedFill list (p .responds net owners k vectors state list) number
 RefusedWith p (diagnose net owners k vectors responses list) number =
     RefusedFill list (p .diagnoses net owners k vectors responses list) number
@@ -191,6 +208,8 @@ RefusedWith p (drive session one two) number = ⊥
 abbrev pub FullResult : Programs → PublicCall → Type 0
 FullResult p (own nets list) = FullFill (OwnReceivers nets) list (p .owns nets list)
 FullResult p (check net k vectors) = (verdict : Verdict) × Rule net k vectors verdict × (p .checks net k vectors ≡ full verdict)
+FullResult p (shorten net k vectors allowed list) =
+    FullShorten net k vectors allowed list (p .shortens net k vectors allowed list)
 FullResult p (respond net owners k vectors state list) =
     FullFill (Response net state vectors) list (p .responds net owners k vectors state list)
 FullResult p (diagnose net owners k vectors responses list) =

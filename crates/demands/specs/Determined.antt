@@ -16,6 +16,7 @@ use Rattle.demands.specs.JobFiles.{WriterProgram, Writes, ReaderProgram,
 use Rattle.demands.specs.SessionCalls.{Call, begin, SessionProgram, History, none, waits-first, waits-second}
 use Rattle.demands.specs.SessionCalls.{finished-first, finished-second, LeftBy}
 use Rattle.demands.specs.Demand3.{CheckProgram, Sessions}
+use Rattle.demands.specs.ShortenCall.{ShortenProgram, Shortens}
 use Rattle.demands.specs.SessionRecords.{DriveProgram, Drives}
 use Rattle.demands.specs.Reports.{ReportProgram, Reports}
 use Rattle.demands.specs.Programs.{our-sessions}
@@ -51,6 +52,8 @@ pub record Determined : Type 0 where
       (vectors state lent : List ℕ) → p net owners k vectors state lent ≡ q net owners k vectors state lent
   pub check : (p q : CheckProgram) → ChecksByRule p → ChecksByRule q → (net : Network) (k : ℕ) (vectors : List ℕ)
       → p net k vectors ≡ q net k vectors
+  pub shorten : (p q : ShortenProgram) → Shortens p → Shortens q → (net : Network) (k : ℕ) (vectors : List ℕ)
+      (allowed : ℕ) (lent : List ℕ) → p net k vectors allowed lent ≡ q net k vectors allowed lent
   pub diagnosis : (p q : DiagnosisProgram) → Diagnoses p → Diagnoses q → (net : Network) (owners : List ℕ) (k : ℕ)
       (vectors responses lent : List ℕ) → p net owners k vectors responses lent ≡ q net owners k vectors responses lent
   pub findings : (p q : FindingsProgram) → Finds p → Finds q → (net : Network) (owners state : List ℕ) (lent : List Finding)

@@ -4,6 +4,7 @@ pub mod OwnReceiversCall
 pub mod SessionCalls
 pub mod Demand3
 pub mod PlainSearch
+pub mod ShortenCall
 pub mod SessionRecords
 pub mod JobFiles
 pub mod Demand1
@@ -19,6 +20,7 @@ pub mod GateCases
 pub mod PartnerCases
 pub mod ReceiverCases
 pub mod ClassCases
+pub mod ShorterCases
 pub mod FileExamples
 pub mod FileBounds
 pub mod SaidAlone

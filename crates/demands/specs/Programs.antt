@@ -10,6 +10,7 @@ use Rattle.checker.specs.Rule.{bounded-verdict}
 use Rattle.checker.specs.Check.{check-answer}
 use Rattle.diagnosis.specs.ReadBack.{read-back}
 use Rattle.diagnosis.specs.Diagnosis.{diagnosis-answer}
+use Rattle.shorter.specs.Shorten.{shorten-answer, kept-of, counted as shorter-counted}
 use Rattle.findings.specs.FindingsTable.{findings-answer}
 use Rattle.steps.specs.SecondStep.{unclear}
 use Rattle.session.specs.declared.Session.{Session}
@@ -28,6 +29,7 @@ use Rattle.demands.specs.SessionRecords.{DriveProgram}
 use Rattle.demands.specs.Demand1.{Programs}
 use Rattle.demands.specs.Demand3.{CheckProgram}
 use Rattle.demands.specs.PlainSearch.{SearchProgram}
+use Rattle.demands.specs.ShortenCall.{ShortenProgram}
 use Rattle.demands.specs.Reports.{ReportProgram}
 
 abbrev pub our-response : ResponseProgram
@@ -46,6 +48,11 @@ our-check net k vectors = check-answer net k vectors
 -- the plain search is the rule for k below n, whatever the class
 abbrev pub our-plain-search : SearchProgram
 our-plain-search net k vectors = bounded-verdict net k vectors
+
+abbrev pub our-shorten : ShortenProgram
+our-shorten net k vectors allowed lent =
+    let answer = shorten-answer net k vectors allowed (length lent) in
+    record { returned = shorter-counted answer; list = lent-after (kept-of answer) lent }
 
 abbrev pub our-diagnosis : DiagnosisProgram
 our-diagnosis net owners k vectors responses lent =
@@ -104,12 +111,13 @@ our-drive session one two = to-drive session one two
 abbrev pub our-report : ReportProgram
 our-report file = report file
 
--- ---- all of document 01's calls
+-- ---- all calls of documents 01 and 02
 
 abbrev pub ours : Programs
 ours = record {
   owns = our-own-receivers;
   checks = our-check;
+  shortens = our-shorten;
   responds = our-response;
   diagnoses = our-diagnosis;
   finds = our-findings;

@@ -1,15 +1,20 @@
 -- Wrong programs that the demands shut out.
-use Prim.Native.Nat.{ℕ, _-_}
-use mathlib.Core.Bool.{cond}
-use mathlib.Core.List.{List, [], _∷_, _++_, map}
+use Prim.Native.Nat.{ℕ, suc, _-_, min}
+use mathlib.Core.Bool.{true, not, cond}
+use mathlib.Core.List.{List, [], _∷_, _++_, map, reverse}
 use lib.Dec.{eqb}
 use lib.ListN.{length, take, drop}
-use Rattle.words.specs.Answers.{Answer, refused, full, lent-after, count-of}
+use Rattle.words.specs.Answers.{Answer, refused, full, by-tests, lent-after, count-of}
+use Rattle.words.specs.Bits.{at}
+use Rattle.words.specs.Searching.{passing}
 use Rattle.network.specs.Respond.{response-answer}
 use Rattle.network.specs.declared.Network.{Network}
 use Rattle.checker.specs.declared.Verdict.the-variants.{Pass, Pair}
+use Rattle.checker.specs.Passed.{passes}
 use Rattle.diagnosis.specs.ReadBack.{read-back}
 use Rattle.diagnosis.specs.Diagnosis.{diagnosis-answer}
+use Rattle.shorter.specs.Shorter.{without, trials, tried, floor}
+use Rattle.shorter.specs.Shorten as Shorten
 use Rattle.findings.specs.FindingsTable.{findings-answer, blank}
 use Rattle.session.specs.declared.Session.{Session}
 use Rattle.session.specs.Record.{awaiting-first, finished, held-owners, held-answers, awaits-second}
@@ -20,6 +25,7 @@ use Rattle.demands.specs.FindingsCall.{FindingsProgram, Finds}
 use Rattle.demands.specs.JobFiles.{ReaderProgram}
 use Rattle.demands.specs.SessionCalls.{begin, first, second, lent, SessionProgram}
 use Rattle.demands.specs.Demand3.{CheckProgram, Checks, Sessions}
+use Rattle.demands.specs.ShortenCall.{ShortenProgram, Shortens}
 use Rattle.demands.specs.Demand1.{Programs, Demand1}
 use Rattle.demands.specs.Programs.{our-reader, our-answer, our-new, our-sessions, ours}
 
@@ -33,6 +39,71 @@ shows-one-pair a b net k vectors = full (Pair a b)
 
 abbrev pub refuses-every-set : ℕ → CheckProgram
 refuses-every-set number net k vectors = refused number
+
+-- ---- shorter sets: our rows, and another result
+
+-- a result: the vectors kept and the checks made, by the set given and the checks allowed
+abbrev pub ShortenRule : Type 0
+ShortenRule = Network → (k : ℕ) → (vectors : List ℕ) → (allowed : ℕ) → List ℕ × ℕ
+
+abbrev pub answers-by : ShortenRule → (floor : ℕ) → Network → (k : ℕ) → (vectors : List ℕ) → (allowed room : ℕ) → Answer Shorten.Shorter
+answers-by rule floor net k vectors allowed room =
+    let end = rule net k vectors allowed in
+    by-tests (Shorten.small-class-tests net k vectors ++ Shorten.own-tests net k vectors room)
+    (record { kept = end .0; checks = end .1; floor = floor })
+
+abbrev pub shortens-by : ShortenRule → ShortenProgram
+shortens-by rule net k vectors allowed lent =
+    let answer = answers-by rule (floor net k) net k vectors allowed (length lent) in
+    record { returned = Shorten.counted answer; list = lent-after (Shorten.kept-of answer) lent }
+
+abbrev pub our-rule : ShortenRule
+our-rule net k vectors allowed = let end = tried net k vectors allowed in (end .kept, end .checks)
+
+-- from the first vector to the last
+abbrev pub first-to-last : ShortenRule
+first-to-last net k vectors allowed = let end = our-rule net k (reverse vectors) allowed in (reverse (end .0), end .1)
+
+-- the check of the set given is counted
+abbrev pub counts-first-check : ShortenRule
+counts-first-check net k vectors allowed = let end = our-rule net k vectors allowed in (end .0, suc (end .1))
+
+-- each removal is tried on the set given, all vectors as long as a check is allowed
+abbrev pub tries-whole-set : ShortenRule
+tries-whole-set net k vectors allowed =
+    let needed = passing (λ t. not (passes net k (without t vectors))) (length vectors) in
+    (map (at vectors) needed, min allowed (length vectors))
+
+-- everything is kept, and no check is made
+abbrev pub tries-nothing : ShortenRule
+tries-nothing net k vectors allowed = (vectors, 0)
+
+-- each vector that a check is left for is dropped, though the rest is not passed
+abbrev pub drops-unchecked : ShortenRule
+drops-unchecked net k vectors allowed =
+    let end = trials (λ _. true) (length vectors) allowed vectors in (end .kept, end .checks)
+
+-- a floor one too high, or one too low
+abbrev pub with-floor : (ℕ → ℕ) → ShortenProgram
+with-floor other net k vectors allowed lent =
+    let answer = answers-by our-rule (other (floor net k)) net k vectors allowed (length lent) in
+    record { returned = Shorten.counted answer; list = lent-after (Shorten.kept-of answer) lent }
+
+-- the rest of the list is cleared
+abbrev pub kept-and-zeros : Answer (List ℕ) → List ℕ → List ℕ
+kept-and-zeros (refused number) lent = lent
+kept-and-zeros (full kept) lent = kept ++ map (λ _. 0) (drop (length kept) lent)
+
+abbrev pub clears-rest : ShortenProgram
+clears-rest net k vectors allowed lent =
+    let answer = Shorten.shorten-answer net k vectors allowed (length lent) in
+    record { returned = Shorten.counted answer; list = kept-and-zeros (Shorten.kept-of answer) lent }
+
+-- the vectors dropped are written after those kept: the set given stands in the list before any is dropped
+abbrev pub leaves-given : ShortenProgram
+leaves-given net k vectors allowed lent =
+    let answer = Shorten.shorten-answer net k vectors allowed (length lent) in
+    record { returned = Shorten.counted answer; list = lent-after (Shorten.kept-of answer) (lent-after (full vectors) lent) }
 
 -- ---- responses from a state: a right answer, and the list wrong
 
@@ -174,6 +245,7 @@ abbrev pub ours-but : ReaderProgram → SessionProgram → Programs
 ours-but reader sessions = record {
   owns = ours .owns;
   checks = ours .checks;
+  shortens = ours .shortens;
   responds = ours .responds;
   diagnoses = ours .diagnoses;
   finds = ours .finds;
@@ -205,6 +277,15 @@ pub record Refuted : Type 0 where
   pub passes-all : ¬ (Checks passes-all-sets)
   pub one-pair : (a b : ℕ) → ¬ (Checks (shows-one-pair a b))
   pub refuses-sets : (number : ℕ) → ¬ (Checks (refuses-every-set number))
+  pub from-the-first : ¬ (Shortens (shortens-by first-to-last))
+  pub first-check-counted : ¬ (Shortens (shortens-by counts-first-check))
+  pub whole-set-tried : ¬ (Shortens (shortens-by tries-whole-set))
+  pub nothing-tried : ¬ (Shortens (shortens-by tries-nothing))
+  pub not-passed : ¬ (Shortens (shortens-by drops-unchecked))
+  pub floor-too-high : ¬ (Shortens (with-floor suc))
+  pub floor-too-low : ¬ (Shortens (with-floor (λ q. q - 1)))
+  pub rest-cleared : ¬ (Shortens clears-rest)
+  pub given-left : ¬ (Shortens leaves-given)
   pub list-as-lent : ¬ (Responds writes-nothing)
   pub tail-dropped : ¬ (Responds drops-tail)
   pub written-when-refused : ¬ (Responds writes-when-refused)

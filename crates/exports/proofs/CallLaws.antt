@@ -5,13 +5,16 @@ use mathlib.Core.List.{List, [], _∷_}
 use lib.ListN.{length}
 use Rattle.words.specs.Answers.{Answer, refused, full, lent-after, count-of}
 use Rattle.words.proofs.Answers.{counted-full}
+use Rattle.shorter.specs.declared.Shortened.{Shortened}
+use Rattle.shorter.specs.Shorten as Shorten
+use Rattle.shorter.proofs.ShortenTable as ShortenTable
 use Rattle.session.specs.declared.Session.{Session}
 use Rattle.session.specs.declared.Stepped.{Stepped}
 use Rattle.session.specs.Calls.{stepped}
 use Rattle.reader.specs.declared.Job.{Job}
 use Rattle.reader.specs.Reader.{JobContent, counted}
 use Rattle.reader.proofs.ReaderAnswers.{read-counted-full}
-use Rattle.packing.specs.Packed.{size-words, job-words, session-size, session-words, session-of}
+use Rattle.packing.specs.Packed.{size-words, shorter-words, job-words, session-size, session-words, session-of}
 use Rattle.packing.proofs.Words.{session-there}
 use Rattle.exports.specs.Exported.{code, in-words, fixed-after}
 
@@ -71,6 +74,18 @@ fixed-read a job lent said =
     ap (λ (j : Job). j .network .nets ∷ j .network .level ∷ j .network .gate ∷ j .class ∷ j .vectors ∷ j .responses ∷ [])
     (sym (r .2))
     ∙ fixed-full a (r .0) (r .1) job-words lent
+
+pub code-shortened : (a : Answer Shorten.Shorter) (n : Answer Shortened) → n ≡ Shorten.counted a → code n ≡ code a
+unfolding code
+code-shortened (refused number) n said = ap code said
+code-shortened (full result) n said = ap code said
+
+pub fixed-shortened : (a : Answer Shorten.Shorter) (counts : Shortened) (lent : List ℕ) → full counts ≡ Shorten.counted a
+    → counts .kept ∷ counts .checks ∷ counts .floor ∷ [] ≡ fixed-after (in-words shorter-words a) lent
+unfolding shorter-words
+fixed-shortened a counts lent said =
+    let r = ShortenTable.counted-full a counts (sym said) in
+    ap (λ (c : Shortened). c .kept ∷ c .checks ∷ c .floor ∷ []) (sym (r .2)) ∙ fixed-full a (r .0) (r .1) shorter-words lent
 
 -- ---- a call on a session
 

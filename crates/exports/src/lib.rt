@@ -9,11 +9,12 @@ ghost use Rattle.network.specs.Respond.{«response-answer»};
 ghost use Rattle.network.specs.OwnReceivers.{«own-receivers-answer»};
 ghost use Rattle.checker.specs.Check.{«check-answer»};
 ghost use Rattle.diagnosis.specs.Diagnosis.{«diagnosis-answer»};
+ghost use Rattle.shorter.specs.Shorten.{«shorten-answer», «kept-of»};
 ghost use Rattle.session.specs.Calls.{«begin-answer», «first-answer», «second-answer»};
 ghost use Rattle.reader.specs.Reader.{«read-answer», «vectors-read», «responses-read»};
 ghost use Rattle.writer.specs.Writer.{«write-answer»};
 ghost use Rattle.packing.specs.Packed.{«session-of»};
-ghost use Rattle.packing.specs.Packed.{«verdict-words», «finding-words», «job-words», «size-words»};
+ghost use Rattle.packing.specs.Packed.{«verdict-words», «shorter-words», «finding-words», «job-words», «size-words»};
 ghost use Rattle.exports.specs.Exported.{code, «in-words», «fixed-after», «findings-exported», «session-begun»};
 ghost use Rattle.exports.specs.Exported.{«session-first», «session-second», «drive-count»};
 use checker::Checked;
@@ -21,6 +22,7 @@ use diagnosis::Diagnosed;
 use network::Network;
 use network::Responded;
 use reader::ReadJob;
+use shorter::Shortening;
 use writer::Wrote;
 
 // The call *check*. The verdict's 3 words: 0 0 0 for pass, or 1 and the pair. Rows 5, 6, 17, 20, 7, 8.
@@ -53,6 +55,44 @@ pub extern "C" fn fontarelga_check(
             0
         }
         Checked::Refused(number) => number,
+    }
+}
+
+// The call *shorten*: the vectors kept of a passed set into the front of `kept`, with at most `allowed` checks. The 3
+// words of `shortened`: how many are kept, the checks made, the floor. Rows 5, 6 (also for k above 3), 17, 20, 7, 8, 12
+// (room for all vectors given), 13.
+#[no_mangle]
+pub extern "C" fn fontarelga_shorten(
+    nets: u64,
+    level: u64,
+    gate: u64,
+    class: u64,
+    vectors: &[u64],
+    allowed: u64,
+    kept: &mut [u64],
+    shortened: &mut [u64; 3],
+) -> u64
+    ensures answer { λ r. ⌜ r
+        ≡ code (shorten-answer (network-with nets level gate) class (now (vectors .entry)) allowed
+        (length (now (kept .entry)))) ⌝ }
+    ensures kept { λ r. ⌜ now (kept .exit)
+        ≡ lent-after (kept-of (shorten-answer (network-with nets level gate) class (now (vectors .entry)) allowed
+        (length (now (kept .entry))))) (now (kept .entry)) ⌝ }
+    ensures shortened { λ r. ⌜ now (shortened .exit)
+        ≡ fixed-after (in-words shorter-words (shorten-answer (network-with nets level gate) class
+        (now (vectors .entry)) allowed (length (now (kept .entry))))) (now (shortened .entry)) ⌝ }
+{
+    let net = Network {
+        nets: nets,
+        level: level,
+        gate: gate,
+    };
+    match shorter::shorten(net, class, vectors, allowed, kept) {
+        Shortening::Kept(counts) => {
+            *shortened = [counts.kept, counts.checks, counts.floor];
+            0
+        }
+        Shortening::Refused(number) => number,
     }
 }
 

@@ -6,6 +6,7 @@ use Rattle.words.specs.Bits.{at}
 use Rattle.network.specs.Reading.{network-with}
 use Rattle.checker.specs.declared.Verdict.{Verdict}
 use Rattle.checker.specs.declared.Verdict.the-variants.{Pass, Pair}
+use Rattle.shorter.specs.Shorten.{Shorter}
 use Rattle.findings.specs.declared.Finding.{Finding}
 use Rattle.session.specs.declared.Session.{Session}
 use Rattle.reader.specs.Reader.{JobContent}
@@ -14,6 +15,10 @@ use Rattle.reader.specs.Reader.{JobContent}
 unfoldable pub verdict-words : Verdict → List ℕ
 verdict-words Pass = 0 ∷ 0 ∷ 0 ∷ []
 verdict-words (Pair a b) = 1 ∷ a ∷ b ∷ []
+
+-- how many vectors are kept, the checks made, the floor
+unfoldable pub shorter-words : Shorter → List ℕ
+shorter-words result = length (result .kept) ∷ result .checks ∷ result .floor ∷ []
 
 -- kind, reach and partners of each receiver
 unfoldable pub finding-words : List Finding → List ℕ

@@ -2,6 +2,7 @@
 
 use crate::network::{all_drivers, extra_vector, read_along, walking_vector, Network};
 use crate::rows::{rows_of_set, Rows};
+use std::collections::HashSet;
 
 #[derive(Clone, Copy, Debug, PartialEq, Eq)]
 pub enum Verdict {
@@ -74,6 +75,17 @@ pub fn verdict(net: Network, k: u64, vectors: &[u64]) -> Verdict {
     }
 }
 
+/// Does the verdict say pass? Without the pair it is enough to count what the sets of the class read: as many different
+/// words as there are sets. That takes less time where there are many; for class n of many nets the rule is used.
+pub fn passes(net: Network, k: u64, vectors: &[u64]) -> bool {
+    if k == net.nets && net.nets > ALL_NUMBERS {
+        return walking_rule(net, vectors) == Verdict::Pass;
+    }
+    let sets = sets_of_class(net.nets, k);
+    let readings: HashSet<u64> = sets.iter().map(|set| read_along(net, *set, vectors)).collect();
+    readings.len() == sets.len()
+}
+
 pub fn rows_of_check(net: Network, k: u64, vectors: &[u64]) -> Rows<'_> {
     rows_of_set(net, k, vectors)
 }
@@ -87,8 +99,7 @@ pub fn check(net: Network, k: u64, vectors: &[u64]) -> Result<Verdict, u64> {
 #[cfg(test)]
 mod tests {
     use super::*;
-    use crate::network::{all_lists, all_states, each_combination, response, AND, OR};
-    use std::collections::HashSet;
+    use crate::network::{all_lists, all_states, each_combination, response, walking_vectors, AND, OR};
 
     /// Source document 004, table II.
     const TABLE_TWO: [u64; 7] = [34, 9, 49, 6, 76, 86, 96];
@@ -100,6 +111,7 @@ mod tests {
         for (nets, k, vectors, expected) in cases {
             let net = Network { nets: *nets, level, gate };
             assert_eq!(check(net, *k, vectors), Ok(*expected), "{net:?} {k} {vectors:?}");
+            assert_eq!(passes(net, *k, vectors), *expected == Verdict::Pass, "{net:?} {k} {vectors:?}");
         }
     }
 
@@ -206,13 +218,14 @@ mod tests {
     /// receivers, and gives how many pass.
     fn passing(net: Network, m: usize, k: u64, longest: usize) -> usize {
         let states = all_states(net.nets, m, k);
-        let passes = |vectors: &Vec<u64>| {
+        let told_apart = |vectors: &Vec<u64>| {
             let answers: HashSet<_> = states.iter().map(|state| response(net, vectors, state)).collect();
-            let passes = verdict(net, k, vectors) == Verdict::Pass;
-            assert_eq!(passes, answers.len() == states.len(), "{net:?} {k} {vectors:?}");
-            passes
+            let passed = verdict(net, k, vectors) == Verdict::Pass;
+            assert_eq!(passed, answers.len() == states.len(), "{net:?} {k} {vectors:?}");
+            assert_eq!(passed, passes(net, k, vectors), "{net:?} {k} {vectors:?}");
+            passed
         };
-        (1..=longest).flat_map(|length| all_lists(1 << net.nets, length)).filter(passes).count()
+        (1..=longest).flat_map(|length| all_lists(1 << net.nets, length)).filter(told_apart).count()
     }
 
     /// Demand 3: pass exactly when no two states of the class answer alike, however many receivers they have.
@@ -223,6 +236,17 @@ mod tests {
                 for m in receivers.clone() {
                     (1..=nets).for_each(|k| _ = passing(net, m, k, longest));
                 }
+            }
+        }
+    }
+
+    /// For more nets than those of which all numbers are gone over, with all walking vectors and without two.
+    #[test]
+    fn passes_says_what_the_verdict_says() {
+        for net in each_combination(13) {
+            let walking = walking_vectors(net);
+            for (k, vectors) in [1, 2, 3, 13].into_iter().flat_map(|k| [(k, &walking[..]), (k, &walking[2..])]) {
+                assert_eq!(passes(net, k, vectors), verdict(net, k, vectors) == Verdict::Pass, "{net:?} {k}");
             }
         }
     }

@@ -16,6 +16,7 @@ pub mod network;
 pub mod responding;
 pub mod rows;
 pub mod session;
+pub mod shortening;
 pub mod words;
 
 pub use board::Board;
@@ -25,3 +26,4 @@ pub use jobfile::{read_job, write_job, Job};
 pub use network::{Network, AND, OR};
 pub use responding::respond;
 pub use session::{begin, first_answers, second_answers, to_drive, Record};
+pub use shortening::{shorten, Shorter};

@@ -67,6 +67,14 @@ pub fn bad_class(n: u64, k: u64) -> bool {
     !(of_every_board || of_small_boards) || k > n
 }
 
+/// The greatest class of which sets are shortened.
+const GREATEST_SHORTENED: u64 = 3;
+
+/// Row 6 of a set to be shortened: the same, and besides every k above 3.
+pub fn bad_class_to_shorten(n: u64, k: u64) -> bool {
+    bad_class(n, k) || k > GREATEST_SHORTENED
+}
+
 /// Row 17.
 pub fn bad_level(level: u64) -> bool {
     level != 0 && level != 1
@@ -113,6 +121,11 @@ pub fn rows_of_set<'a>(net: Network, k: u64, vectors: &'a [u64]) -> Rows<'a> {
     row_of_net_count(net).then(rows_of_class_and_vectors(net, k, vectors))
 }
 
+/// The same rows for a set to be shortened, with a row 6 of its own.
+pub fn rows_of_set_to_shorten<'a>(net: Network, k: u64, vectors: &'a [u64]) -> Rows<'a> {
+    row_of_net_count(net).row(6, move || bad_class_to_shorten(net.nets, k)).then(rows_after_class(net, vectors))
+}
+
 /// Rows 5, 21, 6, 17, 20, 7 and 8, which begin those that take receivers.
 pub fn rows_of_set_on_board<'a>(board: &'a Board, k: u64, vectors: &'a [u64]) -> Rows<'a> {
     rows_of_receivers(board).then(rows_of_class_and_vectors(board.network, k, vectors))
@@ -120,8 +133,12 @@ pub fn rows_of_set_on_board<'a>(board: &'a Board, k: u64, vectors: &'a [u64]) ->
 
 /// Rows 6, 17, 20, 7 and 8.
 fn rows_of_class_and_vectors<'a>(net: Network, k: u64, vectors: &'a [u64]) -> Rows<'a> {
+    Rows::new().row(6, move || bad_class(net.nets, k)).then(rows_after_class(net, vectors))
+}
+
+/// Rows 17, 20, 7 and 8.
+fn rows_after_class<'a>(net: Network, vectors: &'a [u64]) -> Rows<'a> {
     Rows::new()
-        .row(6, move || bad_class(net.nets, k))
         .row(17, move || bad_level(net.level))
         .row(20, move || bad_gate(net.gate))
         .row(7, move || bad_vector_count(vectors.len()))
@@ -147,5 +164,14 @@ mod tests {
         }
         assert_eq!([(5, 4), (10, 9), (10, 10), (4, 3)].map(|(n, k)| bad_class(n, k)), [false; 4]);
         assert_eq!([(11, 4), (11, 9), (11, 10), (10, 11), (4, 5), (2, 3)].map(|(n, k)| bad_class(n, k)), [true; 6]);
+    }
+
+    /// The classes of sets that are shortened: n among them for 2 and 3 nets only.
+    #[test]
+    fn row_6_of_a_set_to_shorten_by_hand() {
+        let admitted = |n: u64| (0..=n + 1).chain([u64::MAX]).filter(|k| !bad_class_to_shorten(n, *k)).collect();
+        let lists: [Vec<u64>; 7] = [2, 3, 4, 5, 10, 11, 48].map(admitted);
+        assert_eq!(lists[0], [1, 2]);
+        assert!(lists[1..].iter().all(|list| *list == [1, 2, 3]));
     }
 }

@@ -3,8 +3,8 @@
 
 use super::lent::{Given, Lent};
 use super::networks::{of_library, said_in_each_way};
-use fontarelga::{raw, JOB_WORDS, VERDICT_WORDS};
-use model::{Board, Finding, Job, Network, Verdict};
+use fontarelga::{raw, JOB_WORDS, SHORTENED_WORDS, VERDICT_WORDS};
+use model::{Board, Finding, Job, Network, Shorter, Verdict};
 
 /// What a call should give: its result, or the refusal's number.
 pub type Answer<T> = Result<T, u64>;
@@ -37,6 +37,27 @@ pub fn check_gives(net: Network, k: u64, vectors: &[u64], answer: &Answer<Verdic
     let number = raw::check(of_library(net), k, given.give(), verdict.lend_front());
     assert_eq!(number, code(answer), "{what:?}");
     verdict.assert_holds(&written(&answer.as_ref().map(verdict_words).map_err(|e| *e)), &what);
+    given.assert_unchanged();
+}
+
+/// The three words on a shortened set.
+pub fn shortened_words(shorter: &Shorter) -> [u64; SHORTENED_WORDS] {
+    [shorter.kept.len() as u64, shorter.checks, shorter.floor]
+}
+
+pub fn shorten_gives(net: Network, k: u64, vectors: &[u64], allowed: u64, room: usize, answer: &Answer<Shorter>) {
+    let what = ("shorten", net, k, vectors, allowed, room);
+    let given = Given::of(vectors);
+    let (mut kept, mut shortened) = (Lent::words(room), Lent::words(SHORTENED_WORDS + 2));
+    let number = raw::shorten(of_library(net), k, given.give(), allowed, kept.lend(), shortened.lend_front());
+    assert_eq!(number, code(answer), "{what:?}");
+    match answer {
+        Ok(shorter) => {
+            kept.assert_holds(&shorter.kept, &what);
+            shortened.assert_holds(&shortened_words(shorter), &what);
+        }
+        Err(_) => [&kept, &shortened].iter().for_each(|list| list.assert_holds(&[], &what)),
+    }
     given.assert_unchanged();
 }
 

@@ -7,7 +7,8 @@ mod plain;
 mod timing;
 
 use fontarelga::{raw, Board, Job, Network, AND, OR};
-use fontarelga::{FINDING_WORDS, JOB_WORDS, MOST_FIRST_VECTORS, MOST_RECEIVERS, MOST_SECOND_VECTORS, RECORD_WORDS};
+use fontarelga::{FINDING_WORDS, JOB_WORDS, RECORD_WORDS, SHORTENED_WORDS};
+use fontarelga::{MOST_FIRST_VECTORS, MOST_RECEIVERS, MOST_SECOND_VECTORS, MOST_VECTORS};
 use generator::Generator;
 use plain::checker::{all_sets, hash, pairs, Search};
 use plain::session::{Record, REACHES};
@@ -72,6 +73,25 @@ fn bench_check(network: Network, set: &str, vectors: &[u64], k: u64) {
     };
     let job = format!("{}, k = {k}, {set}: {verdict}", named("check", network));
     print_lines(&job, &mut call, &mut versions);
+}
+
+/// Measures the shortening of one set, with as many checks allowed as it has vectors.
+fn bench_shortening(network: Network, set: &str, vectors: &[u64], k: u64) {
+    let (count, lent) = (vectors.len(), ([7; MOST_VECTORS], [7; SHORTENED_WORDS]));
+    let (allowed, mut ours, mut theirs) = (count as u64, lent, lent);
+    assert_eq!(raw::shorten(network, k, vectors, allowed, &mut ours.0, &mut ours.1), 0);
+    assert_eq!(plain::shortening::shorten(hash, network, k, vectors, allowed, &mut theirs.0, &mut theirs.1), 0);
+    assert_eq!(ours, theirs);
+    let job = format!("{}, k = {k}, {set}: {} of {count} kept", named("shorten", network), ours.1[0]);
+    let mut call = || {
+        let (kept, shortened) = black_box(&mut ours);
+        black_box(raw::shorten(network, k, black_box(vectors), allowed, kept, shortened));
+    };
+    let mut call_plain = || {
+        let (kept, shortened) = black_box(&mut theirs);
+        black_box(plain::shortening::shorten(hash, network, k, black_box(vectors), allowed, kept, shortened));
+    };
+    print_lines(&job, &mut call, &mut [("hash", &mut call_plain)]);
 }
 
 fn bench_diagnosis(board: &Board, k: u64, g: &mut Generator) {
@@ -247,6 +267,14 @@ fn bench_classes_of_small_boards(network: Network, g: &mut Generator) {
     [4, SMALL - 1].iter().for_each(|k| bench_diagnosis(&Board::of(network), *k, g));
 }
 
+/// The most vectors: the extra one, the walking ones and random ones, which stand last and then first.
+fn bench_shorter_sets(network: Network, g: &mut Generator) {
+    let walking = walking(network);
+    let random: Vec<u64> = (walking.len()..MOST_VECTORS).map(|_| plain::dominant(network, g.sparse(N))).collect();
+    bench_shortening(network, "walking and random", &[&walking[..], &random].concat(), 3);
+    bench_shortening(network, "random and walking", &[&random[..], &walking].concat(), 3);
+}
+
 /// The jobs that take receivers, with the most of them.
 fn bench_several_receivers(network: Network, g: &mut Generator) {
     let receivers = g.receivers(N, MOST_RECEIVERS as u64);
@@ -263,4 +291,5 @@ fn main() {
     for gate in [OR, AND] {
         [1, 0].iter().for_each(|level| bench_combination(gate, *level));
     }
+    bench_shorter_sets(Network::new(N), &mut Generator(2024));
 }

@@ -109,10 +109,19 @@ pub fn walking(network: Network, vectors: &[u64]) -> Pair {
 /// One of the searches for k below n.
 pub type Search = fn(Network, u64, &[u64]) -> Pair;
 
+/// The pair, if there is one: by the rule for k = n, else by the search.
+pub fn pair(search: Search, network: Network, k: u64, vectors: &[u64]) -> Pair {
+    if k == network.nets() {
+        walking(network, vectors)
+    } else {
+        search(network, k, vectors)
+    }
+}
+
 /// The call, with one of the searches.
 pub fn check(search: Search, network: Network, k: u64, vectors: &[u64], verdict: &mut [u64]) -> u64 {
     let answer = admit_set(network, k, vectors).map(|()| {
-        let pair = if k == network.nets() { walking(network, vectors) } else { search(network, k, vectors) };
+        let pair = pair(search, network, k, vectors);
         verdict.copy_from_slice(&pair.map_or([0; 3], |(a, b)| [1, a, b]));
     });
     code(answer)

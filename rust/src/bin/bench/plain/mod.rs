@@ -6,6 +6,7 @@ pub mod diagnosis;
 pub mod findings;
 pub mod job;
 pub mod session;
+pub mod shortening;
 
 use fontarelga::{Board, Network, AND, OR};
 
@@ -65,6 +66,15 @@ pub fn admit_board(board: &Board) -> Result<(), u64> {
 /// Rows 5, 6, 17, 20, 7 and 8.
 pub fn admit_set(network: Network, k: u64, vectors: &[u64]) -> Result<(), u64> {
     admit_nets(network)?;
+    admit_class_and_vectors(network, k, vectors)
+}
+
+/// The same rows, of which row 6 also turns away every class above 3.
+pub fn admit_set_to_shorten(network: Network, k: u64, vectors: &[u64]) -> Result<(), u64> {
+    admit_nets(network)?;
+    if k > 3 {
+        return Err(6);
+    }
     admit_class_and_vectors(network, k, vectors)
 }
 
