@@ -1,13 +1,15 @@
 // Trying the lines of a text. A line names the call that the lines after it make: `check`, `own receivers`, `respond`,
-// `diagnose` or `findings`. A line `level L` gives the soft level of the calls on the lines after it, a line `gate G`
-// their gate, and a line `receivers` with the net of each receiver their receivers, each up to the next line of its
-// name; `receivers own` is one receiver a net. At the start, and after a line that names a call, the level is 1, the
-// gate 0, and there is one receiver a net. A line that has not the form of its call, or begins with `level` or `gate`
-// and does not go on with a space and one number, or with `receivers` and goes on with no list, is shown as unreadable.
+// `diagnose`, `findings` or `shorten`. A line `level L` gives the soft level of the calls on the lines after it, a line
+// `gate G` their gate, and a line `receivers` with the net of each receiver their receivers, each up to the next line
+// of its name; `receivers own` is one receiver a net. At the start, and after a line that names a call, the level is 1,
+// the gate 0, and there is one receiver a net. A line that has not the form of its call, or begins with `level` or
+// `gate` and does not go on with a space and one number, or with `receivers` and goes on with no list, is shown as
+// unreadable.
 use crate::checking;
 use crate::finding;
 use crate::own;
 use crate::responding;
+use crate::shortening;
 use trials::Line;
 use trials::setting;
 use trials::setting::Setting;
@@ -20,6 +22,7 @@ enum Call {
     Response,
     Diagnosis,
     Findings,
+    Shortening,
 }
 
 fn named(line: &[u8]) -> Call {
@@ -38,6 +41,9 @@ fn named(line: &[u8]) -> Call {
     if check::same(line, b"findings") {
         return Call::Findings;
     }
+    if check::same(line, b"shorten") {
+        return Call::Shortening;
+    }
     show::unreadable();
     show::end_line();
     Call::Unknown
@@ -51,6 +57,7 @@ fn called(call: Call, setting: Setting, line: &[u8]) {
         Call::Response => responding::try_line(false, setting, line),
         Call::Diagnosis => responding::try_line(true, setting, line),
         Call::Findings => finding::try_line(setting, line),
+        Call::Shortening => shortening::try_line(setting, line),
         Call::Unknown => show::unreadable(),
     }
     show::end_line();

@@ -1,12 +1,11 @@
 -- Each wrong program for *shorten* differs from ours at one small input.
 use Prim.Native.Nat.{ℕ, suc, _-_}
 use native.Mathlib.Omega.{arith}
-use mathlib.Core.Path.{_≡_, ap}
+use mathlib.Core.Path.{ap}
 use mathlib.Core.Logic.{_≢_}
 use mathlib.Core.List.{List, [], _∷_}
 use Rattle.words.specs.Answers.{Answer, refused, full}
 use Rattle.words.specs.Bits.{at}
-use Rattle.network.specs.declared.Network.{Network}
 use Rattle.network.specs.Reading.{network-of}
 use Rattle.shorter.specs.declared.Shortened.{Shortened}
 use Rattle.shorter.specs.Open.{open-shorter}

@@ -1,15 +1,14 @@
 -- Our answer to *shorten* keeps its promise, no other program does, and the vectors kept are as promised.
 use mathlib.Core.Path.{_≡_, refl, sym, ap, ap₂, _∙_, subst}
 use mathlib.Core.List.{List}
-use Prim.Native.Nat.{ℕ, _≤_, _<_}
+use Prim.Native.Nat.{ℕ, _≤_}
 use native.Mathlib.Omega.{arith}
 use lib.ListN.{length, take}
 use Rattle.words.specs.Answers.{Answer, full, ByTable, NoneHolds, lent-after}
 use Rattle.words.proofs.Answers.{front-written, none-front, none-rest, table-full, table-none-holds}
 use Rattle.network.specs.declared.Network.{Network}
-use Rattle.network.specs.Rows.{SetRows}
 use Rattle.network.proofs.Rows.{admitted-set}
-use Rattle.checker.specs.Passed.{Passed, Within}
+use Rattle.checker.specs.Passed.{Passed}
 use Rattle.checker.proofs.PassedSets.{rule-passes, passed-sets-apart, passed-check, check-passed, rule-more}
 use Rattle.shorter.specs.declared.Shortened.{Shortened}
 use Rattle.shorter.specs.Shorter.{without, tried}
@@ -17,7 +16,7 @@ use Rattle.shorter.specs.Shorten.{SmallClassRows, OwnRows, ShortenRows, Shorter
 use Rattle.shorter.proofs.FloorLaws.{floor-lowest, two-vectors}
 use Rattle.shorter.proofs.KeptSets.{tried-in-order, tried-checks, tried-passed, tried-none-spare}
 use Rattle.shorter.proofs.ShortenTable.{admitted-small-class, shorten-by-table, shorten-determined, counted-full}
-use Rattle.demands.specs.ShortenCall.{ShortenDone, ShortenProgram, Shortens, Passes, KeptSet, KeepsPassedSets}
+use Rattle.demands.specs.ShortenCall.{ShortenProgram, Shortens, Passes, KeptSet, KeepsPassedSets}
 use Rattle.demands.specs.Programs.{our-check, our-shorten}
 
 pub shortens : Shortens our-shorten

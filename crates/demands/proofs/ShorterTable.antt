@@ -1,5 +1,5 @@
 -- The cases of shorter sets, by computation.
-use mathlib.Core.Path.{_≡_, refl}
+use mathlib.Core.Path.{refl}
 use Rattle.shorter.specs.Open.{open-shorter}
 use Rattle.demands.specs.ShorterCases.{ShorterCases}
 

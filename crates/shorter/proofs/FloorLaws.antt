@@ -16,9 +16,9 @@ use Rattle.words.specs.declared.Search.{Search}
 use Rattle.words.specs.declared.Search.the-variants.{Found, Missing}
 use Rattle.words.proofs.Tests.{contrary, not-less}
 use Rattle.words.proofs.Searching.{Least, first, nowhere, least-below}
-use Rattle.words.proofs.Passing.{Entry, count-most, entry-is}
+use Rattle.words.proofs.Passing.{count-most, entry-is}
 use Rattle.words.proofs.Counting.{sets-counted, class-size-grows}
-use Rattle.words.proofs.Places.{SharedPlace, shared-place}
+use Rattle.words.proofs.Places.{shared-place}
 use Rattle.network.specs.declared.Network.{Network}
 use Rattle.network.specs.Reading.{sequential-response}
 use Rattle.network.specs.States.{DriverSet}

@@ -3,7 +3,7 @@ use mathlib.Core.Path.{_≡_, sym, subst}
 use mathlib.Core.Bool.{true}
 use mathlib.Core.Logic.{⊎-elim}
 use mathlib.Core.List.{List}
-use Prim.Native.Nat.{ℕ, _^_, _≤_, _<_}
+use Prim.Native.Nat.{ℕ, _^_, _≤_}
 use native.Mathlib.Omega.{arith}
 use lib.ListN.{length}
 use Rattle.words.specs.Answers.{NoneHolds}
@@ -12,11 +12,10 @@ use Rattle.network.specs.declared.Network.{Network}
 use Rattle.network.specs.Rows.{Row7, HighBit, SetRows}
 use Rattle.network.proofs.Rows.{AdmittedSet, admitted-set, vectors-admitted}
 use Rattle.checker.specs.declared.Verdict.the-variants.{Pass}
-use Rattle.checker.specs.Rule.{Rule}
-use Rattle.checker.specs.Passed.{Passed, passes, Within}
+use Rattle.checker.specs.Passed.{Passed, passes}
 use Rattle.checker.proofs.PassedSets.{Narrow, narrow-within, rule-more, decides-pass}
 use Rattle.checker.proofs.Separation.{SetsApart, rule-shows}
-use Rattle.shorter.specs.Shorter.{without, InOrder}
+use Rattle.shorter.specs.Shorter.{InOrder}
 use Rattle.shorter.proofs.Ordered.{in-order-within, in-order-length}
 use Rattle.shorter.proofs.FloorLaws.{two-vectors}
 

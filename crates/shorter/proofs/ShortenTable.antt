@@ -4,8 +4,6 @@ use mathlib.Core.Bool.{Bool, false, _||_, true}
 use mathlib.Core.Logic.{inl, inr}
 use mathlib.Core.List.{List, _∷_, _++_}
 use Prim.Native.Nat.{ℕ, _≤_, _<_}
-use native.Mathlib.Omega.{arith}
-use lib.Dec.{ltb}
 use lib.ListN.{length}
 use borrow.Author.Tests.{le-ltb, lt-ltb}
 use Rattle.words.specs.Answers.{Answer, refused, full, ByTable, NoneHolds, Decided, by-tests, lent-after}

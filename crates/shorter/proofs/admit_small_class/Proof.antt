@@ -1,5 +1,5 @@
 use borrow.Author.Needs.{needs}
-use mathlib.Core.Path.{_≡_, sym, _∙_}
+use mathlib.Core.Path.{sym, _∙_}
 use Rattle.shorter.proofs.ShortenTable.{by-nets, by-class, as-every-call}
 use Rattle.shorter.proofs.admit_small_class.Statement.{statement}
 use Rattle.shorter.proofs.admit_small_class.Tie as tie

@@ -1,7 +1,5 @@
-use mathlib.Core.Path.{_≡_, sym, ap, _∙_}
+use mathlib.Core.Path.{sym, ap, _∙_}
 use native.Mathlib.Numerals.{add-one}
-use Prim.Native.Nat.{ℕ}
-use native.Mathlib.Omega.{arith}
 use Rattle.words.specs.Bits.{at}
 use Rattle.shorter.proofs.Ordered.{without-before, without-after}
 use borrow.Author.Needs.{needs}

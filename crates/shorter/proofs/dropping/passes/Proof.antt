@@ -1,4 +1,4 @@
-use mathlib.Core.Path.{_≡_, sym, ap, _∙_}
+use mathlib.Core.Path.{sym, ap, _∙_}
 use borrow.Author.Needs.{needs}
 use Rattle.checker.specs.Passed.{is-pass}
 use Rattle.shorter.proofs.dropping.passes.Statement.{statement}

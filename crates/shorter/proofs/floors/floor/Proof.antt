@@ -10,7 +10,7 @@ use lib.Dec.{leb}
 use lib.Pow.{pow-mono}
 use Rattle.words.specs.Counting.{class-size}
 use Rattle.words.specs.Searching.{or-zero}
-use Rattle.words.proofs.Tests.{contrary, less-or-not, not-less}
+use Rattle.words.proofs.Tests.{contrary, not-less}
 use Rattle.words.proofs.Searching.{least-found}
 use Rattle.words.proofs.Counting.{class-size-grows, class-size-largest}
 use Rattle.shorter.specs.Shorter.{floor}
