@@ -15,7 +15,8 @@ use Rattle.packing.specs.Packed.{shorter-words, finding-words, job-words, size-
 use Rattle.exports.specs.Exported.{code, in-words}
 use Rattle.exports.proofs.CallLaws.{code-counted}
 use Rattle.demands.specs.Programs.{our-findings}
-use Rattle.agreement.specs.InWords.{records-of, rest-of, returned-shorter-words, returned-job-words, returned-size-words}
+use Rattle.agreement.specs.InWords.{records-of, rest-of}
+use Rattle.agreement.specs.InWords.{returned-shorter-words, returned-job-words, returned-size-words}
 
 -- ---- tables
 
@@ -67,7 +68,8 @@ found-in-words net owners state words table number e f =
 
 -- ---- what is returned
 
-pub shortened-in-words : (a : Answer Shorter) → in-words shorter-words a ≡ in-words returned-shorter-words (shorter-counted a)
+pub shortened-in-words : (a : Answer Shorter)
+    → in-words shorter-words a ≡ in-words returned-shorter-words (shorter-counted a)
 unfolding in-words shorter-words
 shortened-in-words (refused number) = refl
 shortened-in-words (full result) = refl

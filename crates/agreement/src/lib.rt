@@ -58,7 +58,8 @@ pub fn shorten(
 ) -> Shortening
     ensures returned { λ r. ⌜ Shorten.meaning r
         ≡ our-shorten net class (now (vectors .entry)) allowed (now (out .entry)) .returned ⌝ }
-    ensures list { λ r. ⌜ now (out .exit) ≡ our-shorten net class (now (vectors .entry)) allowed (now (out .entry)) .list ⌝ }
+    ensures list { λ r. ⌜ now (out .exit)
+        ≡ our-shorten net class (now (vectors .entry)) allowed (now (out .entry)) .list ⌝ }
 {
     shorter::shorten(net, class, vectors, allowed, out)
 }

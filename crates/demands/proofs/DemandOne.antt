@@ -30,7 +30,8 @@ use Rattle.demands.specs.SessionCalls.{finished-first, finished-second, 
 use Rattle.demands.specs.SessionCalls.{record-after, history-from, history, LeftBy, Awaits, FitsAnswers}
 use Rattle.demands.specs.SessionRecords.{WaitsFor}
 use Rattle.demands.specs.Demand3.{BeginRows, Written, second-words}
-use Rattle.demands.specs.Demand1.{PublicCall, own, check, shorten, respond, diagnose, find, read, write, advance, drive}
+use Rattle.demands.specs.Demand1.{PublicCall, own, check, shorten, respond, diagnose, find}
+use Rattle.demands.specs.Demand1.{read, write, advance, drive}
 use Rattle.demands.specs.Demand1.{awaited-vectors, SessionHighBit, InSession, SessionRows, Rows, numbers}
 use Rattle.demands.specs.Demand1.{RefusedFill, FullFill, Before, RefusedWith, FullResult, FirstRow, RefusedOrFull}
 use Rattle.demands.specs.Demand1.{Demand1}

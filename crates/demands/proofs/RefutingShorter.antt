@@ -39,7 +39,9 @@ three-checks program vectors = program (network-of 2) 1 vectors 3 (9 ∷ 9 ∷ 9
 told-apart : (tells : ShortenDone → ℕ) (program : ShortenProgram) (vectors : List ℕ)
     → tells (three-checks program vectors) ≢ tells (three-checks our-shorten vectors) → ¬ (Shortens program)
 told-apart tells program vectors differ claim =
-    differ (ap tells (shorten-determined-program program our-shorten claim shortens (network-of 2) 1 vectors 3 (9 ∷ 9 ∷ 9 ∷ 9 ∷ [])))
+    differ
+    (ap tells (shorten-determined-program program our-shorten claim shortens (network-of 2) 1 vectors 3
+    (9 ∷ 9 ∷ 9 ∷ 9 ∷ [])))
 
 -- 1 2 is kept, and not 2 1
 pub from-the-first : ¬ (Shortens (shortens-by first-to-last))

@@ -49,7 +49,9 @@ module _ (net : Network) (k : ℕ) (vectors : List ℕ) where
       → response-answer net (own-receivers (net .nets)) k vectors state room ≡ response-alone net k vectors state room
   unfolding response-answer response-alone
   responds-alone state room =
-      drops-out net (class-tests (bad-class net k) net vectors ++ state-tests net (length (own-receivers (net .nets))) k vectors state room)
+      drops-out net
+      (class-tests (bad-class net k) net vectors
+      ++ state-tests net (length (own-receivers (net .nets))) k vectors state room)
       (class-tests (bad-class net k) net vectors ++ state-tests net (net .nets) k vectors state room)
       (response net state vectors) (response net state vectors) (λ _. rw (own-size (net .nets)))
 
@@ -57,7 +59,9 @@ module _ (net : Network) (k : ℕ) (vectors : List ℕ) where
       → diagnosis-answer net (own-receivers (net .nets)) k vectors responses room ≡ diagnosis-alone net k vectors responses room
   unfolding diagnosis-answer diagnosis-alone
   diagnoses-alone responses room =
-      drops-out net (class-tests (bad-class net k) net vectors ++ answers-tests net (length (own-receivers (net .nets))) k vectors responses room)
+      drops-out net
+      (class-tests (bad-class net k) net vectors
+      ++ answers-tests net (length (own-receivers (net .nets))) k vectors responses room)
       (class-tests (bad-class net k) net vectors ++ answers-tests net (net .nets) k vectors responses room)
       (read-back net (length (own-receivers (net .nets))) k vectors responses) (read-back net (net .nets) k vectors responses)
       (λ _. rw (own-size (net .nets)))

@@ -12,7 +12,8 @@ use Rattle.checker.specs.Passed.{Passed}
 use Rattle.checker.proofs.PassedSets.{rule-passes, passed-sets-apart, passed-check, check-passed, rule-more}
 use Rattle.shorter.specs.declared.Shortened.{Shortened}
 use Rattle.shorter.specs.Shorter.{without, tried}
-use Rattle.shorter.specs.Shorten.{SmallClassRows, OwnRows, ShortenRows, Shorter, IsShorter, shorten-answer, kept-of, counted}
+use Rattle.shorter.specs.Shorten.{SmallClassRows, OwnRows, ShortenRows}
+use Rattle.shorter.specs.Shorten.{Shorter, IsShorter, shorten-answer, kept-of, counted}
 use Rattle.shorter.proofs.FloorLaws.{floor-lowest, two-vectors}
 use Rattle.shorter.proofs.KeptSets.{tried-in-order, tried-checks, tried-passed, tried-none-spare}
 use Rattle.shorter.proofs.ShortenTable.{admitted-small-class, shorten-by-table, shorten-determined, counted-full}
@@ -32,7 +33,8 @@ pub shorten-determined-program : (p q : ShortenProgram) → Shortens p → Short
 shorten-determined-program p q f g net k vectors allowed lent =
     let a = f net k vectors allowed lent in
     let b = g net k vectors allowed lent in
-    let same = shorten-determined net k vectors allowed (length lent) (a .answer) (b .answer) (a .by-table) (b .by-table) in
+    let same =
+    shorten-determined net k vectors allowed (length lent) (a .answer) (b .answer) (a .by-table) (b .by-table) in
     ap₂ (λ (returned : Answer Shortened) (list : List ℕ). record { returned = returned; list = list })
     (a .returned ∙ ap counted same ∙ sym (b .returned))
     (a .list ∙ ap (λ (answer : Answer Shorter). lent-after (kept-of answer) lent) same ∙ sym (b .list))
@@ -72,7 +74,8 @@ module _ (net : Network) (k : ℕ) (vectors : List ℕ) (allowed room : ℕ) whe
 
 kept-set : (net : Network) (k : ℕ) (vectors : List ℕ) (allowed : ℕ) (lent : List ℕ) (counts : Shortened)
     → our-shorten net k vectors allowed lent .returned ≡ full counts
-    → KeptSet our-check net k vectors allowed (take (counts .kept) (our-shorten net k vectors allowed lent .list)) counts
+    → KeptSet our-check net k vectors allowed
+    (take (counts .kept) (our-shorten net k vectors allowed lent .list)) counts
 kept-set net k vectors allowed lent counts e =
     let rows = ShortenRows net k vectors (length lent) in
     let r = counted-full (shorten-answer net k vectors allowed (length lent)) counts e in

@@ -46,7 +46,8 @@ refuses-every-set number net k vectors = refused number
 abbrev pub ShortenRule : Type 0
 ShortenRule = Network → (k : ℕ) → (vectors : List ℕ) → (allowed : ℕ) → List ℕ × ℕ
 
-abbrev pub answers-by : ShortenRule → (floor : ℕ) → Network → (k : ℕ) → (vectors : List ℕ) → (allowed room : ℕ) → Answer Shorten.Shorter
+abbrev pub answers-by : ShortenRule → (floor : ℕ) → Network → (k : ℕ) → (vectors : List ℕ) → (allowed room : ℕ)
+    → Answer Shorten.Shorter
 answers-by rule floor net k vectors allowed room =
     let end = rule net k vectors allowed in
     by-tests (Shorten.small-class-tests net k vectors ++ Shorten.own-tests net k vectors room)
@@ -103,7 +104,10 @@ clears-rest net k vectors allowed lent =
 abbrev pub leaves-given : ShortenProgram
 leaves-given net k vectors allowed lent =
     let answer = Shorten.shorten-answer net k vectors allowed (length lent) in
-    record { returned = Shorten.counted answer; list = lent-after (Shorten.kept-of answer) (lent-after (full vectors) lent) }
+    record {
+      returned = Shorten.counted answer;
+      list = lent-after (Shorten.kept-of answer) (lent-after (full vectors) lent);
+    }
 
 -- ---- responses from a state: a right answer, and the list wrong
 

@@ -56,7 +56,8 @@ pub record KeptSet (checks : CheckProgram) (net : Network) (k : ℕ) (vectors : 
   -- every passed set of the class has as many vectors as the floor says, so none is shorter than the kept one by more
   -- than this
   pub at-least : (others : List ℕ) → Passes checks net k others → counts .floor ≤ length others
-  pub distance : (others : List ℕ) → Passes checks net k others → length kept - length others ≤ length kept - counts .floor
+  pub distance : (others : List ℕ) → Passes checks net k others
+      → length kept - length others ≤ length kept - counts .floor
   -- beyond document 02: with checks for every vector, no single vector of the kept set can be left out
   pub none-spare : length vectors ≤ allowed → (i : ℕ) → i < length kept → ¬ (Passes checks net k (without i kept))
 

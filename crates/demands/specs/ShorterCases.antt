@@ -113,4 +113,5 @@ pub record ShorterCases : Type 0 where
   -- ---- the lent list: only the kept words are written, also where there was room for more
   pub rest-of-list : our-shorten (network-of 2) 1 (1 ∷ 2 ∷ 2 ∷ []) 3 (9 ∷ 9 ∷ 9 ∷ 9 ∷ [])
       ≡ record { returned = full (record { kept = 2; checks = 3; floor = 2 }); list = 1 ∷ 2 ∷ 9 ∷ 9 ∷ [] }
-  pub list-refused : our-shorten (network-of 2) 1 (1 ∷ []) 3 (9 ∷ 9 ∷ []) ≡ record { returned = refused 13; list = 9 ∷ 9 ∷ [] }
+  pub list-refused : our-shorten (network-of 2) 1 (1 ∷ []) 3 (9 ∷ 9 ∷ [])
+      ≡ record { returned = refused 13; list = 9 ∷ 9 ∷ [] }

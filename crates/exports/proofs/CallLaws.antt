@@ -80,12 +80,14 @@ unfolding code
 code-shortened (refused number) n said = ap code said
 code-shortened (full result) n said = ap code said
 
-pub fixed-shortened : (a : Answer Shorten.Shorter) (counts : Shortened) (lent : List ℕ) → full counts ≡ Shorten.counted a
+pub fixed-shortened : (a : Answer Shorten.Shorter) (counts : Shortened) (lent : List ℕ)
+    → full counts ≡ Shorten.counted a
     → counts .kept ∷ counts .checks ∷ counts .floor ∷ [] ≡ fixed-after (in-words shorter-words a) lent
 unfolding shorter-words
 fixed-shortened a counts lent said =
     let r = ShortenTable.counted-full a counts (sym said) in
-    ap (λ (c : Shortened). c .kept ∷ c .checks ∷ c .floor ∷ []) (sym (r .2)) ∙ fixed-full a (r .0) (r .1) shorter-words lent
+    ap (λ (c : Shortened). c .kept ∷ c .checks ∷ c .floor ∷ []) (sym (r .2))
+    ∙ fixed-full a (r .0) (r .1) shorter-words lent
 
 -- ---- a call on a session
 

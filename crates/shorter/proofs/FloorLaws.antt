@@ -81,7 +81,8 @@ module _ (net : Network) (k : ℕ) where
       let s = shared-place (2 ^ length vectors) (length sets) (λ i. sequential-response net vectors (at sets i)) more
       (λ i l. sequential-below net vectors (at sets i)) in
       s .differ (set-once (s .one) (s .other) (s .one-below) (s .other-below)
-      (apart (at sets (s .one)) (at sets (s .other)) (set-at (s .one) (s .one-below)) (set-at (s .other) (s .other-below))
+      (apart (at sets (s .one)) (at sets (s .other))
+      (set-at (s .one) (s .one-below)) (set-at (s .other) (s .other-below))
       (sequential-alike net vectors (at sets (s .one)) (at sets (s .other)) (s .same)))))
 
   -- so there are at least as many vectors as the floor says

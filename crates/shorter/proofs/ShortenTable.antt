@@ -15,7 +15,8 @@ use Rattle.network.proofs.Rows.{decides-row-5, decides-row-6, decides-class-row
 use Rattle.checker.proofs.PassedSets.{decides-row-13}
 use Rattle.shorter.specs.declared.Shortened.{Shortened}
 use Rattle.shorter.specs.Shorten.{SmallClassRows, OwnRows, ShortenRows, small-class-tests, own-tests}
-use Rattle.shorter.specs.Shorten.{small-class-admission, Shorter, IsShorter, shorter, shorten-answer, kept-of, counted}
+use Rattle.shorter.specs.Shorten.{small-class-admission, Shorter, IsShorter, shorter}
+use Rattle.shorter.specs.Shorten.{shorten-answer, kept-of, counted}
 use Rattle.shorter.proofs.FloorLaws.{floor-is, floor-one}
 
 module _ (net : Network) (k : ℕ) (vectors : List ℕ) where
@@ -63,7 +64,8 @@ module _ (net : Network) (k : ℕ) (vectors : List ℕ) where
   -- ---- the whole call
 
   pub shorten-by-table : (allowed room : ℕ)
-      → ByTable (ShortenRows net k vectors room) (IsShorter net k vectors allowed) (shorten-answer net k vectors allowed room)
+      → ByTable (ShortenRows net k vectors room) (IsShorter net k vectors allowed)
+      (shorten-answer net k vectors allowed room)
   unfolding shorten-answer
   shorten-by-table allowed room =
       tests-by-table (IsShorter net k vectors allowed) (ShortenRows net k vectors room)
@@ -73,7 +75,8 @@ module _ (net : Network) (k : ℕ) (vectors : List ℕ) where
       (λ _. record { kept-by-rule = refl; checks-of-rule = refl; smallest-power = floor-is net k })
 
   shorter-one : (allowed : ℕ) (r : Shorter) → IsShorter net k vectors allowed r → r ≡ shorter net k vectors allowed
-  shorter-one allowed r h = rw (sym (h .kept-by-rule), sym (h .checks-of-rule), sym (floor-one net k (r .floor) (h .smallest-power)))
+  shorter-one allowed r h =
+      rw (sym (h .kept-by-rule), sym (h .checks-of-rule), sym (floor-one net k (r .floor) (h .smallest-power)))
 
   pub shorten-determined : (allowed room : ℕ) (a b : Answer Shorter)
       → ByTable (ShortenRows net k vectors room) (IsShorter net k vectors allowed) a

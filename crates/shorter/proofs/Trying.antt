@@ -36,7 +36,8 @@ module _ (passed : List ℕ → Bool) where
       go false e = stays e
 
   -- a set that passes is left
-  pub kept-passes : (t allowed : ℕ) (kept : List ℕ) → passed kept ≡ true → passed (trials passed t allowed kept .kept) ≡ true
+  pub kept-passes : (t allowed : ℕ) (kept : List ℕ) → passed kept ≡ true
+      → passed (trials passed t allowed kept .kept) ≡ true
   unfolding trials
   kept-passes zero allowed kept e = e
   kept-passes (suc t) zero kept e = e
@@ -57,8 +58,8 @@ module _ (passed : List ℕ → Bool) where
   abbrev pub NoneSpare : ℕ → List ℕ → Type 0
   NoneSpare t kept = (i : ℕ) → t ≤ i → i < length kept → passed (without i kept) ≡ false
 
-  -- Where more vectors never make a set fail: with checks for every vector, none that is kept can be left out. `Good` is
-  -- what a set must be for that, and each part of a good set is good.
+  -- Where more vectors never make a set fail: with checks for every vector, none that is kept can be left out. `Good`
+  -- is what a set must be for that, and each part of a good set is good.
   module _ (Good : List ℕ → Type 0) (part-good : (xs ys : List ℕ) → InOrder xs ys → Good ys → Good xs)
       (more : (xs ys : List ℕ) → Good ys → InOrder xs ys → passed xs ≡ true → passed ys ≡ true) where
     record Left (t : ℕ) (kept : List ℕ) : Type 0 where
@@ -138,7 +139,8 @@ module _ (passed : List ℕ → Bool) where
     pub size : t ≤ length kept
     pub spent : left ≤ allowed
     pub kept-is : trials passed (length vectors) allowed vectors .kept ≡ trials passed t left kept .kept
-    pub checks-is : trials passed (length vectors) allowed vectors .checks ≡ allowed - left + trials passed t left kept .checks
+    pub checks-is : trials passed (length vectors) allowed vectors .checks
+        ≡ allowed - left + trials passed t left kept .checks
     pub in-order : InOrder kept vectors
     pub passing : passed kept ≡ true
 
@@ -158,7 +160,8 @@ module _ (passed : List ℕ → Bool) where
         → passed (without t kept) ≡ b → Going vectors allowed (cond b (without t kept) kept) t left
     going-next kept t left b g e =
         let rest = cond b (without t kept) kept in
-        let step : trials passed (suc t) (suc left) kept ≡ one-check (trials passed t left rest) = one-trial t left kept b e in
+        let step : trials passed (suc t) (suc left) kept ≡ one-check (trials passed t left rest) =
+        one-trial t left kept b e in
         let one : trials passed (suc t) (suc left) kept .checks ≡ suc (trials passed t left rest .checks) =
         ap (λ (x : Trials). x .checks) step in record {
           size = size b;

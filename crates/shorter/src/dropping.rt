@@ -1,5 +1,5 @@
-// Vectors dropped from a set, one after the other. Helpers: a set is one that its rows admit, of at most 64 vectors, and
-// where vectors are dropped it is passed.
+// Vectors dropped from a set, one after the other. Helpers: a list has at most 64 words, a set that is checked is one
+// that its rows admit, and one of which vectors are dropped is passed.
 ghost use mathlib.Core.Path.{_≡_};
 ghost use Prim.Native.Nat.{_-_, _<_, _≤_};
 ghost use lib.ListN.{length, take};

@@ -202,7 +202,8 @@ returns-5 : tie.Need-returns-5
 returns-5 c =
     let v = c .before .before in
     let e = v .before in
-    owed-refused _ 13 (start e .args .out .now) (refuses-13 e (ap is-pass (sym (v .verdict-of .ensures) ∙ c .enum-told3 .given .1)))
+    owed-refused _ 13 (start e .args .out .now)
+    (refuses-13 e (ap is-pass (sym (v .verdict-of .ensures) ∙ c .enum-told3 .given .1)))
 
 passed : (c : tie.After-enum-told2) → let e = c .before .before .before in
     passes (start e .args .net) (start e .args .class) (start e .args .vectors .now) ≡ true

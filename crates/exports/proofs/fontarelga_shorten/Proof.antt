@@ -32,8 +32,10 @@ returns c =
     let net = network-with (a .nets) (a .level) (a .gate) in
     let answer = shorten-answer net (a .class) (a .vectors .now) (a .allowed) (length (a .kept .now)) in
     let counts = t .counts .given .0 .0 in
-    let said : full counts ≡ counted answer = sym (ap meaning (t .counts .given .1)) ∙ k .shorten .ensures .0 in
-    (code-shortened answer (full counts) said, (k .shorten .ensures .1, fixed-shortened answer counts (a .shortened .now) said))
+    let said : full counts ≡ counted answer = sym (ap meaning (t .counts .given .1)) ∙ k .shorten .ensures .0 in (
+      code-shortened answer (full counts) said,
+      (k .shorten .ensures .1, fixed-shortened answer counts (a .shortened .now) said),
+    )
 
 same-length-2 : tie.Need-same-length-2
 same-length-2 c = search needs
@@ -48,8 +50,10 @@ returns-2 c =
     let answer = shorten-answer net (a .class) (a .vectors .now) (a .allowed) (length (a .kept .now)) in
     let number = t .number .given .0 .0 in
     let said : refused number ≡ counted answer = sym (ap meaning (t .number .given .1)) ∙ k .shorten .ensures .0 in
-    let e = counted-refused answer number (sym said) in
-    (code-shortened answer (refused number) said, (k .shorten .ensures .1, fixed-refused answer number e shorter-words (a .shortened .now)))
+    let e = counted-refused answer number (sym said) in (
+      code-shortened answer (refused number) said,
+      (k .shorten .ensures .1, fixed-refused answer number e shorter-words (a .shortened .now)),
+    )
 
 pub fontarelga-shorten-spec : {M : Type 1} → statement M
 fontarelga-shorten-spec =

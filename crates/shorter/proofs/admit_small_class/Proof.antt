@@ -15,7 +15,8 @@ returns c =
 returns-2 : tie.Need-returns-2
 returns-2 c =
     let a = c .before .before .before .before .args in
-    sym (by-class (a .net) (a .class) (a .vectors .now) (sym (c .before .before .bad-net-count .ensures) ∙ c .before .if1 .left)
+    sym (by-class (a .net) (a .class) (a .vectors .now)
+    (sym (c .before .before .bad-net-count .ensures) ∙ c .before .if1 .left)
     (c .if2 .taken))
 
 admit-set-requires : tie.Need-admit-set-requires

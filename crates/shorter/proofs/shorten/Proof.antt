@@ -39,7 +39,8 @@ module _ (net : Network) (k : ℕ) (vectors : List ℕ) (allowed : ℕ) (lent : 
         shared-pass tt (shorter net k vectors allowed) (small-class-tests net k vectors)
         (own-tests net k vectors (length lent)) tt admitted
 
-    by-row-12 : no-room (length vectors) (length lent) ≡ true → shorten-answer net k vectors allowed (length lent) ≡ refused 12
+    by-row-12 : no-room (length vectors) (length lent) ≡ true
+        → shorten-answer net k vectors allowed (length lent) ≡ refused 12
     unfolding by-tests
     by-row-12 e = by-own ∙ rw e
 
@@ -80,7 +81,8 @@ module _ (c : tie.After-enum-told) where
   admitted = sym (c .before .before .admit-small-class .ensures) ∙ ap admission (c .enum-told .given .1)
 
   -- as every call does, and k is at most 3
-  in-small-class : NoneHolds (SetRows (start .args .net) (start .args .class) (start .args .vectors .now)) × (start .args .class ≤ 3)
+  in-small-class : NoneHolds (SetRows (start .args .net) (start .args .class) (start .args .vectors .now))
+      × (start .args .class ≤ 3)
   in-small-class =
       let a = start .args in
       admitted-small-class (a .net) (a .class) (a .vectors .now)
@@ -171,7 +173,8 @@ returns-4 c =
     let e = t .drop-vectors .ensures in
     owes-full _ (shorter (a .net) (a .class) (a .vectors .now) (a .allowed)) (t .drop-vectors .result .count)
     (t .drop-vectors .result .checks) (c .floor .result) (a .out .now) _
-    (by-rule (a .net) (a .class) (a .vectors .now) (a .allowed) (a .out .now) (admitted d) (has-room g) (set-passes (t .before)))
+    (by-rule (a .net) (a .class) (a .vectors .now) (a .allowed) (a .out .now) (admitted d) (has-room g)
+    (set-passes (t .before)))
     (sym (kept-size t) ∙ ap length (e .2)) (e .3) (c .floor .ensures)
     (c .before .before .before .copy-words .ensures ∙ ap (λ (xs : List ℕ). lent-after (full xs) (a .out .now)) (e .2))
 

@@ -46,7 +46,8 @@ loop-holds c =
     ap (take (length (a .vectors .now))) copied ∙ front-written (a .vectors .now) _ in (
       ap length copied ∙ lent-length (a .vectors .now) _ (vectors-most s),
       vectors-most s,
-      subst (λ (kept : List ℕ). Going (passes (a .net) (a .class)) (a .vectors .now) (a .allowed) kept (length (a .vectors .now)) (a .allowed))
+      subst (λ (kept : List ℕ). Going (passes (a .net) (a .class)) (a .vectors .now) (a .allowed) kept
+          (length (a .vectors .now)) (a .allowed))
           (sym front)
           (going-first (passes (a .net) (a .class)) (a .vectors .now) (a .allowed)
           (test-passes (decides-pass (a .net) (a .class) (a .vectors .now)) (s .pre .1))),
@@ -93,7 +94,11 @@ module _ (c : tie.In-loop Inv-loop μ-loop) where
   some-left =
       let a = start .args in
       let g = c .before .loop .inv .2 in
-      omega (arith, kept-size, part-size (a .net) (a .class) (a .vectors .now) (start .pre .0) kept-so-far (g .in-order) (g .passing))
+      omega (
+        arith,
+        kept-size,
+        part-size (a .net) (a .class) (a .vectors .now) (start .pre .0) kept-so-far (g .in-order) (g .passing),
+      )
 
   less-admitted : NoneHolds (SetRows (start .args .net) (start .args .class) less)
   less-admitted =
@@ -148,7 +153,8 @@ goes-on : (c : tie.After-passes Inv-loop μ-loop) (b : Bool) → c .passes .resu
     → let g = c .before .before .before .before in
     let l = g .before .loop in
     let a = start g .args in
-    Going (passes (a .net) (a .class)) (a .vectors .now) (a .allowed) (cond b (less g) (kept-so-far g)) (l .t - 1) (l .left - 1)
+    Going (passes (a .net) (a .class)) (a .vectors .now) (a .allowed) (cond b (less g) (kept-so-far g))
+    (l .t - 1) (l .left - 1)
 goes-on c b e =
     let w = c .before .before in
     let g = w .before .before in
@@ -169,7 +175,8 @@ loop-again c =
     let a = start g .args in (
       w .without .ensures .0,
       omega (arith, l .inv .1),
-      subst (λ (kept : List ℕ). Going (passes (a .net) (a .class)) (a .vectors .now) (a .allowed) kept (l .t - 1) (l .left - 1))
+      subst (λ (kept : List ℕ). Going (passes (a .net) (a .class)) (a .vectors .now) (a .allowed) kept
+          (l .t - 1) (l .left - 1))
           (sym (less-is w)) (goes-on (c .before) true (c .if1 .taken)),
     )
 
@@ -188,7 +195,8 @@ returns : tie.Need-returns Inv-loop μ-loop
 returns c =
     let l = c .before .loop in
     let a = c .before .before .before .before .before .before .args in
-    let end = going-last (passes (a .net) (a .class)) (a .vectors .now) (a .allowed) (take (l .count) (l .kept)) (l .t) (l .left)
+    let end =
+    going-last (passes (a .net) (a .class)) (a .vectors .now) (a .allowed) (take (l .count) (l .kept)) (l .t) (l .left)
     (l .inv .2) (c .loop-test .left) in
     (l .inv .0, l .inv .1, end .0, end .1)
 

@@ -22,10 +22,14 @@ shared-slice-read-result-2 : tie.Need-shared-slice-read-result-2
 shared-slice-read-result-2 c = search needs
 
 returns : tie.Need-returns
-returns c = let a = c .before .before .args in sym (without-before (a .i) (a .t) (a .words .now) (c .before .if1 .taken))
+returns c =
+    let a = c .before .before .args in
+    sym (without-before (a .i) (a .t) (a .words .now) (c .before .if1 .taken))
 
 returns-2 : tie.Need-returns-2
-returns-2 c = let a = c .before .before .args in ap (at (a .words .now)) (add-one (a .t)) ∙ sym (without-after (a .i) (a .t) (a .words .now) (c .before .if1 .left))
+returns-2 c =
+    let a = c .before .before .args in
+    ap (at (a .words .now)) (add-one (a .t)) ∙ sym (without-after (a .i) (a .t) (a .words .now) (c .before .if1 .left))
 
 pub entry-without-spec : {M : Type 1} → statement M
 entry-without-spec =

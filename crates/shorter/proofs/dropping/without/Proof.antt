@@ -13,7 +13,8 @@ use Rattle.shorter.proofs.dropping.without.Statement.{statement}
 use Rattle.shorter.proofs.dropping.without.Tie as tie
 
 abbrev Inv-loop : tie.InvT-loop
-Inv-loop i words count less₀ t₀ less t = (length less ≡ 64) × (t ≤ count) × ((z : ℕ) → z < t → at less z ≡ at (without i words) z)
+Inv-loop i words count less₀ t₀ less t =
+    (length less ≡ 64) × (t ≤ count) × ((z : ℕ) → z < t → at less z ≡ at (without i words) z)
 
 abbrev μ-loop : tie.MeasureT-loop
 μ-loop i words count less₀ t₀ less t = count - t
@@ -48,8 +49,10 @@ loop-again c =
     let room : l .t < length (l .less) = omega (arith, size, c .before .loop-test .taken) in (
       length-set (l .less) (l .t) _ ∙ size,
       search needs,
-      below-more (λ z. at (set (l .less) (l .t) (c .entry-without .result)) z ≡ at (without (a .i) (a .words .now)) z) (l .t)
-          (λ z m. getD-set-other (l .less) (l .t) z _ 0 (λ e. absurd (not-suc-le-zero {n = 0} (omega arith))) ∙ l .inv .2 z m)
+      below-more (λ z. at (set (l .less) (l .t) (c .entry-without .result)) z
+          ≡ at (without (a .i) (a .words .now)) z) (l .t)
+          (λ z m. getD-set-other (l .less) (l .t) z _ 0 (λ e. absurd (not-suc-le-zero {n = 0} (omega arith)))
+          ∙ l .inv .2 z m)
           (getD-set-same (l .less) (l .t) _ 0 room ∙ c .entry-without .ensures),
     )
 
@@ -62,7 +65,8 @@ returns c =
     let count = length (a .words .now) - 1 in
     let fits : count ≤ length (l .less) = omega arith in
     let fewer = without-length (a .i) (a .words .now) (p .0) in
-    let all : length (take count (l .less)) ≡ length (without (a .i) (a .words .now)) = omega (arith, length-take-le count (l .less) fits, fewer) in (
+    let all : length (take count (l .less)) ≡ length (without (a .i) (a .words .now)) =
+    omega (arith, length-take-le count (l .less) fits, fewer) in (
       size,
       ext-getD 0 (take count (l .less)) (without (a .i) (a .words .now)) all
           (λ z m. let below : z < count = omega (arith, length-take-le count (l .less) fits, m) in

@@ -9,7 +9,8 @@ use Rattle.shorter.proofs.floors.number_of_sets.Statement.{statement}
 use Rattle.shorter.proofs.floors.number_of_sets.Tie as tie
 
 abbrev Inv-loop : tie.InvT-loop
-Inv-loop nets class one₀ two₀ three₀ i₀ one two three i = (i ≤ nets) × (one ≡ class-size i 1) × (two ≡ class-size i 2) × (three ≡ class-size i 3)
+Inv-loop nets class one₀ two₀ three₀ i₀ one two three i =
+    (i ≤ nets) × (one ≡ class-size i 1) × (two ≡ class-size i 2) × (three ≡ class-size i 3)
 
 abbrev μ-loop : tie.MeasureT-loop
 μ-loop nets class one₀ two₀ three₀ i₀ one two three i = nets - i
