@@ -1,5 +1,5 @@
 /* Shortens a test set for four nets, soft level 1, gate OR and class 2, with seven checks allowed, and prints the
- * vectors kept, their number, the checks made, and the floor, the fewest vectors that a passed set can have.
+ * vectors kept, their number, the checks made, and the floor: no set that is passed for the class has fewer vectors.
  *
  * At the repository's root, after `rt staticlib exports`:
  *

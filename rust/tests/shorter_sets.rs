@@ -282,8 +282,8 @@ fn a_set_twice() {
     }
 }
 
-/// Two sets that pass for class 1, one after the other: walking vectors, and a number for each net in base two, which is
-/// as short as a set can be. The later one is left out.
+/// Two sets that pass for class 1, one after the other: walking vectors, and a number for each net in base two, which
+/// is as short as a set can be. The later one is left out.
 #[test]
 fn the_order_decides() {
     let nets_and_bits = [(6, 3), (14, 4), (30, 5)];

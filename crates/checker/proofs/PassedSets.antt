@@ -78,14 +78,14 @@ narrow-within net vectors more within narrow t l =
     let w = within t l in subst (λ (x : ℕ). x < 2 ^ (net .nets)) (w .2) (narrow (w .0) (w .1))
 
 -- they tell no fewer sets apart
-pub apart-more : (net : Network) (k : ℕ) (vectors more : List ℕ) → Within vectors more → SetsApart net k vectors
+apart-more : (net : Network) (k : ℕ) (vectors more : List ℕ) → Within vectors more → SetsApart net k vectors
     → SetsApart net k more
 apart-more net k vectors more within apart a b p q alike =
     apart a b p q (λ t l. let w = within t l in
     subst (λ (x : ℕ). reads net a x ≡ reads net b x) (w .2) (alike (w .0) (w .1)))
 
 -- a set that tells them apart is one that the rule passes
-pub apart-rule : (net : Network) (k : ℕ) (vectors : List ℕ) → 2 ≤ net .nets → Narrow net vectors
+apart-rule : (net : Network) (k : ℕ) (vectors : List ℕ) → 2 ≤ net .nets → Narrow net vectors
     → SetsApart net k vectors → Rule net k vectors Pass
 apart-rule net k vectors two narrow apart =
     let shows = rule-shows net k vectors (verdict net k vectors) two narrow (verdict-rule net k vectors) in

@@ -1,10 +1,31 @@
--- The cases of shorter sets, by computation.
+-- The cases of shorter sets: those of the order by its definition, the others by computation.
 use mathlib.Core.Path.{refl}
+use mathlib.Core.Logic.{inl, inr}
+use mathlib.Core.List.{[], _∷_}
+use native.Mathlib.Omega.{arith}
+use Rattle.shorter.specs.Shorter.{InOrder}
 use Rattle.shorter.specs.Open.{open-shorter}
+use Rattle.packing.specs.Packed.{shorter-words}
 use Rattle.demands.specs.ShorterCases.{ShorterCases}
 
+not-exchanged : ¬ (InOrder (2 ∷ 1 ∷ []) (1 ∷ 2 ∷ []))
+not-exchanged (inl (e, _)) = omega (arith, e)
+not-exchanged (inr (inl (_, rest))) = rest
+not-exchanged (inr (inr rest)) = rest
+
+not-repeated : ¬ (InOrder (1 ∷ 1 ∷ []) (1 ∷ 2 ∷ []))
+not-repeated (inl (_, inl (e, _))) = omega (arith, e)
+not-repeated (inl (_, inr rest)) = rest
+not-repeated (inr (inl (e, _))) = omega (arith, e)
+not-repeated (inr (inr rest)) = rest
+
+not-made-up : ¬ (InOrder (3 ∷ []) (1 ∷ 2 ∷ []))
+not-made-up (inl (e, _)) = omega (arith, e)
+not-made-up (inr (inl (e, _))) = omega (arith, e)
+not-made-up (inr (inr rest)) = rest
+
 pub shorter-cases : ShorterCases
-unfolding open-shorter
+unfolding open-shorter shorter-words
 shorter-cases = record {
   enough-checks = refl;
   two-checks = refl;
@@ -12,6 +33,7 @@ shorter-cases = record {
   one-check = refl;
   six-checks = refl;
   eight-checks = refl;
+  past-32-bits = refl;
   most-checks = refl;
   last-goes = refl;
   one-of-two = refl;
@@ -23,6 +45,8 @@ shorter-cases = record {
   pulled-down = refl;
   with-and-0 = refl;
   with-and-1 = refl;
+  kept-at-0 = refl;
+  kept-at-1 = refl;
   walking-at-0 = refl;
   walking-at-1 = refl;
   floor-48-1 = refl;
@@ -64,6 +88,11 @@ shorter-cases = record {
   seven-first = refl;
   eight-first = refl;
   twelve-first = refl;
+  left-out = inl (refl, inr (inl (refl, tt)));
+  not-exchanged = not-exchanged;
+  not-repeated = not-repeated;
+  not-made-up = not-made-up;
   rest-of-list = refl;
   list-refused = refl;
+  words-of-counts = refl;
 }

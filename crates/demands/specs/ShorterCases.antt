@@ -1,5 +1,4 @@
--- Document 02's shorter sets: cases worked out from the paper, and what a call would keep that tries the vectors in
--- another order or on another set. Wrong programs are in Refuted.antt.
+-- Document 02's shorter sets: cases worked out from the paper. Wrong programs are in Refuted.antt.
 use Prim.Native.Nat.{ℕ}
 use mathlib.Core.Path.{_≡_}
 use mathlib.Core.List.{List, [], _∷_}
@@ -7,8 +6,9 @@ use lib.ListN.{length, replicate}
 use Rattle.words.specs.Answers.{Answer, refused, full}
 use Rattle.network.specs.declared.Network.{Network}
 use Rattle.network.specs.Reading.{network-of, network-with, wired-or, wired-and}
-use Rattle.shorter.specs.Shorter.{floor}
+use Rattle.shorter.specs.Shorter.{floor, InOrder}
 use Rattle.shorter.specs.Shorten.{Shorter, shorten-answer}
+use Rattle.packing.specs.Packed.{shorter-words}
 use Rattle.demands.specs.Programs.{our-shorten}
 
 -- *shorten* with room for the set given, and so many checks allowed
@@ -22,7 +22,7 @@ shorten n k vectors allowed = shorten-in (network-of n) k vectors allowed
 abbrev pub keeps : (kept : List ℕ) → (checks floor : ℕ) → Answer Shorter
 keeps kept checks floor = full (record { kept = kept; checks = checks; floor = floor })
 
--- document 02's case: vector 0, the walking vectors of four nets, and two more
+-- vector 0, the walking vectors of four nets, and two more
 abbrev pub seven-vectors : List ℕ
 seven-vectors = 0 ∷ 1 ∷ 2 ∷ 4 ∷ 8 ∷ 3 ∷ 5 ∷ []
 
@@ -38,6 +38,7 @@ pub record ShorterCases : Type 0 where
   pub one-check : shorten 4 2 seven-vectors 1 ≡ keeps (0 ∷ 1 ∷ 2 ∷ 4 ∷ 8 ∷ 3 ∷ []) 1 4
   pub six-checks : shorten 4 2 seven-vectors 6 ≡ keeps (0 ∷ 1 ∷ 2 ∷ 4 ∷ 8 ∷ []) 6 4
   pub eight-checks : shorten 4 2 seven-vectors 8 ≡ keeps (1 ∷ 2 ∷ 4 ∷ 8 ∷ []) 7 4
+  pub past-32-bits : shorten 4 2 seven-vectors 4294967296 ≡ keeps (1 ∷ 2 ∷ 4 ∷ 8 ∷ []) 7 4
   pub most-checks : shorten 4 2 seven-vectors 18446744073709551615 ≡ keeps (1 ∷ 2 ∷ 4 ∷ 8 ∷ []) 7 4
   -- ---- the rule: from the last to the first, where the first to the last would keep 2 1
   pub last-goes : shorten 2 1 (1 ∷ 2 ∷ 1 ∷ []) 3 ≡ keeps (1 ∷ 2 ∷ []) 3 2
@@ -57,6 +58,9 @@ pub record ShorterCases : Type 0 where
   pub pulled-down : shorten-in (wired-or 4 0) 2 seven-vectors 7 ≡ keeps (1 ∷ 2 ∷ 4 ∷ 8 ∷ []) 7 4
   pub with-and-0 : shorten-in (wired-and 4 0) 2 seven-turned 7 ≡ keeps (14 ∷ 13 ∷ 11 ∷ 7 ∷ []) 7 4
   pub with-and-1 : shorten-in (wired-and 4 1) 2 seven-turned 7 ≡ keeps (14 ∷ 13 ∷ 11 ∷ 7 ∷ []) 7 4
+  -- what a receiver reads that floats decides what can be spared
+  pub kept-at-0 : shorten-in (wired-or 2 0) 1 (0 ∷ 3 ∷ 1 ∷ 2 ∷ []) 4 ≡ keeps (3 ∷ 1 ∷ []) 4 2
+  pub kept-at-1 : shorten-in (wired-or 2 1) 1 (0 ∷ 3 ∷ 1 ∷ 2 ∷ []) 4 ≡ keeps (0 ∷ 1 ∷ []) 4 2
   -- the walking vectors of class n pass at level 0, and at level 1 only with vector 0
   pub walking-at-0 : shorten-in (wired-or 2 0) 2 (0 ∷ 1 ∷ 2 ∷ 3 ∷ []) 4 ≡ keeps (1 ∷ 2 ∷ []) 4 2
   pub walking-at-1 : shorten-in (wired-or 2 1) 2 (0 ∷ 1 ∷ 2 ∷ 3 ∷ []) 4 ≡ keeps (0 ∷ 1 ∷ 2 ∷ []) 4 2
@@ -110,8 +114,15 @@ pub record ShorterCases : Type 0 where
   pub seven-first : shorten-answer (network-of 4) 2 (replicate 65 16) 0 0 ≡ refused 7
   pub eight-first : shorten-answer (network-of 4) 2 (16 ∷ []) 0 0 ≡ refused 8
   pub twelve-first : shorten-answer (network-of 4) 2 (0 ∷ 1 ∷ 2 ∷ 4 ∷ []) 4 3 ≡ refused 12
+  -- ---- the order given: entries may be left out, and not exchanged, repeated or made up
+  pub left-out : InOrder (1 ∷ 4 ∷ []) (1 ∷ 2 ∷ 4 ∷ [])
+  pub not-exchanged : ¬ (InOrder (2 ∷ 1 ∷ []) (1 ∷ 2 ∷ []))
+  pub not-repeated : ¬ (InOrder (1 ∷ 1 ∷ []) (1 ∷ 2 ∷ []))
+  pub not-made-up : ¬ (InOrder (3 ∷ []) (1 ∷ 2 ∷ []))
   -- ---- the lent list: only the kept words are written, also where there was room for more
   pub rest-of-list : our-shorten (network-of 2) 1 (1 ∷ 2 ∷ 2 ∷ []) 3 (9 ∷ 9 ∷ 9 ∷ 9 ∷ [])
       ≡ record { returned = full (record { kept = 2; checks = 3; floor = 2 }); list = 1 ∷ 2 ∷ 9 ∷ 9 ∷ [] }
   pub list-refused : our-shorten (network-of 2) 1 (1 ∷ []) 3 (9 ∷ 9 ∷ [])
       ≡ record { returned = refused 13; list = 9 ∷ 9 ∷ [] }
+  -- ---- through C: how many are kept, the checks made, the floor
+  pub words-of-counts : shorter-words (record { kept = 1 ∷ 2 ∷ []; checks = 5; floor = 3 }) ≡ 2 ∷ 5 ∷ 3 ∷ []

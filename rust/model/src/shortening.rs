@@ -67,7 +67,7 @@ mod tests {
 
     /// Four nets and class 2. Of 0 1 2 4 8 3 5 each of 5, 3 and 0 can be left out, and no walking one.
     #[test]
-    fn the_papers_sets() {
+    fn four_nets_by_hand() {
         let vectors = [0, 1, 2, 4, 8, 3, 5];
         assert_eq!(shorter(PULL_UP, 2, &vectors, 7), (vec![1, 2, 4, 8], 7, 4));
         assert_eq!(shorter(PULL_UP, 2, &vectors, 6), (vec![0, 1, 2, 4, 8], 6, 4));
