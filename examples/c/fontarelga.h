@@ -72,8 +72,9 @@ uint64_t fontarelga_check(uint64_t nets, uint64_t level, uint64_t gate, uint64_t
 
 /* A shorter test set, for class 1, 2 or 3. From the last vector to the first, each is left out if those kept so far are
  * passed without it. Each trial costs one check; allowed is how many may be made, any number, and with none left the
- * rest is kept. The vectors kept go to kept in the order given, and no other word of it is written; it must have room
- * for all of vectors. Rows 5, 6 (also for every class above 3), 17, 20, 7, 8, 12, 13 (the set given is not passed). */
+ * rest is kept. The vectors kept go to kept in the order given, and no other word of it is written; it is another list
+ * than vectors and must have room for all of them. Rows 5, 6 (also for every class above 3), 17, 20, 7, 8, 12, 13 (the
+ * set given is not passed). */
 uint64_t fontarelga_shorten(uint64_t nets, uint64_t level, uint64_t gate, uint64_t class_, const uint64_t *vectors,
                             size_t vectors_len, uint64_t allowed, uint64_t *kept, size_t kept_len,
                             uint64_t shortened[FONTARELGA_SHORTENED_WORDS]);

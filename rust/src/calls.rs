@@ -24,7 +24,7 @@ pub struct Shorter {
     /// if those are fewer. The check of the set given is not counted.
     pub checks: u64,
     /// The smallest q with 2^q at least the number of sets of at most k drivers, the empty one included. Every passed
-    /// set of the class has at least q vectors, so the shortest has at most `kept.len()` minus q fewer than `kept`.
+    /// set of the class has at least q vectors, so none is shorter than `kept` by more than `kept.len()` minus q.
     pub floor: u64,
 }
 
@@ -103,7 +103,8 @@ pub fn check(network: impl Into<Network>, class: u64, vectors: &[u64]) -> Result
 /// first, each is left out if those kept so far are passed without it. Each trial costs one check. `allowed` is how
 /// many may be made, any number; with none left, the rest is kept.
 ///
-/// Refused: 5, 6 (here also for every class above 3), 17, 20, 7, 8, 13 (the set given is not passed).
+/// Refused: 5, 6 (here also for every class above 3), 17, 20, 7, 8, 13 (the set given is not passed; [`check`] then
+/// shows two driver sets that it cannot tell apart).
 ///
 /// ```
 /// use fontarelga::{shorten, Refusal, Shorter};

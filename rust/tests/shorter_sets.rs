@@ -1,6 +1,6 @@
 //! Shorter sets within a budget, of each gate and soft level: every set of a few vectors on two and three nets, random
 //! sets of up to 12 nets and of 48, the floor of every number of nets, both sides of each row's bound, and the order of
-//! the rows. By the model; and what must hold of any shortened set, said with the library's checks.
+//! the rows. Compared with the model; and what must hold of any shortened set, by the library's checks.
 
 mod support;
 

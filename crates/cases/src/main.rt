@@ -5,7 +5,7 @@
 // another gate or other receivers begin. The receivers of a call are shown unless they are one a net. `lent` gives the
 // length of the list lent, and after `kept` stand its entries that the call left as they were; of a table of findings
 // their number. `allowed` gives the checks that *shorten* may make; after the vectors that it keeps, and the entries
-// that it left, stand the checks that it made and the floor.
+// that it left, stand the checks that it made and the floor. On its lines too `kept` is of the lent list.
 mod calls;
 mod checking;
 mod finding;

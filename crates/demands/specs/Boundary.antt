@@ -1,6 +1,7 @@
--- Inputs on both sides of each bound of rows 4 to 14, for the calls other than the reader and the writer. Theirs are in
--- FileBounds.antt, those of row 17 in LevelCases.antt, those of row 20 in GateCases.antt, those of row 21 in
--- ReceiverCases.antt, and more of row 6 in ClassCases.antt.
+-- Inputs on both sides of each bound of rows 4 to 14, for the calls other than *shorten*, the reader and the writer.
+-- Those of *shorten* are in ShorterCases.antt, those of the other two in FileBounds.antt, those of row 17 in
+-- LevelCases.antt, those of row 20 in GateCases.antt, those of row 21 in ReceiverCases.antt, and more of row 6 in
+-- ClassCases.antt.
 use Prim.Native.Nat.{ℕ, _-_, _^_}
 use mathlib.Core.Path.{_≡_}
 use mathlib.Core.List.{List, [], _∷_}

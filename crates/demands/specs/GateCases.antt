@@ -1,6 +1,7 @@
 -- Document 02's gate: what receivers read at each gate, in the paper's words and as a law between the two; what clear
 -- nets are held at; cases of AND at both soft levels worked out from the paper; and both sides of each bound of row 20
--- in the calls that take a network. The reader's and the writer's are in FileBounds.antt.
+-- in the calls that take a network. The reader's and the writer's are in FileBounds.antt, those of *shorten* in
+-- ShorterCases.antt.
 use Prim.Native.Nat.{ℕ, _-_, _^_, _≤_, _<_}
 use mathlib.Core.Path.{_≡_}
 use mathlib.Core.Logic.{_≢_}

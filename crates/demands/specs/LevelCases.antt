@@ -1,6 +1,6 @@
 -- Document 02's soft level: cases of level 0 worked out from the paper, at the gate OR, what the level changes and what
 -- it does not, and both sides of each bound of row 17 in the calls that take a network. The reader's and the writer's
--- are in FileBounds.antt, and the gate's in GateCases.antt.
+-- are in FileBounds.antt, those of *shorten* in ShorterCases.antt, and the gate's in GateCases.antt.
 use Prim.Native.Nat.{ℕ, _-_, _^_, _≤_}
 use mathlib.Core.Path.{_≡_}
 use mathlib.Core.Logic.{_≢_}

@@ -69,7 +69,8 @@ first-to-last net k vectors allowed = let end = our-rule net k (reverse vectors)
 abbrev pub counts-first-check : ShortenRule
 counts-first-check net k vectors allowed = let end = our-rule net k vectors allowed in (end .0, suc (end .1))
 
--- each removal is tried on the set given: what each of them alone leaves passed is dropped, whatever the checks
+-- each removal is tried on the set given: every vector without which that set is passed is dropped, whatever the checks
+-- allowed
 abbrev pub tries-whole-set : ShortenRule
 tries-whole-set net k vectors allowed =
     let needed = passing (λ t. not (passes net k (without t vectors))) (length vectors) in

@@ -53,8 +53,8 @@ pub record KeptSet (checks : CheckProgram) (net : Network) (k : ℕ) (vectors : 
   pub in-order : InOrder kept vectors
   -- a check a vector, as far as they are allowed
   pub checks-made : counts .checks ≡ min allowed (length vectors)
-  -- every passed set of the class has as many vectors as the floor says, so none is shorter than the kept one by more
-  -- than this
+  -- every passed set of the class has at least as many vectors as the floor says, so none is shorter than the kept one
+  -- by more than kept minus the floor
   pub at-least : (others : List ℕ) → Passes checks net k others → counts .floor ≤ length others
   pub distance : (others : List ℕ) → Passes checks net k others
       → length kept - length others ≤ length kept - counts .floor

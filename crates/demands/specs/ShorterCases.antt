@@ -58,7 +58,7 @@ pub record ShorterCases : Type 0 where
   pub pulled-down : shorten-in (wired-or 4 0) 2 seven-vectors 7 ≡ keeps (1 ∷ 2 ∷ 4 ∷ 8 ∷ []) 7 4
   pub with-and-0 : shorten-in (wired-and 4 0) 2 seven-turned 7 ≡ keeps (14 ∷ 13 ∷ 11 ∷ 7 ∷ []) 7 4
   pub with-and-1 : shorten-in (wired-and 4 1) 2 seven-turned 7 ≡ keeps (14 ∷ 13 ∷ 11 ∷ 7 ∷ []) 7 4
-  -- what a receiver reads that floats decides what can be spared
+  -- what a receiver that floats reads decides what can be spared
   pub kept-at-0 : shorten-in (wired-or 2 0) 1 (0 ∷ 3 ∷ 1 ∷ 2 ∷ []) 4 ≡ keeps (3 ∷ 1 ∷ []) 4 2
   pub kept-at-1 : shorten-in (wired-or 2 1) 1 (0 ∷ 3 ∷ 1 ∷ 2 ∷ []) 4 ≡ keeps (0 ∷ 1 ∷ []) 4 2
   -- the walking vectors of class n pass at level 0, and at level 1 only with vector 0
@@ -78,6 +78,7 @@ pub record ShorterCases : Type 0 where
   pub floor-8-1 : floor (network-of 8) 1 ≡ 4
   -- ---- the rows: 5, n
   pub nets-1 : shorten 1 1 (0 ∷ 1 ∷ []) 2 ≡ refused 5
+  pub nets-48 : shorten 48 1 (0 ∷ []) 1 ≡ refused 13
   pub nets-49 : shorten 49 1 (0 ∷ []) 2 ≡ refused 5
   -- 6, k: 0, above n, and above 3 even where every other call has such a class
   pub class-0 : shorten 4 0 seven-vectors 7 ≡ refused 6
@@ -95,6 +96,7 @@ pub record ShorterCases : Type 0 where
   pub gate-2 : shorten-in (network-with 4 1 2) 2 seven-vectors 7 ≡ refused 20
   -- 7, the vectors
   pub no-vectors : shorten 4 2 [] 7 ≡ refused 7
+  pub vectors-64 : shorten 4 2 (replicate 64 0) 0 ≡ refused 13
   pub vectors-65 : shorten 4 2 (replicate 65 0) 7 ≡ refused 7
   -- 8, a bit at n
   pub word-at : shorten 4 2 (16 ∷ []) 1 ≡ refused 8

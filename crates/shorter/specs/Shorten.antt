@@ -17,7 +17,7 @@ use Rattle.shorter.specs.Shorter.{tried, Floor, floor}
 
 -- ---- the rows
 
--- class: as in every call on a test set, and here also every k above 3
+-- class: as in the other calls, and here also every k above 3
 abbrev pub SmallClassRow6 : Network → ℕ → Type 0
 SmallClassRow6 net k = Row6 net k ⊎ (3 < k)
 

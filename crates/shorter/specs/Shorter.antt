@@ -54,7 +54,7 @@ floor net k = or-zero (least (suc (net .nets)) 0 (λ q. leb (class-size (net .ne
 
 -- ---- vectors in the order given
 
--- a list is what is left of another if entries are taken out of it
+-- the first list is the second with some entries taken out, or none
 abbrev pub InOrder : List ℕ → List ℕ → Type 0
 InOrder [] ys = Unit {0}
 InOrder (x ∷ xs) [] = ⊥

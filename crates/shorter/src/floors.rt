@@ -5,8 +5,8 @@ ghost use Rattle.words.specs.Counting.{«class-size»};
 ghost use Rattle.shorter.specs.Shorter.{floor};
 use network::Network;
 
-// How many sets of at most k drivers there are. With a driver more, those without it and those with it, which have one
-// fewer of the others.
+// How many sets of at most k drivers there are; `one`, `two` and `three` are those of at most 1, 2 and 3 of the first i
+// drivers. With a driver more, there are those without it, and those with it, which have at most k - 1 of the others.
 fn number_of_sets(nets: u64, class: u64) -> u64
     requires { ⌜ (nets ≤ 48) × (0 < class) × (class ≤ 3) ⌝ }
     ensures { λ r. ⌜ r ≡ class-size nets class ⌝ }
