@@ -24,7 +24,7 @@ SmallClassRow6 net k = Row6 net k ⊎ (3 < k)
 abbrev pub SmallClassRows : Network → ℕ → List ℕ → List (ℕ × Type 0)
 SmallClassRows net k vectors = (5, Row5 net) ∷ ClassRows (SmallClassRow6 net k) net vectors
 
--- the call's own rows: room for the whole set given, and that set is passed
+-- the call's own rows: no room for the whole set given; that set is not passed
 abbrev pub OwnRows : Network → (k : ℕ) → (vectors : List ℕ) → ℕ → List (ℕ × Type 0)
 OwnRows net k vectors room = (12, Row12 (length vectors) room) ∷ (13, Row13 net k vectors) ∷ []
 
