@@ -1,5 +1,6 @@
 -- Demand 1: the answer to any call, on any numbers and any bytes, is either its full result or one refusal number from
--- documents 01 and 02. After a refusal each lent list, table and session record still holds what it held before the call.
+-- documents 01 and 02. After a refusal each lent list, table and session record still holds what it held before the
+-- call.
 use Prim.Native.Nat.{ℕ}
 use mathlib.Core.Path.{_≡_}
 use mathlib.Core.Logic.{_⊎_}

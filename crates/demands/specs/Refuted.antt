@@ -101,7 +101,7 @@ clears-rest net k vectors allowed lent =
     let answer = Shorten.shorten-answer net k vectors allowed (length lent) in
     record { returned = Shorten.counted answer; list = kept-and-zeros (Shorten.kept-of answer) lent }
 
--- the vectors dropped are written after those kept: the set given stands in the list before any is dropped
+-- the set given is written into the list first, and the vectors kept over its front
 abbrev pub leaves-given : ShortenProgram
 leaves-given net k vectors allowed lent =
     let answer = Shorten.shorten-answer net k vectors allowed (length lent) in

@@ -67,6 +67,6 @@ pub record KeepsPassedSets (checks : CheckProgram) (shortens : ShortenProgram) :
       → KeptSet checks net k vectors allowed (take (counts .kept) (shortens net k vectors allowed lent .list)) counts
   -- one vector is never passed, so no trial is on an empty set
   pub two-vectors : (net : Network) (k : ℕ) (vectors : List ℕ) → Passes checks net k vectors → 2 ≤ length vectors
-  -- separation is monotone: a set that has all vectors of a passed one is passed
+  -- separation is monotone: a set that the rows admit and that has all vectors of a passed one is passed
   pub more-vectors : (net : Network) (k : ℕ) (vectors more : List ℕ) → Passes checks net k vectors
       → NoneHolds (SetRows net k more) → Within vectors more → Passes checks net k more
