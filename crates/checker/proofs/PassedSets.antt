@@ -45,9 +45,7 @@ module _ (net : Network) (k : ℕ) (vectors : List ℕ) where
   passed-apart s h = rule-shows net k vectors Pass (s .two) (s .narrow) (rule-passes h)
 
   pub passed-sets-apart : Passed net k vectors → SetsApart net k vectors
-  passed-sets-apart (none, rule) =
-      let s = admitted-set net k vectors none in
-      rule-shows net k vectors Pass (s .two) (s .narrow) rule
+  passed-sets-apart (none, rule) = passed-apart (admitted-set net k vectors none) (λ fails. fails rule)
 
   -- the search of them passes
   pub passed-search : Passed net k vectors → bounded-verdict net k vectors ≡ Pass

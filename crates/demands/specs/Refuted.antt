@@ -46,17 +46,17 @@ refuses-every-set number net k vectors = refused number
 abbrev pub ShortenRule : Type 0
 ShortenRule = Network → (k : ℕ) → (vectors : List ℕ) → (allowed : ℕ) → List ℕ × ℕ
 
-abbrev pub answers-by : ShortenRule → (floor : ℕ) → Network → (k : ℕ) → (vectors : List ℕ) → (allowed room : ℕ)
-    → Answer Shorten.Shorter
-answers-by rule floor net k vectors allowed room =
+-- a program by a rule, and by what it makes of the floor
+abbrev pub shortens-with : ShortenRule → (ℕ → ℕ) → ShortenProgram
+shortens-with rule other net k vectors allowed lent =
     let end = rule net k vectors allowed in
-    by-tests (Shorten.small-class-tests net k vectors ++ Shorten.own-tests net k vectors room)
-    (record { kept = end .0; checks = end .1; floor = floor })
+    let result : Shorten.Shorter = record { kept = end .0; checks = end .1; floor = other (floor net k) } in
+    let rows = Shorten.small-class-tests net k vectors ++ Shorten.own-tests net k vectors (length lent) in
+    let answer = by-tests rows result in
+    record { returned = Shorten.counted answer; list = lent-after (Shorten.kept-of answer) lent }
 
 abbrev pub shortens-by : ShortenRule → ShortenProgram
-shortens-by rule net k vectors allowed lent =
-    let answer = answers-by rule (floor net k) net k vectors allowed (length lent) in
-    record { returned = Shorten.counted answer; list = lent-after (Shorten.kept-of answer) lent }
+shortens-by rule = shortens-with rule (λ q. q)
 
 abbrev pub our-rule : ShortenRule
 our-rule net k vectors allowed = let end = tried net k vectors allowed in (end .kept, end .checks)
@@ -85,11 +85,9 @@ abbrev pub drops-unchecked : ShortenRule
 drops-unchecked net k vectors allowed =
     let end = trials (λ _. true) (length vectors) allowed vectors in (end .kept, end .checks)
 
--- a floor one too high, or one too low
+-- another floor, one too high or one too low
 abbrev pub with-floor : (ℕ → ℕ) → ShortenProgram
-with-floor other net k vectors allowed lent =
-    let answer = answers-by our-rule (other (floor net k)) net k vectors allowed (length lent) in
-    record { returned = Shorten.counted answer; list = lent-after (Shorten.kept-of answer) lent }
+with-floor other = shortens-with our-rule other
 
 -- the rest of the list is cleared
 abbrev pub kept-and-zeros : Answer (List ℕ) → List ℕ → List ℕ

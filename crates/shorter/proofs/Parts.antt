@@ -19,6 +19,9 @@ use Rattle.shorter.specs.Shorter.{InOrder}
 use Rattle.shorter.proofs.Ordered.{in-order-within, in-order-length}
 use Rattle.shorter.proofs.FloorLaws.{two-vectors}
 
+pub part-narrow : (net : Network) (part vectors : List ℕ) → InOrder part vectors → Narrow net vectors → Narrow net part
+part-narrow net part vectors order = narrow-within net part vectors (in-order-within part vectors order)
+
 module _ (net : Network) (k : ℕ) (vectors : List ℕ) (admitted : NoneHolds (SetRows net k vectors)) where
   abbrev set : AdmittedSet net k vectors
   set = admitted-set net k vectors admitted
@@ -41,8 +44,7 @@ module _ (net : Network) (k : ℕ) (vectors : List ℕ) (admitted : NoneHolds (S
   -- a part that passes tells the sets of the class apart, and has two vectors or more
   part-apart : (part : List ℕ) → InOrder part vectors → passes net k part ≡ true → SetsApart net k part
   part-apart part order e =
-      rule-shows net k part Pass (set .two)
-      (narrow-within net part vectors (in-order-within part vectors order) (set .narrow))
+      rule-shows net k part Pass (set .two) (part-narrow net part vectors order (set .narrow))
       (decides-pass net k part .0 e)
 
   pub part-size : (part : List ℕ) → InOrder part vectors → passes net k part ≡ true → 2 ≤ length part
@@ -53,10 +55,7 @@ module _ (net : Network) (k : ℕ) (vectors : List ℕ) (admitted : NoneHolds (S
       let size = part-size part order e in
       (part-admitted part order (omega (arith, size)), decides-pass net k part .0 e)
 
--- a part of a set whose words are narrow, and a set that has a part which passes
-pub part-narrow : (net : Network) (part vectors : List ℕ) → InOrder part vectors → Narrow net vectors → Narrow net part
-part-narrow net part vectors order = narrow-within net part vectors (in-order-within part vectors order)
-
+-- a set that has a part which passes
 pub passes-more : (net : Network) (k : ℕ) → 2 ≤ net .nets → (part vectors : List ℕ) → Narrow net vectors
     → InOrder part vectors → passes net k part ≡ true → passes net k vectors ≡ true
 passes-more net k two part vectors narrow order e =

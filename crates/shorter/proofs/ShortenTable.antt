@@ -7,7 +7,7 @@ use Prim.Native.Nat.{ℕ, _≤_, _<_}
 use lib.ListN.{length}
 use borrow.Author.Tests.{le-ltb, lt-ltb}
 use Rattle.words.specs.Answers.{Answer, refused, full, ByTable, NoneHolds, Decided, by-tests, lent-after}
-use Rattle.words.proofs.Tests.{decides-less, decides-or, not-less, or-right}
+use Rattle.words.proofs.Tests.{decides-less, decides-or, not-less, or-false, or-right}
 use Rattle.words.proofs.Answers.{decided-append, tests-by-table, table-determined, let-through, refused-not-full}
 use Rattle.network.specs.declared.Network.{Network}
 use Rattle.network.specs.Rows.{SetRows, bad-net-count, bad-class, class-tests, set-admission}
@@ -52,10 +52,6 @@ module _ (net : Network) (k : ℕ) (vectors : List ℕ) where
   as-every-call l =
       ap (λ (test : Bool). by-tests ((5, bad-net-count net) ∷ class-tests test net vectors) tt)
       (ap (λ (test : Bool). bad-class net k || test) (le-ltb 3 k l) ∙ or-false (bad-class net k))
-    where
-      or-false : (a : Bool) → a || false ≡ a
-      or-false true = refl
-      or-false false = refl
 
   pub small-class-admitted : small-class-admission net k vectors ≡ full tt → NoneHolds (SmallClassRows net k vectors)
   small-class-admitted e =
