@@ -10,7 +10,7 @@ use Rattle.words.proofs.Tests.{test-fails}
 use Rattle.network.specs.declared.Network.{Network}
 use Rattle.network.specs.Reading.{response}
 use Rattle.network.specs.Respond.{response-answer, own-tests as state-tests}
-use Rattle.network.specs.Rows.{Row5, Row21, bad-net-count, bad-class, bad-receivers, class-tests}
+use Rattle.network.specs.Rows.{Row5, Row21, bad-net-count, bad-class, bad-receivers, class-tests, vector-tests}
 use Rattle.network.specs.OwnReceivers.{own-receivers}
 use Rattle.network.proofs.Rows.{decides-row-5, decides-row-21, nets-admitted, admitted-receivers}
 use Rattle.network.proofs.OwnReceivers.{own-size, own-admitted}
@@ -50,9 +50,9 @@ module _ (net : Network) (k : ℕ) (vectors : List ℕ) where
   unfolding response-answer response-alone
   responds-alone state room =
       drops-out net
-      (class-tests (bad-class net k) net vectors
+      ((class-tests (bad-class net k) net ++ vector-tests net vectors)
       ++ state-tests net (length (own-receivers (net .nets))) k vectors state room)
-      (class-tests (bad-class net k) net vectors ++ state-tests net (net .nets) k vectors state room)
+      ((class-tests (bad-class net k) net ++ vector-tests net vectors) ++ state-tests net (net .nets) k vectors state room)
       (response net state vectors) (response net state vectors) (λ _. rw (own-size (net .nets)))
 
   pub diagnoses-alone : (responses : List ℕ) (room : ℕ)
@@ -60,8 +60,8 @@ module _ (net : Network) (k : ℕ) (vectors : List ℕ) where
   unfolding diagnosis-answer diagnosis-alone
   diagnoses-alone responses room =
       drops-out net
-      (class-tests (bad-class net k) net vectors
+      ((class-tests (bad-class net k) net ++ vector-tests net vectors)
       ++ answers-tests net (length (own-receivers (net .nets))) k vectors responses room)
-      (class-tests (bad-class net k) net vectors ++ answers-tests net (net .nets) k vectors responses room)
+      ((class-tests (bad-class net k) net ++ vector-tests net vectors) ++ answers-tests net (net .nets) k vectors responses room)
       (read-back net (length (own-receivers (net .nets))) k vectors responses) (read-back net (net .nets) k vectors responses)
       (λ _. rw (own-size (net .nets)))

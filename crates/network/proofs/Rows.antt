@@ -1,8 +1,8 @@
 -- Each row's test decides the row, and what rows that do not hold tell.
-use mathlib.Core.Path.{_≡_, refl}
-use mathlib.Core.Bool.{Bool, not}
+use mathlib.Core.Path.{_≡_, refl, _∙_}
+use mathlib.Core.Bool.{Bool, true, false, not}
 use mathlib.Core.Logic.{_⊎_, inl, inr, ⊎-elim, _≢_}
-use mathlib.Core.List.{List, [], _++_}
+use mathlib.Core.List.{List, [], _∷_, _++_}
 use Prim.Native.Nat.{ℕ, _^_, _≤_, _<_}
 use native.Mathlib.Nat.{lt-of-not-le, eq-or-lt-of-le}
 use native.Mathlib.Omega.{arith}
@@ -15,9 +15,10 @@ use Rattle.words.specs.Searching.{among}
 use Rattle.words.proofs.Tests.{cases, decides-less, decides-at-most, decides-equal, decides-or, decides-and, decides-not}
 use Rattle.words.proofs.Tests.{test-fails}
 use Rattle.words.proofs.Searching.{decides-any, decides-among}
-use Rattle.words.proofs.Answers.{let-through, first-refuses, first-passes, shared-refuse, shared-pass}
+use Rattle.words.proofs.Answers.{decided-append, let-through, first-refuses, first-passes, shared-refuse, shared-pass}
 use Rattle.network.specs.declared.Network.{Network}
 use Rattle.network.specs.Rows.{HasReceiver, Row21, bad-receivers, ClassRows, class-tests, BoardRows, board-tests}
+use Rattle.network.specs.Rows.{VectorRows, vector-tests, NetworkRows, network-tests, network-admission, BadCount, bad-count}
 use Rattle.network.specs.Rows.{board-refusal, AdmittedBoard, BoardSetRows, board-set-tests, board-admission}
 use Rattle.network.specs.Rows.{NoBit, no-bit, Row5, Row6, Row17, Row20, Row7, HighBit, Row9, Row12, bad-net-count}
 use Rattle.network.specs.Rows.{bad-class, bad-level, bad-gate, bad-vector-count, has-high-bit, bad-response-count}
@@ -56,8 +57,11 @@ decides-row-17 net = decides-no-bit (net .level)
 pub decides-row-20 : (net : Network) → Decides (bad-gate net) (Row20 net)
 decides-row-20 net = decides-no-bit (net .gate)
 
+pub decides-count : (count : ℕ) → Decides (bad-count count) (BadCount count)
+decides-count count = decides-or (decides-less count 1) (decides-less 64 count)
+
 pub decides-row-7 : (vectors : List ℕ) → Decides (bad-vector-count vectors) (Row7 vectors)
-decides-row-7 vectors = decides-or (decides-less (length vectors) 1) (decides-less 64 (length vectors))
+decides-row-7 vectors = decides-count (length vectors)
 
 pub decides-high-bit : (width : ℕ) (words : List ℕ) → Decides (has-high-bit width words) (HighBit width words)
 unfolding has-high-bit
@@ -160,31 +164,35 @@ module _ (net : Network) (owners : List ℕ) where
 
 -- ---- rows 5, 6, 17, 20, 7 and 8, and 21
 
-pub decides-class-rows : {row-6 : Type 0} {test-6 : Bool} → Decides test-6 row-6 → (net : Network) (vectors : List ℕ)
-    → Decided (ClassRows row-6 net vectors) (class-tests test-6 net vectors)
-decides-class-rows decides-6 net vectors = (
-  refl,
-  decides-6,
-  λ _. (
-    refl,
-    decides-row-17 net,
-    λ _. (
-      refl,
-      decides-row-20 net,
-      λ _. (refl, decides-row-7 vectors, λ _. (refl, decides-high-bit (net .nets) vectors, λ _. tt)),
-    ),
-  ),
-)
+decides-class-rows : {row-6 : Type 0} {test-6 : Bool} → Decides test-6 row-6 → (net : Network)
+    → Decided (ClassRows row-6 net) (class-tests test-6 net)
+decides-class-rows decides-6 net =
+    (refl, decides-6, λ _. (refl, decides-row-17 net, λ _. (refl, decides-row-20 net, λ _. tt)))
+
+decides-vector-rows : (net : Network) (vectors : List ℕ) → Decided (VectorRows net vectors) (vector-tests net vectors)
+decides-vector-rows net vectors =
+    (refl, decides-row-7 vectors, λ _. (refl, decides-high-bit (net .nets) vectors, λ _. tt))
+
+-- all but 5
+pub decides-class-and-vectors : {row-6 : Type 0} {test-6 : Bool} → Decides test-6 row-6 → (net : Network) (vectors : List ℕ)
+    → Decided (ClassRows row-6 net ++ VectorRows net vectors) (class-tests test-6 net ++ vector-tests net vectors)
+decides-class-and-vectors {row-6} {test-6} decides-6 net vectors =
+    decided-append (ClassRows row-6 net) (VectorRows net vectors) (class-tests test-6 net) (vector-tests net vectors)
+    (decides-class-rows decides-6 net) (λ _. decides-vector-rows net vectors)
+
+-- all but 7 and 8
+pub decides-network : (net : Network) (k : ℕ) → Decided (NetworkRows net k) (network-tests net k)
+decides-network net k = (refl, decides-row-5 net, λ _. decides-class-rows (decides-row-6 net k) net)
 
 pub decides-set : (net : Network) (k : ℕ) (vectors : List ℕ) → Decided (SetRows net k vectors) (set-tests net k vectors)
-decides-set net k vectors = (refl, decides-row-5 net, λ _. decides-class-rows (decides-row-6 net k) net vectors)
+decides-set net k vectors = (refl, decides-row-5 net, λ _. decides-class-and-vectors (decides-row-6 net k) net vectors)
 
 pub decides-board-set : (net : Network) (owners : List ℕ) (k : ℕ) (vectors : List ℕ)
     → Decided (BoardSetRows net owners k vectors) (board-set-tests net owners k vectors)
 decides-board-set net owners k vectors = (
   refl,
   decides-row-5 net,
-  λ _. (refl, decides-row-21 net owners, λ _. decides-class-rows (decides-row-6 net k) net vectors),
+  λ _. (refl, decides-row-21 net owners, λ _. decides-class-and-vectors (decides-row-6 net k) net vectors),
 )
 
 -- a call that takes receivers has tested all that one without them tests
@@ -251,6 +259,37 @@ admitted-set net k vectors (a, (b, (level, (gate, (c, (d, e)))))) =
 pub small-board : {net : Network} {k : ℕ} {vectors : List ℕ} → AdmittedSet net k vectors → k ≢ net .nets → 3 < k
     → net .nets ≤ 10
 small-board s differ more = ⊎-elim (λ l. omega (arith, l, more)) (⊎-elim (λ e. absurd (differ e)) (λ l. l)) (s .class)
+
+-- a call by what rows 5, 6, 17 and 20 say
+module _ (net : Network) (k : ℕ) {A : Type 0} (more : List (ℕ × Bool)) (x : A) where
+  pub network-refuses : (number : ℕ) → network-admission net k ≡ refused number
+      → by-tests (network-tests net k ++ more) x ≡ refused number
+  network-refuses number e = shared-refuse tt x (network-tests net k) more number e
+
+  pub network-admits : network-admission net k ≡ full tt → by-tests (network-tests net k ++ more) x ≡ by-tests more x
+  network-admits e = shared-pass tt x (network-tests net k) more tt e
+
+-- a call that goes on with 7 and 8, and whatever tests these are
+module _ (net : Network) (k : ℕ) (seven eight : Bool) (passed : network-admission net k ≡ full tt) where
+  abbrev more : List (ℕ × Bool)
+  more = (7, seven) ∷ (8, eight) ∷ []
+
+  pub then-row-7 : seven ≡ true → by-tests (network-tests net k ++ more) (tt {0}) ≡ refused 7
+  unfolding by-tests
+  then-row-7 e = network-admits net k more tt passed ∙ rw e
+
+  pub then-row-8 : seven ≡ false → eight ≡ true → by-tests (network-tests net k ++ more) (tt {0}) ≡ refused 8
+  unfolding by-tests
+  then-row-8 e f = network-admits net k more tt passed ∙ rw (e, f)
+
+  pub then-none : seven ≡ false → eight ≡ false → by-tests (network-tests net k ++ more) (tt {0}) ≡ full tt
+  unfolding by-tests
+  then-none e f = network-admits net k more tt passed ∙ rw (e, f)
+
+-- the nets that they admit
+pub network-admitted : (net : Network) (k : ℕ) → network-admission net k ≡ full tt → (2 ≤ net .nets) × (net .nets ≤ 48)
+network-admitted net k e =
+    nets-admitted net (let-through (NetworkRows net k) (network-tests net k) tt tt (decides-network net k) e .0)
 
 -- a call on a test set, by what those rows say
 module _ (net : Network) (k : ℕ) (vectors : List ℕ) where

@@ -3,7 +3,7 @@ use Prim.Native.Nat.{ℕ, _^_, _<_, _≤_}
 use mathlib.Core.Path.{_≡_}
 use mathlib.Core.Logic.{_⊎_, _≢_}
 use mathlib.Core.Bool.{Bool, not, _||_, _&&_}
-use mathlib.Core.List.{List, [], _∷_}
+use mathlib.Core.List.{List, [], _∷_, _++_}
 use lib.Dec.{eqb, leb, ltb}
 use lib.ListN.{length}
 use Rattle.words.specs.Bits.{at}
@@ -52,9 +52,13 @@ Row17 net = NoBit (net .level)
 abbrev pub Row20 : Network → Type 0
 Row20 net = NoBit (net .gate)
 
+-- vectors, by their number: fewer than 1 or more than 64
+abbrev pub BadCount : ℕ → Type 0
+BadCount count = (count < 1) ⊎ (64 < count)
+
 -- vectors: fewer than 1 or more than 64
 abbrev pub Row7 : List ℕ → Type 0
-Row7 vectors = (length vectors < 1) ⊎ (64 < length vectors)
+Row7 vectors = BadCount (length vectors)
 
 -- rows 8 and 10: a bit at or above the width, the number of drivers or of receivers
 abbrev pub HighBit : ℕ → List ℕ → Type 0
@@ -99,8 +103,11 @@ bad-level net = no-bit (net .level)
 abbrev pub bad-gate : Network → Bool
 bad-gate net = no-bit (net .gate)
 
+abbrev pub bad-count : ℕ → Bool
+bad-count count = ltb count 1 || ltb 64 count
+
 abbrev pub bad-vector-count : List ℕ → Bool
-bad-vector-count vectors = ltb (length vectors) 1 || ltb 64 (length vectors)
+bad-vector-count vectors = bad-count (length vectors)
 
 unfoldable pub has-high-bit : ℕ → List ℕ → Bool
 has-high-bit width words = any (length words) (λ t. leb (2 ^ width) (at words t))
@@ -135,30 +142,45 @@ AdmittedNetwork net = NoneHolds ((5, Row5 net) ∷ (17, Row17 net) ∷ (20, Row2
 
 -- ---- rows 5, 6, 17, 20, 7 and 8, with which every call on a test set begins; 21 after 5 if it takes receivers
 
--- all but 5, with row 6 as the call has it
-abbrev pub ClassRows : Type 0 → Network → List ℕ → List (ℕ × Type 0)
-ClassRows row-6 net vectors =
-    (6, row-6) ∷ (17, Row17 net) ∷ (20, Row20 net) ∷ (7, Row7 vectors) ∷ (8, HighBit (net .nets) vectors) ∷ []
+-- 6, 17 and 20, with row 6 as the call has it
+abbrev pub ClassRows : Type 0 → Network → List (ℕ × Type 0)
+ClassRows row-6 net = (6, row-6) ∷ (17, Row17 net) ∷ (20, Row20 net) ∷ []
+
+-- 7 and 8
+abbrev pub VectorRows : Network → List ℕ → List (ℕ × Type 0)
+VectorRows net vectors = (7, Row7 vectors) ∷ (8, HighBit (net .nets) vectors) ∷ []
+
+-- 5, 6, 17 and 20: all that stand before those of the vectors
+abbrev pub NetworkRows : Network → ℕ → List (ℕ × Type 0)
+NetworkRows net k = (5, Row5 net) ∷ ClassRows (Row6 net k) net
 
 abbrev pub SetRows : Network → ℕ → List ℕ → List (ℕ × Type 0)
-SetRows net k vectors = (5, Row5 net) ∷ ClassRows (Row6 net k) net vectors
+SetRows net k vectors = NetworkRows net k ++ VectorRows net vectors
 
 abbrev pub BoardSetRows : Network → List ℕ → ℕ → List ℕ → List (ℕ × Type 0)
-BoardSetRows net owners k vectors = (5, Row5 net) ∷ (21, Row21 net owners) ∷ ClassRows (Row6 net k) net vectors
+BoardSetRows net owners k vectors =
+    (5, Row5 net) ∷ (21, Row21 net owners) ∷ ClassRows (Row6 net k) net ++ VectorRows net vectors
 
-abbrev pub class-tests : Bool → Network → List ℕ → List (ℕ × Bool)
-class-tests test-6 net vectors =
-    (6, test-6) ∷ (17, bad-level net) ∷ (20, bad-gate net)
-    ∷ (7, bad-vector-count vectors) ∷ (8, has-high-bit (net .nets) vectors) ∷ []
+abbrev pub class-tests : Bool → Network → List (ℕ × Bool)
+class-tests test-6 net = (6, test-6) ∷ (17, bad-level net) ∷ (20, bad-gate net) ∷ []
+
+abbrev pub vector-tests : Network → List ℕ → List (ℕ × Bool)
+vector-tests net vectors = (7, bad-vector-count vectors) ∷ (8, has-high-bit (net .nets) vectors) ∷ []
+
+abbrev pub network-tests : Network → ℕ → List (ℕ × Bool)
+network-tests net k = (5, bad-net-count net) ∷ class-tests (bad-class net k) net
 
 abbrev pub set-tests : Network → ℕ → List ℕ → List (ℕ × Bool)
-set-tests net k vectors = (5, bad-net-count net) ∷ class-tests (bad-class net k) net vectors
+set-tests net k vectors = network-tests net k ++ vector-tests net vectors
 
 abbrev pub board-set-tests : Network → List ℕ → ℕ → List ℕ → List (ℕ × Bool)
 board-set-tests net owners k vectors =
-    (5, bad-net-count net) ∷ (21, bad-receivers net owners) ∷ class-tests (bad-class net k) net vectors
+    (5, bad-net-count net) ∷ (21, bad-receivers net owners) ∷ class-tests (bad-class net k) net ++ vector-tests net vectors
 
 -- what they say alone, computed, and as the code's enum means it
+abbrev pub network-admission : Network → ℕ → Answer (Unit {0})
+network-admission net k = by-tests (network-tests net k) tt
+
 abbrev pub set-admission : Network → ℕ → List ℕ → Answer (Unit {0})
 set-admission net k vectors = by-tests (set-tests net k vectors) tt
 

@@ -5,9 +5,10 @@ ghost use Prim.Native.Nat.{ℕ, _<_, _≤_, _^_};
 ghost use lib.ListN.{length};
 ghost use Rattle.words.specs.Bits.{at};
 ghost use Rattle.network.specs.States.{«few-drivers», «has-wrong-reach», «has-conflict», «not-a-state»};
-ghost use Rattle.network.specs.Rows.{«bad-net-count», «bad-class», «bad-level», «bad-gate», «bad-vector-count»};
+ghost use Rattle.network.specs.Rows.{«bad-net-count», «bad-class», «bad-level», «bad-gate», «bad-count»};
 ghost use Rattle.network.specs.Rows.{«bad-receivers», «has-high-bit», «bad-response-count», «no-room»};
-ghost use Rattle.network.specs.Rows.{«board-refusal», «set-admission», «board-admission», admission};
+ghost use Rattle.network.specs.Rows.{«board-refusal», «network-admission», «set-admission», «board-admission»};
+ghost use Rattle.network.specs.Rows.{admission};
 use crate::Admission;
 use crate::Network;
 
@@ -68,11 +69,10 @@ fn bad_gate(net: Network) -> bool
     !((gate == 0) | (gate == 1))
 }
 
-// Row 7: fewer than 1 vector or more than 64.
-fn bad_vector_count(vectors: &[u64]) -> bool
-    ensures { λ r. ⌜ r ≡ bad-vector-count (now (vectors .entry)) ⌝ }
+// Row 7: fewer than 1 vector or more than 64, by their number.
+pub fn bad_count(count: u64) -> bool
+    ensures { λ r. ⌜ r ≡ bad-count count ⌝ }
 {
-    let count = vectors.len();
     (count < 1) | (64 < count)
 }
 
@@ -111,9 +111,9 @@ pub fn board_refusal(net: Network, receivers: &[u64]) -> u64
     0
 }
 
-// Rows 5, 6, 17, 20, 7 and 8, with which a call on a test set begins that takes no receivers.
-pub fn admit_set(net: Network, class: u64, vectors: &[u64]) -> Admission
-    ensures { λ r. ⌜ admission r ≡ set-admission net class (now (vectors .entry)) ⌝ }
+// Rows 5, 6, 17 and 20, which stand before those of the vectors.
+pub fn admit_network(net: Network, class: u64) -> Admission
+    ensures { λ r. ⌜ admission r ≡ network-admission net class ⌝ }
 {
     if bad_net_count(net) {
         return Admission::Refused(5);
@@ -127,7 +127,18 @@ pub fn admit_set(net: Network, class: u64, vectors: &[u64]) -> Admission
     if bad_gate(net) {
         return Admission::Refused(20);
     }
-    if bad_vector_count(vectors) {
+    Admission::Admitted
+}
+
+// Rows 5, 6, 17, 20, 7 and 8, with which a call on a test set begins that takes no receivers.
+pub fn admit_set(net: Network, class: u64, vectors: &[u64]) -> Admission
+    ensures { λ r. ⌜ admission r ≡ set-admission net class (now (vectors .entry)) ⌝ }
+{
+    let admission = admit_network(net, class);
+    if let Admission::Refused(number) = admission {
+        return Admission::Refused(number);
+    }
+    if bad_count(vectors.len() as u64) {
         return Admission::Refused(7);
     }
     if has_high_bit(net.nets, vectors) {

@@ -10,8 +10,8 @@ use Rattle.words.specs.Answers.{Answer, refused, full, ByTable, NoneHolds, Deci
 use Rattle.words.proofs.Tests.{decides-less, decides-or, not-less, or-false, or-right}
 use Rattle.words.proofs.Answers.{decided-append, tests-by-table, table-determined, let-through, refused-not-full}
 use Rattle.network.specs.declared.Network.{Network}
-use Rattle.network.specs.Rows.{SetRows, bad-net-count, bad-class, class-tests, set-admission}
-use Rattle.network.proofs.Rows.{decides-row-5, decides-row-6, decides-class-rows, decides-row-12}
+use Rattle.network.specs.Rows.{SetRows, bad-net-count, bad-class, class-tests, vector-tests, set-admission}
+use Rattle.network.proofs.Rows.{decides-row-5, decides-row-6, decides-class-and-vectors, decides-row-12}
 use Rattle.checker.proofs.PassedSets.{decides-row-13}
 use Rattle.shorter.specs.declared.Shortened.{Shortened}
 use Rattle.shorter.specs.Shorten.{SmallClassRows, OwnRows, ShortenRows, small-class-tests, own-tests}
@@ -24,7 +24,7 @@ module _ (net : Network) (k : ℕ) (vectors : List ℕ) where
   decides-small-class = (
     refl,
     decides-row-5 net,
-    λ _. decides-class-rows (decides-or (decides-row-6 net k) (decides-less 3 k)) net vectors,
+    λ _. decides-class-and-vectors (decides-or (decides-row-6 net k) (decides-less 3 k)) net vectors,
   )
 
   decides-own : (room : ℕ) → Decided (OwnRows net k vectors room) (own-tests net k vectors room)
@@ -44,13 +44,13 @@ module _ (net : Network) (k : ℕ) (vectors : List ℕ) where
   pub by-class : bad-net-count net ≡ false → 3 < k → small-class-admission net k vectors ≡ refused 6
   unfolding by-tests
   by-class e l =
-      ap₂ (λ (five six : Bool). by-tests ((5, five) ∷ class-tests six net vectors) tt) e
+      ap₂ (λ (five six : Bool). by-tests ((5, five) ∷ class-tests six net ++ vector-tests net vectors) tt) e
       (ap (λ (test : Bool). bad-class net k || test) (lt-ltb 3 k l) ∙ or-right (bad-class net k) true refl)
 
   -- for k up to 3 they are those of every call
   pub as-every-call : k ≤ 3 → small-class-admission net k vectors ≡ set-admission net k vectors
   as-every-call l =
-      ap (λ (test : Bool). by-tests ((5, bad-net-count net) ∷ class-tests test net vectors) tt)
+      ap (λ (test : Bool). by-tests ((5, bad-net-count net) ∷ class-tests test net ++ vector-tests net vectors) tt)
       (ap (λ (test : Bool). bad-class net k || test) (le-ltb 3 k l) ∙ or-false (bad-class net k))
 
   pub small-class-admitted : small-class-admission net k vectors ≡ full tt → NoneHolds (SmallClassRows net k vectors)

@@ -8,7 +8,8 @@ use lib.Dec.{ltb}
 use lib.ListN.{length}
 use Rattle.words.specs.Answers.{Answer, refused, full, by-tests}
 use Rattle.network.specs.declared.Network.{Network}
-use Rattle.network.specs.Rows.{Row5, Row6, Row12, ClassRows, bad-net-count, bad-class, no-room, class-tests}
+use Rattle.network.specs.Rows.{Row5, Row6, Row12, ClassRows, VectorRows, bad-net-count, bad-class, no-room}
+use Rattle.network.specs.Rows.{class-tests, vector-tests}
 use Rattle.checker.specs.Passed.{Row13, passes}
 use Rattle.shorter.specs.declared.Shortened.{Shortened}
 use Rattle.shorter.specs.declared.Shortening.{Shortening}
@@ -22,7 +23,7 @@ abbrev pub SmallClassRow6 : Network → ℕ → Type 0
 SmallClassRow6 net k = Row6 net k ⊎ (3 < k)
 
 abbrev pub SmallClassRows : Network → ℕ → List ℕ → List (ℕ × Type 0)
-SmallClassRows net k vectors = (5, Row5 net) ∷ ClassRows (SmallClassRow6 net k) net vectors
+SmallClassRows net k vectors = (5, Row5 net) ∷ ClassRows (SmallClassRow6 net k) net ++ VectorRows net vectors
 
 -- the call's own rows: no room for the whole set given; that set is not passed
 abbrev pub OwnRows : Network → (k : ℕ) → (vectors : List ℕ) → ℕ → List (ℕ × Type 0)
@@ -37,7 +38,7 @@ abbrev pub bad-small-class : Network → ℕ → Bool
 bad-small-class net k = bad-class net k || ltb 3 k
 
 abbrev pub small-class-tests : Network → ℕ → List ℕ → List (ℕ × Bool)
-small-class-tests net k vectors = (5, bad-net-count net) ∷ class-tests (bad-small-class net k) net vectors
+small-class-tests net k vectors = (5, bad-net-count net) ∷ class-tests (bad-small-class net k) net ++ vector-tests net vectors
 
 abbrev pub own-tests : Network → (k : ℕ) → (vectors : List ℕ) → ℕ → List (ℕ × Bool)
 own-tests net k vectors room = (12, no-room (length vectors) room) ∷ (13, not (passes net k vectors)) ∷ []

@@ -1,132 +1,73 @@
 use borrow.Author.Needs.{needs}
 use native.Mathlib.Omega.{arith}
-use mathlib.Core.Path.{_≡_, sym, _∙_}
+use mathlib.Core.Path.{_≡_, sym, ap, _∙_}
 use mathlib.Core.Bool.{false}
-use Rattle.words.specs.Answers.{by-tests}
-use Rattle.network.specs.Rows.{bad-net-count, bad-class, bad-level, bad-gate, bad-vector-count}
-use Rattle.network.proofs.Rows.{decides-row-5, nets-admitted}
+use Rattle.words.specs.Answers.{full}
+use Rattle.network.specs.Rows.{admission, network-admission, vector-tests, bad-vector-count, has-high-bit}
+use Rattle.network.proofs.Rows.{network-refuses, network-admitted, then-row-7, then-row-8, then-none}
 use Rattle.network.proofs.refusals.admit_set.Statement.{statement}
 use Rattle.network.proofs.refusals.admit_set.Tie as tie
 
--- the rows passed on the way, at each place
-row-5-passed : (c : tie.Else1) → bad-net-count (c .before .before .before .args .net) ≡ false
-row-5-passed c = sym (c .before .bad-net-count .ensures) ∙ c .if1 .left
+admit-network-requires : tie.Need-admit-network-requires
+admit-network-requires c κs = search needs
 
-row-6-passed : (c : tie.Else2)
-    → bad-class (c .before .before .before .before .before .args .net)
-    (c .before .before .before .before .before .args .class) ≡ false
-row-6-passed c = sym (c .before .bad-class .ensures) ∙ c .if2 .left
-
-row-17-passed : (c : tie.Else3) → bad-level (c .before .before .before .before .before .before .before .args .net) ≡ false
-row-17-passed c = sym (c .before .bad-level .ensures) ∙ c .if3 .left
-
-row-20-passed : (c : tie.Else4)
-    → bad-gate (c .before .before .before .before .before .before .before .before .before .args .net) ≡ false
-row-20-passed c = sym (c .before .bad-gate .ensures) ∙ c .if4 .left
-
-row-7-passed : (c : tie.Else5)
-    → bad-vector-count (c .before .before .before .before .before .before .before .before .before .before .before .args .vectors .now)
-    ≡ false
-row-7-passed c = sym (c .before .bad-vector-count .ensures) ∙ c .if5 .left
-
-bad-net-count-requires : tie.Need-bad-net-count-requires
-bad-net-count-requires c κs = search needs
+enum-known-admission : tie.Need-enum-known-admission
+enum-known-admission c = search needs
 
 returns : tie.Need-returns
-unfolding by-tests
-returns c = rw (sym (c .before .bad-net-count .ensures) ∙ c .if1 .taken)
+returns c =
+    let a = c .before .before .before .before .before .args in
+    sym (network-refuses (a .net) (a .class) (vector-tests (a .net) (a .vectors .now)) tt (c .before .admission .given .0 .0)
+    (sym (c .before .before .before .admit-network .ensures) ∙ ap admission (c .before .admission .given .1)))
 
-bad-class-requires : tie.Need-bad-class-requires
-bad-class-requires c κs = search needs
+enum-told : tie.Need-enum-told
+enum-told c = search needs
+
+-- rows 5, 6, 17 and 20 do not hold
+admitted : (c : tie.After-enum-told) → let a = c .before .before .before .before .args in
+    network-admission (a .net) (a .class) ≡ full tt
+admitted c = sym (c .before .before .admit-network .ensures) ∙ ap admission (c .enum-told .given .1)
+
+bad-count-requires : tie.Need-bad-count-requires
+bad-count-requires c κs = search needs
 
 returns-2 : tie.Need-returns-2
-unfolding by-tests
-returns-2 c = rw (row-5-passed (c .before .before), sym (c .before .bad-class .ensures) ∙ c .if2 .taken)
+returns-2 c =
+    let a = c .before .before .before .before .before .before .args in
+    sym (then-row-7 (a .net) (a .class) _ (has-high-bit (a .net .nets) (a .vectors .now)) (admitted (c .before .before))
+    (sym (c .before .bad-count .ensures) ∙ c .if1 .taken))
 
-bad-level-requires : tie.Need-bad-level-requires
-bad-level-requires c κs = search needs
-
-returns-3 : tie.Need-returns-3
-unfolding by-tests
-returns-3 c =
-    rw (
-      row-5-passed (c .before .before .before .before),
-      row-6-passed (c .before .before),
-      sym (c .before .bad-level .ensures) ∙ c .if3 .taken,
-    )
-
-bad-gate-requires : tie.Need-bad-gate-requires
-bad-gate-requires c κs = search needs
-
-returns-4 : tie.Need-returns-4
-unfolding by-tests
-returns-4 c =
-    rw (
-      row-5-passed (c .before .before .before .before .before .before),
-      row-6-passed (c .before .before .before .before),
-      row-17-passed (c .before .before),
-      sym (c .before .bad-gate .ensures) ∙ c .if4 .taken,
-    )
-
-bad-vector-count-requires : tie.Need-bad-vector-count-requires
-bad-vector-count-requires c κs = search needs
-
-returns-5 : tie.Need-returns-5
-unfolding by-tests
-returns-5 c =
-    rw (
-      row-5-passed (c .before .before .before .before .before .before .before .before),
-      row-6-passed (c .before .before .before .before .before .before),
-      row-17-passed (c .before .before .before .before),
-      row-20-passed (c .before .before),
-      sym (c .before .bad-vector-count .ensures) ∙ c .if5 .taken,
-    )
+-- nor row 7
+row-7-passed : (c : tie.Else1) → bad-vector-count (c .before .before .before .before .before .before .args .vectors .now) ≡ false
+row-7-passed c = sym (c .before .bad-count .ensures) ∙ c .if1 .left
 
 has-high-bit-requires : tie.Need-has-high-bit-requires
 has-high-bit-requires c κs =
-    let net = c .before .before .before .before .before .before .before .before .before .before .before .args .net in
-    let n = nets-admitted net
-    (decides-row-5 net .1 (row-5-passed (c .before .before .before .before .before .before .before .before))) in
-    omega (arith, n .1)
+    let a = c .before .before .before .before .before .before .args in
+    omega (arith, network-admitted (a .net) (a .class) (admitted (c .before .before)) .1)
 
-returns-6 : tie.Need-returns-6
-unfolding by-tests
-returns-6 c =
-    rw (
-      row-5-passed (c .before .before .before .before .before .before .before .before .before .before),
-      row-6-passed (c .before .before .before .before .before .before .before .before),
-      row-17-passed (c .before .before .before .before .before .before),
-      row-20-passed (c .before .before .before .before),
-      row-7-passed (c .before .before),
-      sym (c .before .has-high-bit .ensures) ∙ c .if6 .taken,
-    )
+returns-3 : tie.Need-returns-3
+returns-3 c =
+    let a = c .before .before .before .before .before .before .before .before .args in
+    sym (then-row-8 (a .net) (a .class) _ _ (admitted (c .before .before .before .before)) (row-7-passed (c .before .before))
+    (sym (c .before .has-high-bit .ensures) ∙ c .if2 .taken))
 
-returns-7 : tie.Need-returns-7
-unfolding by-tests
-returns-7 c =
-    rw (
-      row-5-passed (c .before .before .before .before .before .before .before .before .before .before),
-      row-6-passed (c .before .before .before .before .before .before .before .before),
-      row-17-passed (c .before .before .before .before .before .before),
-      row-20-passed (c .before .before .before .before),
-      row-7-passed (c .before .before),
-      sym (c .before .has-high-bit .ensures) ∙ c .if6 .left,
-    )
+returns-4 : tie.Need-returns-4
+returns-4 c =
+    let a = c .before .before .before .before .before .before .before .before .args in
+    sym (then-none (a .net) (a .class) _ _ (admitted (c .before .before .before .before)) (row-7-passed (c .before .before))
+    (sym (c .before .has-high-bit .ensures) ∙ c .if2 .left))
 
 pub admit-set-spec : {M : Type 1} → statement M
 admit-set-spec =
     tie.close
     (tie.spec
-    bad-net-count-requires
+    admit-network-requires
+    enum-known-admission
     returns
-    bad-class-requires
+    enum-told
+    bad-count-requires
     returns-2
-    bad-level-requires
-    returns-3
-    bad-gate-requires
-    returns-4
-    bad-vector-count-requires
-    returns-5
     has-high-bit-requires
-    returns-6
-    returns-7)
+    returns-3
+    returns-4)
