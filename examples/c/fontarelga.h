@@ -25,7 +25,8 @@
  * FONTARELGA_GATE_OR or FONTARELGA_GATE_AND. receivers has the net of each receiver, n to 64 of them, at least one on
  * each net; its length is m, and an empty list is refused with 21 as any other that is too short. class_ is k, the most
  * drivers of a reach: 1, 2, 3, n or, for n up to 10, one from 4 to n - 1.
- * Bit i of a word stands for net i, and in responses and answers for receiver i. */
+ * Bit i of a word stands for net i, and in responses and answers for receiver i: a parallel word, one a vector. A
+ * sequential word belongs to a net, and its bit t stands for vector t. */
 
 #ifndef FONTARELGA_H
 #define FONTARELGA_H
@@ -47,6 +48,11 @@ extern "C" {
  * its reach drives 0, else 1. */
 #define FONTARELGA_GATE_OR 0
 #define FONTARELGA_GATE_AND 1
+
+/* How a job file has the vectors. PARALLEL: vector by vector, a parallel word for each. SEQUENTIAL: net by net, their
+ * number in a byte and then a sequential word for each net, as an archive keeps them in which nets are looked up. */
+#define FONTARELGA_KIND_PARALLEL 2
+#define FONTARELGA_KIND_SEQUENTIAL 4
 
 /* The stack of a thread that is enough for check, shortening and diagnosis, and for all else. */
 #define FONTARELGA_CHECK_STACK_BYTES 327680
@@ -150,25 +156,38 @@ uint64_t fontarelga_second_answers(uint64_t session[FONTARELGA_SESSION_WORDS], c
 uint64_t fontarelga_to_drive(const uint64_t session[FONTARELGA_SESSION_WORDS], const uint64_t *first,
                              size_t first_len, const uint64_t *second, size_t second_len);
 
-/* A job: nets, level, gate, class, number of vectors, number of responses. It is of one receiver a net, receiver i on
- * net i, so row 10 goes by nets; for the calls above fontarelga_own_receivers fills their list. */
-#define FONTARELGA_JOB_WORDS 6
+/* The sequential words of a test set, one a net: bit t of word i is bit i of vector t. Rows 5, 7, 8, 12. */
+uint64_t fontarelga_turn(uint64_t nets, const uint64_t *vectors, size_t vectors_len, uint64_t *words,
+                         size_t words_len);
+
+/* The test set of sequential words: count vectors, 1 to 64. Either call after the other gives back what went in.
+ * Rows 5, 7 (also if the words are not as many as nets), 8 (a word has a bit at or above count), 12. */
+uint64_t fontarelga_turn_back(uint64_t nets, uint64_t count, const uint64_t *words, size_t words_len,
+                              uint64_t *vectors, size_t vectors_len);
+
+/* A job: nets, level, gate, class, kind, number of vectors, number of responses. The kind is FONTARELGA_KIND_PARALLEL
+ * or FONTARELGA_KIND_SEQUENTIAL; with either, both lists have parallel words. A job is of one receiver a net, receiver
+ * i on net i, so row 10 goes by nets; for the calls above fontarelga_own_receivers fills their list. */
+#define FONTARELGA_JOB_WORDS 7
 #define FONTARELGA_JOB_NETS 0
 #define FONTARELGA_JOB_LEVEL 1
 #define FONTARELGA_JOB_GATE 2
 #define FONTARELGA_JOB_CLASS 3
-#define FONTARELGA_JOB_VECTORS 4
-#define FONTARELGA_JOB_RESPONSES 5
+#define FONTARELGA_JOB_KIND 4
+#define FONTARELGA_JOB_VECTORS 5
+#define FONTARELGA_JOB_RESPONSES 6
 
-/* Reads a job file. Rows 1 to 3, 5, 6, 17, 20, 7 to 10, 12. */
+/* Reads a job file of either kind. Rows 1 to 3, 5, 6, 17, 20, 7 to 10, 12. With sequential words 7 also holds if they
+ * are not as many as nets, and 8 if one has a bit at or above the number of vectors that the file says; 9 and 12 go by
+ * that number. */
 uint64_t fontarelga_read_job(const uint8_t *file, size_t file_len, uint64_t *vectors, size_t vectors_len,
                              uint64_t *responses, size_t responses_len, uint64_t job[FONTARELGA_JOB_WORDS]);
 
-/* Writes a job file, with two entries if there are no responses. size: one word, how many bytes.
- * Rows 5, 6, 17, 20, 7 to 10, 12. */
-uint64_t fontarelga_write_job(uint64_t nets, uint64_t level, uint64_t gate, uint64_t class_, const uint64_t *vectors,
-                              size_t vectors_len, const uint64_t *responses, size_t responses_len, uint8_t *file,
-                              size_t file_len, uint64_t *size);
+/* Writes a job file of this kind, with two entries if there are no responses. size: one word, how many bytes.
+ * Rows 2 (only if it is neither kind), 5, 6, 17, 20, 7 to 10, 12. */
+uint64_t fontarelga_write_job(uint64_t kind, uint64_t nets, uint64_t level, uint64_t gate, uint64_t class_,
+                              const uint64_t *vectors, size_t vectors_len, const uint64_t *responses,
+                              size_t responses_len, uint8_t *file, size_t file_len, uint64_t *size);
 
 #ifdef __cplusplus
 }

@@ -1,6 +1,7 @@
 /* Works out what a board of four nets with one receiver each, soft level 1 and gate OR, answers to a test set, writes
- * the job file with both, and reads it back. Prints the response, the file's size, and what was read: nets, level,
- * gate, class and counts, then the vectors and the responses.
+ * the job file with both, and reads it back. The file has the vectors as parallel words; with -DKIND=4 it has them net
+ * by net, as sequential words. Prints the response, the file's size, and what was read: nets, level, gate, class, kind
+ * and counts, then the vectors and the responses.
  *
  * At the repository's root, after `rt staticlib exports`:
  *
@@ -11,6 +12,10 @@
 
 #include <inttypes.h>
 #include <stdio.h>
+
+#ifndef KIND
+#define KIND FONTARELGA_KIND_PARALLEL
+#endif
 
 enum { NETS = 4, LEVEL = 1, GATE = FONTARELGA_GATE_OR, CLASS = 4, VECTORS = 5 };
 
@@ -56,7 +61,7 @@ int main(void)
     }
     if (refusal == 0) {
         print_words("response", response, VECTORS);
-        refusal = fontarelga_write_job(NETS, LEVEL, GATE, CLASS, vectors, VECTORS, response, VECTORS, file,
+        refusal = fontarelga_write_job(KIND, NETS, LEVEL, GATE, CLASS, vectors, VECTORS, response, VECTORS, file,
                                        sizeof file, &size);
     }
     if (refusal == 0) {

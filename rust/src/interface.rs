@@ -105,6 +105,23 @@ mod c {
             second_len: usize,
         ) -> u64;
 
+        pub fn fontarelga_turn(
+            nets: u64,
+            vectors: *const u64,
+            vectors_len: usize,
+            words: *mut u64,
+            words_len: usize,
+        ) -> u64;
+
+        pub fn fontarelga_turn_back(
+            nets: u64,
+            count: u64,
+            words: *const u64,
+            words_len: usize,
+            vectors: *mut u64,
+            vectors_len: usize,
+        ) -> u64;
+
         pub fn fontarelga_read_job(
             file: *const u8,
             file_len: usize,
@@ -116,6 +133,7 @@ mod c {
         ) -> u64;
 
         pub fn fontarelga_write_job(
+            kind: u64,
             nets: u64,
             level: u64,
             gate: u64,
@@ -300,7 +318,18 @@ pub fn to_drive(session: &[u64; RECORD_WORDS], first: &[u64], second: &[u64]) ->
     unsafe { c::fontarelga_to_drive(session.as_ptr(), first.as_ptr(), first.len(), second.as_ptr(), second.len()) }
 }
 
-/// The words into the fronts of `vectors` and `responses`; nets, level, gate, class and the two counts into `job`.
+/// The sequential words, one a net, of parallel ones, into the front of `words`.
+pub fn turn(nets: u64, vectors: &[u64], words: &mut [u64]) -> u64 {
+    unsafe { c::fontarelga_turn(nets, vectors.as_ptr(), vectors.len(), words.as_mut_ptr(), words.len()) }
+}
+
+/// The parallel words, `count` of them, of sequential ones, into the front of `vectors`.
+pub fn turn_back(nets: u64, count: u64, words: &[u64], vectors: &mut [u64]) -> u64 {
+    unsafe { c::fontarelga_turn_back(nets, count, words.as_ptr(), words.len(), vectors.as_mut_ptr(), vectors.len()) }
+}
+
+/// The parallel words into the fronts of `vectors` and `responses`; nets, level, gate, class, kind and the two counts
+/// into `job`.
 pub fn read_job(file: &[u8], vectors: &mut [u64], responses: &mut [u64], job: &mut [u64; JOB_WORDS]) -> u64 {
     unsafe {
         c::fontarelga_read_job(
@@ -315,8 +344,10 @@ pub fn read_job(file: &[u8], vectors: &mut [u64], responses: &mut [u64], job: &m
     }
 }
 
-/// The bytes into the front of `file`, and their number into `size`.
+/// The bytes of a file of this kind into the front of `file`, and their number into `size`. The vectors are parallel
+/// words, whatever the kind.
 pub fn write_job(
+    kind: u64,
     network: impl Into<Network>,
     class: u64,
     vectors: &[u64],
@@ -327,6 +358,7 @@ pub fn write_job(
     let network = network.into();
     unsafe {
         c::fontarelga_write_job(
+            kind,
             network.nets(),
             network.level(),
             network.gate(),

@@ -3,9 +3,12 @@
 //! Safe wrappers over a library that is written and proved in Rattle and linked as a static archive. The words (net,
 //! receiver, soft level, gate, reach, wiring state, test set, class, session) are explained in the repository's README.
 //!
-//! A word has 64 bits; bit i stands for net i, and in responses for receiver i. [`respond`], [`diagnose`], [`findings`]
-//! and [`Session::begin`] take a [`Board`], a network with its receivers, or the network alone, which then has one
-//! receiver a net. [`check`], [`shorten`] and [`Job`] take the network.
+//! A word has 64 bits; bit i stands for net i, and in responses for receiver i. That is a parallel word. A sequential
+//! word belongs to a net, and its bit t stands for vector t; [`turn`] gives these, and [`turn_back`] takes them.
+//!
+//! [`respond`], [`diagnose`], [`findings`] and [`Session::begin`] take a [`Board`], a network with its receivers, or
+//! the network alone, which then has one receiver a net. [`check`], [`shorten`] and [`Job`] take the network, [`turn`]
+//! and [`turn_back`] the number of its nets.
 //!
 //! Each call gives its full result or a [`Refusal`], the number of the first row of the table that holds; a call's rows
 //! are listed with it in the table's order, in which 21 follows 5, and 17 and 20 follow 6. Any numbers, any bytes and
@@ -23,10 +26,11 @@ mod network;
 mod refusal;
 mod session;
 mod sizes;
+mod turning;
 
 pub use board::Board;
 pub use calls::{check, diagnose, findings, respond, shorten, Finding, Kind, Shorter, Verdict};
-pub use job::Job;
+pub use job::{Job, PARALLEL, SEQUENTIAL};
 pub use network::{Network, AND, OR};
 pub use refusal::Refusal;
 pub use session::{Session, Waits};
@@ -34,6 +38,7 @@ pub use sizes::{
     CHECK_STACK_BYTES, FINDING_WORDS, JOB_WORDS, MOST_FILE_BYTES, MOST_FIRST_VECTORS, MOST_NETS, MOST_RECEIVERS,
     MOST_SECOND_VECTORS, MOST_VECTORS, OTHER_STACK_BYTES, RECORD_WORDS, SHORTENED_WORDS, VERDICT_WORDS,
 };
+pub use turning::{turn, turn_back};
 
 /// The calls as the C interface has them, on lists that the caller lends.
 ///
@@ -53,6 +58,6 @@ pub use sizes::{
 pub mod raw {
     pub use crate::interface::{
         begin, check, diagnose, findings, first_answers, own_receivers, read_job, respond, second_answers, shorten,
-        to_drive, write_job,
+        to_drive, turn, turn_back, write_job,
     };
 }

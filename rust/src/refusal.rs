@@ -18,8 +18,14 @@ impl Refusal {
     pub fn words(self) -> &'static str {
         match self.0 {
             1 => "file mark: first 4 bytes missing or different",
-            2 => "file contents: over 2,048 bytes, or count, table, kinds, offsets, lengths or end break the layout",
-            3 => "file bodies: nets body not 4 bytes, or another not a multiple of 8",
+            2 => {
+                "file contents: over 2,048 bytes, or count, table, kinds, offsets, lengths or end break the layout; \
+                 or a kind to write that is neither 2 nor 4"
+            }
+            3 => {
+                "file bodies: nets body not 4 bytes, vectors body of kind 4 not 1 byte more than a multiple of 8, \
+                 or another not a multiple of 8"
+            }
             4 => "session step: the record does not wait for this call, or no accepted calls leave such a record",
             5 => "net count: n below 2 or above 48",
             21 => "receivers: m below n or above 64, a receiver that names no net, or a net that has none",
@@ -29,8 +35,8 @@ impl Refusal {
             }
             17 => "soft level: neither 0 nor 1",
             20 => "gate: neither OR (0) nor AND (1)",
-            7 => "vectors: fewer than 1 or more than 64",
-            8 => "vectors: a bit at or above n",
+            7 => "vectors: fewer than 1 or more than 64, or sequential words that are not n",
+            8 => "vectors: a bit at or above n, or in a sequential word at or above the number of vectors",
             9 => "responses: not as many as vectors",
             10 => "responses: a bit at or above m",
             11 => {

@@ -22,8 +22,8 @@ pub const FINDING_WORDS: usize = 3;
 /// The words of a session record: step, nets, level, gate, number of receivers, the net of each (64), 8 first answers,
 /// 64 reaches, vectors spent.
 pub const RECORD_WORDS: usize = 142;
-/// The words of a job: nets, level, gate, class, number of vectors, number of responses.
-pub const JOB_WORDS: usize = 6;
+/// The words of a job: nets, level, gate, class, kind, number of vectors, number of responses.
+pub const JOB_WORDS: usize = 7;
 
 /// The stack of a thread that is enough for [`check`](crate::check), [`shorten`](crate::shorten) and
 /// [`diagnose`](crate::diagnose).

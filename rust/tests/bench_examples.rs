@@ -46,6 +46,16 @@ fn shorter_sets() {
     assert_eq!(shorten(4, 2, &[0, 1, 2, 4], 0), Err(Refusal(13)));
 }
 
+/// The walking ones of four nets, net by net: after vector 0 each net is driven to 1 on one vector. And the counting
+/// sequence, which gives the nets the numbers 1 to 4, highest digit first.
+#[test]
+fn sets_net_by_net() {
+    assert_eq!(turn(4, &[0, 1, 2, 4, 8]), Ok(vec![2, 4, 8, 16]));
+    assert_eq!(turn_back(4, 5, &[2, 4, 8, 16]), Ok(vec![0, 1, 2, 4, 8]));
+    assert_eq!(turn(4, &[8, 6, 5]), Ok(vec![0b100, 0b010, 0b110, 0b001]));
+    assert_eq!(turn_back(4, 3, &[0b100, 0b010, 0b110, 0b001]), Ok(vec![8, 6, 5]));
+}
+
 /// Class n of two and three nets: vector 0 is wanted with OR at level 1, and not at level 0.
 #[test]
 fn shorter_sets_of_class_n() {
@@ -309,13 +319,19 @@ fn refusals() {
     assert_eq!(check(4, 4, &[16]), Err(Refusal(8)));
     assert_eq!(respond(2, 2, &[0], &[3, 1]), Err(Refusal(11)));
     assert_eq!(findings(2, &[3, 1]), Err(Refusal(11)));
+    assert_eq!([1, 49].map(|nets| turn(nets, &[0])), [Err(Refusal(5)), Err(Refusal(5))]);
+    assert_eq!([turn(4, &[0; 65]), turn(4, &[16])], [Err(Refusal(7)), Err(Refusal(8))]);
+    assert_eq!([1, 49].map(|nets| turn_back(nets, 1, &[0])), [Err(Refusal(5)), Err(Refusal(5))]);
+    assert_eq!([turn_back(4, 5, &[0; 3]), turn_back(4, 5, &[0, 0, 0, 32])], [Err(Refusal(7)), Err(Refusal(8))]);
+    let job = Job { network: Network::new(4), class: 4, kind: 3, vectors: vec![0], responses: vec![] };
+    assert_eq!(job.write(), Err(Refusal(2)));
 }
 
 /// Every call that takes a network, on two nets with this level and gate.
-fn calls_on(level: u64, gate: u64) -> [Result<(), Refusal>; 7] {
+fn calls_on(level: u64, gate: u64) -> [Result<(), Refusal>; 8] {
     let (network, vectors, state) = (Network::new(2).with_level(level).with_gate(gate), vec![0, 1, 2, 3], [1, 2]);
     assert_eq!((network.nets(), network.level(), network.gate()), (2, level, gate));
-    let job = Job { network, class: 2, vectors: vectors.clone(), responses: vec![] };
+    let job = |kind: u64| Job { network, class: 2, kind, vectors: vectors.clone(), responses: vec![] };
     [
         check(network, 2, &vectors).map(drop),
         shorten(network, 2, &vectors, 4).map(drop),
@@ -323,7 +339,8 @@ fn calls_on(level: u64, gate: u64) -> [Result<(), Refusal>; 7] {
         diagnose(network, 2, &vectors, &vectors).map(drop),
         findings(network, &state).map(drop),
         Session::begin(network).map(drop),
-        job.write().map(drop),
+        job(PARALLEL).write().map(drop),
+        job(SEQUENTIAL).write().map(drop),
     ]
 }
 
@@ -337,7 +354,7 @@ fn levels_and_gates() {
                 (0 | 1, _) => Err(Refusal(20)),
                 _ => Err(Refusal(17)),
             };
-            assert_eq!(calls_on(level, gate), [answer; 7], "level {level}, gate {gate}");
+            assert_eq!(calls_on(level, gate), [answer; 8], "level {level}, gate {gate}");
         }
     }
 }
@@ -371,10 +388,12 @@ fn job_of_the_listing() {
     ];
     for (network, vectors, responses, nets) in jobs {
         assert_eq!(diagnose(network, 4, &vectors, &responses), Ok(vec![3, 3, 0, 8]));
-        let job = Job { network, class: 4, vectors: vectors.to_vec(), responses: responses.to_vec() };
-        let file = job.write().unwrap();
-        assert_eq!((&file[..5], &file[32..36], file.len()), (&b"BSJ3\x03"[..], &nets[..], 116));
-        assert_eq!(Job::read(&file), Ok(job));
+        for (kind, size) in [(PARALLEL, 116), (SEQUENTIAL, 109)] {
+            let job = Job { network, class: 4, kind, vectors: vectors.to_vec(), responses: responses.to_vec() };
+            let file = job.write().unwrap();
+            assert_eq!((&file[..5], &file[32..36], file.len()), (&b"BSJ3\x03"[..], &nets[..], size));
+            assert_eq!(Job::read(&file), Ok(job));
+        }
     }
 }
 

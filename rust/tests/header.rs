@@ -45,7 +45,7 @@ fn functions() {
         of_interface.push((name, parameters.into_iter().map(String::from).collect::<Vec<_>>()));
     }
     assert_eq!(of_header, of_interface);
-    assert_eq!(of_header.len(), 12);
+    assert_eq!(of_header.len(), 14);
 }
 
 /// The number that the header gives to a name, which stands after `FONTARELGA_`.
@@ -80,6 +80,12 @@ fn sizes() {
 #[test]
 fn gates() {
     assert_eq!([stated("GATE_OR"), stated("GATE_AND")], [OR, AND].map(|gate| gate as usize));
+}
+
+#[test]
+fn kinds() {
+    let kinds = [stated("KIND_PARALLEL"), stated("KIND_SEQUENTIAL")];
+    assert_eq!(kinds, [PARALLEL, SEQUENTIAL].map(|kind| kind as usize));
 }
 
 #[test]
@@ -147,10 +153,12 @@ fn session() {
 #[test]
 fn job() {
     let network = Network::new(4).with_level(0).with_gate(AND);
-    let written = Job { network, class: 3, vectors: vec![0, 1], responses: vec![] };
-    let (mut vectors, mut responses, mut job) = ([0; 2], [0; 0], [9; JOB_WORDS]);
-    assert_eq!(raw::read_job(&written.write().unwrap(), &mut vectors, &mut responses, &mut job), 0);
-    let word = |name: &str| job[stated(name)];
-    assert_eq!(["JOB_NETS", "JOB_LEVEL", "JOB_GATE", "JOB_CLASS"].map(word), [4, 0, 1, 3]);
-    assert_eq!(["JOB_VECTORS", "JOB_RESPONSES"].map(word), [2, 0]);
+    for kind in [PARALLEL, SEQUENTIAL] {
+        let written = Job { network, class: 3, kind, vectors: vec![0, 1], responses: vec![] };
+        let (mut vectors, mut responses, mut job) = ([0; 2], [0; 0], [9; JOB_WORDS]);
+        assert_eq!(raw::read_job(&written.write().unwrap(), &mut vectors, &mut responses, &mut job), 0);
+        let word = |name: &str| job[stated(name)];
+        assert_eq!(["JOB_NETS", "JOB_LEVEL", "JOB_GATE", "JOB_CLASS"].map(word), [4, 0, 1, 3]);
+        assert_eq!(["JOB_KIND", "JOB_VECTORS", "JOB_RESPONSES"].map(word), [kind, 2, 0]);
+    }
 }

@@ -1,51 +1,46 @@
-//! Job files: written and read back, damaged in every byte, cut at every length, and with sums past 2^32.
+//! Job files of either kind: written and read back, damaged in every byte, cut at every length, and with sums past
+//! 2^32. What is special to sequential words is in the tests of archive files.
 
 mod support;
 
 use model::jobfile::{bytes_of, laid_out};
-use model::{read_job, write_job, Job, Network, AND, OR};
+use model::{write_job, Job, Network, AND, OR, PARALLEL};
 use support::boards::{low_bits, state};
 use support::calls::*;
 use support::generator::Generator;
+use support::jobs::*;
 use support::networks::{each_combination, of_library, whole_walking_set};
 
-/// Reads with lists long enough for any job, and compares.
-fn read_agrees(file: &[u8]) -> Result<Job, u64> {
-    let answer = read_job(file, 70, 70);
-    read_job_gives(file, 70, 70, &answer);
-    answer
+/// A job of parallel words.
+fn parallel_job(network: Network, k: u64, vectors: &[u64], responses: &[u64]) -> Job {
+    Job { kind: PARALLEL, network, k, vectors: vectors.to_vec(), responses: responses.to_vec() }
 }
 
-fn small_files() -> [Vec<u8>; 4] {
+fn small_jobs() -> [Job; 4] {
     [
-        bytes_of(Network { nets: 4, level: 1, gate: OR }, 4, &[0, 1, 2, 4, 8], &[4, 7, 7, 4, 12]),
-        bytes_of(Network { nets: 2, level: 0, gate: OR }, 1, &[1, 3], &[]),
-        bytes_of(Network { nets: 48, level: 0, gate: AND }, 3, &[1 << 47], &[(1 << 48) - 1]),
-        bytes_of(Network { nets: 3, level: 1, gate: AND }, 3, &[6, 5, 3], &[7, 4, 4]),
+        parallel_job(Network { nets: 4, level: 1, gate: OR }, 4, &[0, 1, 2, 4, 8], &[4, 7, 7, 4, 12]),
+        parallel_job(Network { nets: 2, level: 0, gate: OR }, 1, &[1, 3], &[]),
+        parallel_job(Network { nets: 48, level: 0, gate: AND }, 3, &[1 << 47], &[(1 << 48) - 1]),
+        parallel_job(Network { nets: 3, level: 1, gate: AND }, 3, &[6, 5, 3], &[7, 4, 4]),
     ]
 }
 
-/// A job that is admitted: any words below 2^n, with responses or without.
-fn random_job(g: &mut Generator) -> Job {
-    let n = 2 + g.below(47) as u64;
-    let classes = if n <= 10 { (1..=n).collect() } else { vec![1, 2, 3, n] };
-    let count = 1 + g.below(64);
-    let words = |g: &mut Generator| (0..count).map(|_| g.word() & low_bits(n)).collect::<Vec<u64>>();
-    let vectors = words(g);
-    let responses = if g.once_in(3) { vec![] } else { words(g) };
-    Job { network: *g.pick(&each_combination(n)), k: *g.pick(&classes), vectors, responses }
+/// Their files of either kind.
+fn small_files() -> Vec<Vec<u8>> {
+    let of_each_kind = |job: &Job| KINDS.map(|kind| bytes_of(&of_kind(kind, job)));
+    small_jobs().iter().flat_map(of_each_kind).collect()
 }
 
 #[test]
 fn written_files_are_read_back() {
     let g = &mut Generator::new(7);
-    for _ in 0..2000 {
-        let job = random_job(g);
-        let file = bytes_of(job.network, job.k, &job.vectors, &job.responses);
+    for kind in KINDS.repeat(2000) {
+        let job = random_job(g, kind);
+        let file = bytes_of(&job);
         let longer = g.below(3);
-        write_job_gives(job.network, job.k, &job.vectors, &job.responses, file.len() + longer, &Ok(file.clone()));
+        write_job_gives(&job, file.len() + longer, &Ok(file.clone()));
         read_job_gives(&file, job.vectors.len() + longer, job.responses.len() + longer, &Ok(job.clone()));
-        write_job_gives(job.network, job.k, &job.vectors, &job.responses, file.len() - 1, &Err(12));
+        write_job_gives(&job, file.len() - 1, &Err(12));
         read_job_gives(&file, job.vectors.len() - 1, 64, &Err(12));
         if !job.responses.is_empty() {
             read_job_gives(&file, 64, job.responses.len() - 1, &Err(12));
@@ -67,11 +62,12 @@ fn jobs_that_are_seldom_admitted() {
         let responses: Vec<u64> = (0..*g.pick(&[0, count, count, count + 1])).map(|_| g.word() & bits).collect();
         let room = *g.pick(&[0, 20, 30, 100, 1059, 1060, 2048]);
         let zero_or_one = [0, 0, 0, 1, 1, 1, 2, u64::MAX];
-        let net = Network { nets: n, level: *g.pick(&zero_or_one), gate: *g.pick(&zero_or_one) };
-        let answer = write_job(net, k, &vectors, &responses, room);
+        let network = Network { nets: n, level: *g.pick(&zero_or_one), gate: *g.pick(&zero_or_one) };
+        let job = Job { kind: *g.pick(&[2, 4, 2, 4, 2, 4, 3]), network, k, vectors, responses };
+        let answer = write_job(&job, room);
         refused += usize::from(answer.is_err());
-        write_job_gives(net, k, &vectors, &responses, room, &answer);
-        let _ = read_agrees(&bytes_of(net, k, &vectors, &responses));
+        write_job_gives(&job, room, &answer);
+        let _ = read_agrees(&bytes_of(&job));
     }
     assert!((1..20_000).contains(&refused));
 }
@@ -125,20 +121,20 @@ fn cut_and_lengthened() {
 fn bodies_of_every_length() {
     for nets in (0..=6).map(|length| [2, 2, 1, 0, 0, 0][..length].to_vec()) {
         for vectors in 0..20 {
-            let _ = read_agrees(&laid_out(&[nets.clone(), vec![1; vectors]]));
+            let _ = read_agrees(&laid_out(PARALLEL, &[nets.clone(), vec![1; vectors]]));
             for responses in 0..20 {
-                let _ = read_agrees(&laid_out(&[nets.clone(), vec![0; vectors], vec![0; responses]]));
+                let _ = read_agrees(&laid_out(PARALLEL, &[nets.clone(), vec![0; vectors], vec![0; responses]]));
             }
         }
     }
-    assert_eq!(read_agrees(&laid_out(&[vec![2, 2, 1, 0], vec![0; 8], vec![]])), Err(9));
-    assert_eq!(read_agrees(&laid_out(&[vec![2, 2, 1, 0]])), Err(2));
-    assert_eq!(read_agrees(&laid_out(&[vec![2, 2, 1, 0], vec![0; 8], vec![0; 8], vec![]])), Err(2));
+    assert_eq!(read_agrees(&laid_out(PARALLEL, &[vec![2, 2, 1, 0], vec![0; 8], vec![]])), Err(9));
+    assert_eq!(read_agrees(&laid_out(PARALLEL, &[vec![2, 2, 1, 0]])), Err(2));
+    assert_eq!(read_agrees(&laid_out(PARALLEL, &[vec![2, 2, 1, 0], vec![0; 8], vec![0; 8], vec![]])), Err(2));
 }
 
 /// The network that a file with this nets body gives. Its one vector has this in every byte.
 fn network_read(nets: &[u8], byte: u8) -> Result<Network, u64> {
-    read_agrees(&laid_out(&[nets.to_vec(), vec![byte; 8]])).map(|job| job.network)
+    read_agrees(&laid_out(PARALLEL, &[nets.to_vec(), vec![byte; 8]])).map(|job| job.network)
 }
 
 /// The nets body: its length, then its level and its gate, and what comes before and after those.
@@ -163,47 +159,37 @@ fn nets_bodies() {
 #[test]
 fn files_of_older_marks() {
     for (mark, nets) in [(b"BSJ1", vec![2, 2]), (b"BSJ2", vec![2, 2, 1])] {
-        let older = laid_out(&[nets, vec![0; 8]]);
+        let older = laid_out(PARALLEL, &[nets, vec![0; 8]]);
         assert_eq!(read_agrees(&older), Err(3));
         assert_eq!(read_agrees(&[mark, &older[4..]].concat()), Err(1));
-        assert_eq!(small_files().map(|file| read_agrees(&[mark, &file[4..]].concat())), [1; 4].map(Err));
+        small_files().iter().for_each(|file| assert_eq!(read_agrees(&[mark, &file[4..]].concat()), Err(1)));
     }
 }
 
 #[test]
 fn files_of_about_2048_bytes() {
-    let with_total = |total: usize| laid_out(&[vec![2, 2, 1, 0], vec![0; total - 27]]);
+    let with_total = |total: usize| laid_out(PARALLEL, &[vec![2, 2, 1, 0], vec![0; total - 27]]);
     assert_eq!(read_agrees(&with_total(2043)), Err(7));
     assert_eq!(read_agrees(&with_total(2048)), Err(3));
     assert_eq!(read_agrees(&with_total(2049)), Err(2));
     assert_eq!(read_agrees(&with_total(2050)), Err(2));
     // Whole words and 2,048 bytes: only a nets body of another length leaves that.
-    assert_eq!(read_agrees(&laid_out(&[vec![2; 9], vec![0; 2016]])), Err(3));
+    assert_eq!(read_agrees(&laid_out(PARALLEL, &[vec![2; 9], vec![0; 2016]])), Err(3));
     assert_eq!(read_agrees(&[b"BSJ2", &with_total(2049)[4..]].concat()), Err(1));
     assert_eq!(read_agrees(&vec![b'B'; 5000]), Err(1));
     for net in each_combination(48) {
-        let full = bytes_of(net, 48, &[1; 64], &[2; 64]);
-        assert_eq!((full.len(), read_agrees(&full).is_ok()), (1060, true));
+        let job = parallel_job(net, 48, &[1; 64], &[2; 64]);
+        let [parallel, sequential] = KINDS.map(|kind| bytes_of(&of_kind(kind, &job)));
+        assert_eq!((parallel.len(), read_agrees(&parallel).is_ok()), (1060, true));
+        assert_eq!((sequential.len(), read_agrees(&sequential).is_ok()), (933, true));
     }
-}
-
-/// Puts a number into entry `entry` of the table: its offset (field 0) or its length (field 1).
-fn put(file: &mut [u8], entry: usize, field: usize, number: u32) {
-    let place = 5 + 9 * entry + 1 + 4 * field;
-    file[place..place + 4].copy_from_slice(&number.to_le_bytes());
-}
-
-fn taken(file: &[u8], entry: usize, field: usize) -> u32 {
-    let place = 5 + 9 * entry + 1 + 4 * field;
-    u32::from_le_bytes(file[place..place + 4].try_into().unwrap())
 }
 
 /// A body longer by `more` than it is and the next one shorter, all modulo 2^32: where the next one is not so long, the
 /// sums go past 2^32, and come back to the right places if they wrap.
 #[test]
 fn sums_past_2_to_the_32() {
-    let file = &small_files()[0];
-    for entry in 0..2 {
+    for (file, entry) in small_files()[..2].iter().flat_map(|file| [(file, 0), (file, 1)]) {
         for more in [8, 16, 40, 41, 48, 100, 1 << 31, u32::MAX - 99] {
             let next = taken(file, entry + 1, 1);
             let mut moved = file.clone();
@@ -218,8 +204,7 @@ fn sums_past_2_to_the_32() {
 
 #[test]
 fn offsets_and_lengths_near_the_ends_of_their_range() {
-    let file = &small_files()[0];
-    for entry in 0..3 {
+    for (file, entry) in small_files()[..2].iter().flat_map(|file| [(file, 0), (file, 1), (file, 2)]) {
         for field in 0..2 {
             for number in [0, 1, u32::MAX, u32::MAX - 7, u32::MAX - 40, 1 << 31, 0xFFFF, 0x1_0000] {
                 let mut changed = file.clone();
@@ -248,11 +233,11 @@ fn any_bytes() {
 #[test]
 fn a_board_goes_through_a_file() {
     let g = &mut Generator::new(11);
-    for case in 0..100 {
-        let net = each_combination(48)[case % 4];
+    for case in 0..200 {
+        let (net, kind) = (each_combination(48)[case % 4], KINDS[case % 8 / 4]);
         let (network, vectors, board) = (of_library(net), whole_walking_set(net), state(g, &net.into(), 48));
         let responses = fontarelga::respond(network, 48, &vectors, &board).unwrap();
-        let job = fontarelga::Job { network, class: 48, vectors, responses };
+        let job = fontarelga::Job { network, class: 48, kind, vectors, responses };
         let read = fontarelga::Job::read(&job.write().unwrap()).unwrap();
         assert_eq!(read, job);
         assert_eq!(fontarelga::diagnose(read.network, 48, &read.vectors, &read.responses), Ok(board));

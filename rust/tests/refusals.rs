@@ -14,7 +14,9 @@ use model::jobfile::{laid_out, reader_rows_holding, rows_of_write_job};
 use model::responding::{respond, rows_of_respond};
 use model::session::{rows_of_begin, rows_of_first_answers, rows_of_second_answers};
 use model::shortening::rows_of_shorten;
-use model::{check, diagnose, findings, read_job, shorten, write_job, Board, Network, Record, AND, OR};
+use model::turning::{rows_of_turn, rows_of_turn_back, sequential_words};
+use model::{check, diagnose, findings, read_job, shorten, turn, turn_back, write_job};
+use model::{Board, Job, Network, Record, AND, OR, PARALLEL, SEQUENTIAL};
 use std::collections::BTreeSet;
 use support::calls::*;
 use support::networks::each_combination;
@@ -94,9 +96,10 @@ fn by_rows<T>(answer: Result<T, u64>, first: Option<u64>) -> Result<T, u64> {
     answer
 }
 
-/// What the calls on test sets take and are lent.
+/// What the calls on test sets take and are lent. The kind is for the writer.
 #[derive(Clone)]
 struct Set {
+    kind: u64,
     board: Board,
     k: u64,
     vectors: Vec<u64>,
@@ -109,7 +112,7 @@ struct Set {
 fn accepted_sets(room: usize) -> Vec<Set> {
     let accepted = |net: Network| {
         let (vectors, responses) = tied_and_floating(net);
-        Set { board: net.into(), k: 3, vectors, responses, state: vec![3, 3, 0], room }
+        Set { kind: PARALLEL, board: net.into(), k: 3, vectors, responses, state: vec![3, 3, 0], room }
     };
     each_combination(3).map(accepted).to_vec()
 }
@@ -170,15 +173,21 @@ fn level_and_gate_ways() -> Vec<Way<Set>> {
     ]
 }
 
-/// Ways for rows 5, 6, 17, 20, 7 and 8.
-fn set_ways() -> Vec<Way<Set>> {
-    let others: Vec<Way<Set>> = vec![
+/// Ways for row 6.
+fn class_ways() -> Vec<Way<Set>> {
+    vec![
         (6, |i| i.k = 0),
         (6, |i| i.k = 4),
         (6, |i| i.k = 49),
         (6, |i| i.k = u64::MAX),
         (6, |i| (i.board.network.nets, i.k) = (2, 3)),
         (6, |i| (i.board, i.k) = (Network { nets: 11, ..i.board.network }.into(), 4)),
+    ]
+}
+
+/// Ways for rows 7 and 8.
+fn vector_ways() -> Vec<Way<Set>> {
+    vec![
         (7, |i| (i.vectors, i.responses) = (vec![], vec![])),
         (7, |i| {
             i.vectors.resize(65, 0);
@@ -187,8 +196,12 @@ fn set_ways() -> Vec<Way<Set>> {
         (8, |i| i.vectors.iter_mut().for_each(|word| *word |= 8)),
         (8, |i| i.vectors.iter_mut().for_each(|word| *word |= HIGH)),
         (8, |i| *i.vectors.last_mut().unwrap_or(&mut 0) |= HIGH),
-    ];
-    [net_count_ways(), level_and_gate_ways(), others].concat()
+    ]
+}
+
+/// Ways for rows 5, 6, 17, 20, 7 and 8.
+fn set_ways() -> Vec<Way<Set>> {
+    [net_count_ways(), class_ways(), level_and_gate_ways(), vector_ways()].concat()
 }
 
 /// Ways for rows 9 and 10. The lowest bit that is too high is that of the number of receivers.
@@ -234,6 +247,61 @@ fn own_receivers_of_a_network() {
         |i, first| {
             let n = i.board.network.nets;
             own_receivers_gives(n, i.room, &by_rows(own_receivers(n, i.room), first))
+        },
+    );
+}
+
+#[test]
+fn turning() {
+    let room: Vec<Way<Set>> = vec![(12, |i| i.room = 2), (12, |i| i.room = 0)];
+    let ways = [net_count_ways(), vector_ways(), room].concat();
+    let table = Table { rows: &[5, 7, 8, 12], accepted: accepted_sets(3), ways };
+    table.try_all(
+        |i| rows_of_turn(i.board.network.nets, &i.vectors, i.room).holding(),
+        |i, first| {
+            let n = i.board.network.nets;
+            turn_gives(n, &i.vectors, i.room, &by_rows(turn(n, &i.vectors, i.room), first))
+        },
+    );
+}
+
+/// What *turn back* takes and is lent.
+#[derive(Clone)]
+struct Turned {
+    n: u64,
+    count: u64,
+    words: Vec<u64>,
+    room: usize,
+}
+
+#[test]
+fn turning_back() {
+    let ways: Vec<Way<Turned>> = vec![
+        (5, |i| i.n = 0),
+        (5, |i| i.n = 1),
+        (5, |i| i.n = 49),
+        (5, |i| i.n = u64::MAX),
+        (7, |i| i.count = 0),
+        (7, |i| i.count = 65),
+        (7, |i| i.count = 256 + 4),
+        (7, |i| i.count = u64::MAX),
+        (7, |i| i.words.truncate(2)),
+        (7, |i| i.words.clear()),
+        (7, |i| i.words.push(1)),
+        (7, |i| i.words.resize(65, 1)),
+        (8, |i| i.words.iter_mut().for_each(|word| *word |= 16)),
+        (8, |i| *i.words.last_mut().unwrap_or(&mut 0) |= HIGH),
+        (8, |i| *i.words.first_mut().unwrap_or(&mut 0) |= HIGH),
+        (12, |i| i.room = 3),
+        (12, |i| i.room = 0),
+    ];
+    let accepted = vec![Turned { n: 3, count: 4, words: vec![2, 4, 8], room: 4 }];
+    let table = Table { rows: &[5, 7, 8, 12], accepted, ways };
+    table.try_all(
+        |i| rows_of_turn_back(i.n, i.count, &i.words, i.room).holding(),
+        |i, first| {
+            let answer = by_rows(turn_back(i.n, i.count, &i.words, i.room), first);
+            turn_back_gives(i.n, i.count, &i.words, i.room, &answer)
         },
     );
 }
@@ -344,22 +412,36 @@ fn findings_of_a_state() {
     );
 }
 
-/// Room of the writer's file is in bytes; the accepted job needs 100 of them.
+impl Set {
+    fn job(&self) -> Job {
+        let Set { kind, board, k, vectors, responses, .. } = self.clone();
+        Job { kind, network: board.network, k, vectors, responses }
+    }
+}
+
+/// Room of the writer's file is in bytes. With parallel words the accepted job needs 100 of them, with sequential ones
+/// 93.
 #[test]
 fn job_writer() {
-    let room: Vec<Way<Set>> = vec![(12, |i| i.room = 99), (12, |i| i.room = 0)];
+    let own: Vec<Way<Set>> = vec![
+        (2, |i| i.kind = 0),
+        (2, |i| i.kind = 3),
+        (2, |i| i.kind = 5),
+        (2, |i| i.kind = 256 + 2),
+        (2, |i| i.kind = (1 << 32) + 4),
+        (2, |i| i.kind = u64::MAX),
+        (12, |i| i.room = i.room.saturating_sub(1)),
+        (12, |i| i.room = 0),
+    ];
+    let with_kind = |kind: u64, room: usize| accepted_sets(room).into_iter().map(move |set| Set { kind, ..set });
     let table = Table {
-        rows: &[5, 6, 17, 20, 7, 8, 9, 10, 12],
-        accepted: accepted_sets(100),
-        ways: [set_ways(), response_ways(), room].concat(),
+        rows: &[2, 5, 6, 17, 20, 7, 8, 9, 10, 12],
+        accepted: with_kind(PARALLEL, 100).chain(with_kind(SEQUENTIAL, 93)).collect(),
+        ways: [set_ways(), response_ways(), own].concat(),
     };
     table.try_all(
-        |i| rows_of_write_job(i.board.network, i.k, &i.vectors, &i.responses, i.room).holding(),
-        |i, first| {
-            let net = i.board.network;
-            let answer = by_rows(write_job(net, i.k, &i.vectors, &i.responses, i.room), first);
-            write_job_gives(net, i.k, &i.vectors, &i.responses, i.room, &answer)
-        },
+        |i| rows_of_write_job(&i.job(), i.room).holding(),
+        |i, first| write_job_gives(&i.job(), i.room, &by_rows(write_job(&i.job(), i.room), first)),
     );
 }
 
@@ -368,6 +450,7 @@ fn job_writer() {
 struct Parts {
     mark: Vec<u8>,
     nets: Vec<u8>,
+    kind: u64,
     vectors: Vec<u8>,
     responses: Vec<u8>,
     /// Put in place of the number of entries, and after the end.
@@ -378,7 +461,7 @@ struct Parts {
 
 impl Parts {
     fn file(&self) -> Vec<u8> {
-        let mut file = laid_out(&[self.nets.clone(), self.vectors.clone(), self.responses.clone()]);
+        let mut file = laid_out(self.kind, &[self.nets.clone(), self.vectors.clone(), self.responses.clone()]);
         file.splice(..4, self.mark.clone());
         if let Some(count) = self.count {
             file[self.mark.len()] = count;
@@ -392,13 +475,18 @@ fn words(list: &[u64]) -> Vec<u8> {
     list.iter().flat_map(|word| word.to_le_bytes()).collect()
 }
 
-fn accepted_parts() -> Vec<Parts> {
+fn accepted_parts(kind: u64) -> Vec<Parts> {
     let accepted = |net: Network| {
         let (vectors, responses) = tied_and_floating(net);
+        let vectors = match kind {
+            SEQUENTIAL => [vec![4], words(&sequential_words(3, &vectors))].concat(),
+            _ => words(&vectors),
+        };
         Parts {
             mark: b"BSJ3".to_vec(),
             nets: vec![3, 3, net.level as u8, net.gate as u8],
-            vectors: words(&vectors),
+            kind,
+            vectors,
             responses: words(&responses),
             count: None,
             rest: vec![],
@@ -416,6 +504,9 @@ fn layout_ways() -> Vec<Way<Parts>> {
         (1, |i| i.mark = b"bSJ3".to_vec()),
         (2, |i| i.count = Some(2)),
         (2, |i| i.count = Some(4)),
+        (2, |i| i.kind = 0),
+        (2, |i| i.kind = 3),
+        (2, |i| i.kind = 5),
         (2, |i| i.rest.push(0)),
         // Right layout, but over 2,048 bytes: rows on what the file says can hold too.
         (2, |i| i.responses.extend([0; 2048])),
@@ -428,7 +519,7 @@ fn layout_ways() -> Vec<Way<Parts>> {
     ]
 }
 
-/// Ways for the rows on what a job file says, and on the room of the lists.
+/// Ways for the rows on what a job file says, but for 7 and 8, and on the room of the lists.
 fn content_ways() -> Vec<Way<Parts>> {
     vec![
         (5, |i| i.nets[0] = 0),
@@ -442,10 +533,6 @@ fn content_ways() -> Vec<Way<Parts>> {
         (17, |i| *i.nets.get_mut(2).unwrap_or(&mut 0) = 255),
         (20, |i| *i.nets.get_mut(3).unwrap_or(&mut 0) = 2),
         (20, |i| *i.nets.get_mut(3).unwrap_or(&mut 0) = 255),
-        (7, |i| i.vectors.clear()),
-        (7, |i| i.vectors.resize(65 * 8, 0)),
-        (8, |i| *i.vectors.get_mut(0).unwrap_or(&mut 0) |= 8),
-        (8, |i| *i.vectors.get_mut(7).unwrap_or(&mut 0) |= 128),
         (9, |i| i.responses.truncate(8)),
         (9, |i| i.responses.extend([0; 8])),
         (9, |i| i.responses.clear()),
@@ -457,12 +544,40 @@ fn content_ways() -> Vec<Way<Parts>> {
     ]
 }
 
-#[test]
-fn job_reader() {
+/// Ways for rows 7 and 8 with parallel words.
+fn parallel_ways() -> Vec<Way<Parts>> {
+    vec![
+        (7, |i| i.vectors.clear()),
+        (7, |i| i.vectors.resize(65 * 8, 0)),
+        (8, |i| *i.vectors.get_mut(0).unwrap_or(&mut 0) |= 8),
+        (8, |i| *i.vectors.get_mut(7).unwrap_or(&mut 0) |= 128),
+    ]
+}
+
+/// Ways for rows 3, 7, 8 and 9 with a count of vectors and sequential words. The count is 4, and there are three words.
+fn sequential_ways() -> Vec<Way<Parts>> {
+    vec![
+        (3, |i| i.vectors.clear()),
+        (3, |i| i.vectors.truncate(24)),
+        (3, |i| i.vectors.truncate(8)),
+        (7, |i| *i.vectors.get_mut(0).unwrap_or(&mut 0) = 0),
+        (7, |i| *i.vectors.get_mut(0).unwrap_or(&mut 0) = 65),
+        (7, |i| *i.vectors.get_mut(0).unwrap_or(&mut 0) = 255),
+        (7, |i| i.vectors.truncate(1)),
+        (7, |i| i.vectors.truncate(17)),
+        (7, |i| i.vectors.extend([0; 8])),
+        (7, |i| i.vectors.resize(1 + 65 * 8, 0)),
+        (8, |i| *i.vectors.get_mut(1).unwrap_or(&mut 0) |= 16),
+        (8, |i| *i.vectors.get_mut(8).unwrap_or(&mut 0) |= 128),
+        (9, |i| *i.vectors.get_mut(0).unwrap_or(&mut 0) ^= 1),
+    ]
+}
+
+fn try_reader(kind: u64, ways: Vec<Way<Parts>>) {
     let table = Table {
         rows: &[1, 2, 3, 5, 6, 17, 20, 7, 8, 9, 10, 12],
-        accepted: accepted_parts(),
-        ways: [layout_ways(), content_ways()].concat(),
+        accepted: accepted_parts(kind),
+        ways: [layout_ways(), content_ways(), ways].concat(),
     };
     table.try_all(
         |i| reader_rows_holding(&i.file(), i.rooms.0, i.rooms.1),
@@ -471,6 +586,16 @@ fn job_reader() {
             read_job_gives(&file, rooms.0, rooms.1, &by_rows(read_job(&file, rooms.0, rooms.1), first))
         },
     );
+}
+
+#[test]
+fn job_reader() {
+    try_reader(PARALLEL, parallel_ways());
+}
+
+#[test]
+fn job_reader_with_sequential_words() {
+    try_reader(SEQUENTIAL, sequential_ways());
 }
 
 /// What a session call takes and is lent.

@@ -11,6 +11,7 @@ use model::{Board, Job, Network, Verdict};
 use support::boards::*;
 use support::calls::*;
 use support::generator::Generator;
+use support::jobs::{read_agrees, KINDS};
 use support::networks::{each_combination, extra_at_some_level, of_library, whole_walking_set};
 
 /// Every n from 5 to 10 with every class from 4 to n - 1.
@@ -39,10 +40,10 @@ fn try_class(net: Network, k: u64) -> bool {
         respond_gives(&board, k, &vectors, &state, v, &model::respond(&board, k, &vectors, &state, v));
         diagnose_gives(&board, k, &vectors, &answers, m, &model::diagnose(&board, k, &vectors, &answers, m));
     }
-    for responses in [&[][..], &vectors] {
-        write_job_gives(net, k, &vectors, responses, 2048, &model::write_job(net, k, &vectors, responses, 2048));
-        let file = bytes_of(net, k, &vectors, responses);
-        read_job_gives(&file, 64, 64, &model::read_job(&file, 64, 64));
+    for (kind, responses) in KINDS.into_iter().flat_map(|kind| [(kind, vec![]), (kind, vectors.clone())]) {
+        let job = Job { kind, network: net, k, vectors: vectors.clone(), responses };
+        write_job_gives(&job, 2048, &model::write_job(&job, 2048));
+        let _ = read_agrees(&bytes_of(&job));
     }
     assert!(checked.is_err() || checked == Ok(Verdict::Pass));
     checked != Err(6)
@@ -268,11 +269,12 @@ fn job_files() {
         for network in each_combination(n) {
             let (vectors, board_state) = (walking_set(g, network), state(g, &network.into(), k));
             let responses = response(network, &vectors, &board_state);
-            let file = bytes_of(network, k, &vectors, &responses);
-            write_job_gives(network, k, &vectors, &responses, file.len(), &Ok(file.clone()));
-            read_job_gives(&file, 64, 64, &Ok(Job { network, k, vectors, responses }));
+            let job = Job { kind: *g.pick(&KINDS), network, k, vectors, responses };
+            let file = bytes_of(&job);
+            write_job_gives(&job, file.len(), &Ok(file.clone()));
+            read_job_gives(&file, 64, 64, &Ok(job.clone()));
             let read = fontarelga::Job::read(&file).unwrap();
-            assert_eq!((read.network, read.class), (of_library(network), k));
+            assert_eq!((read.network, read.class, read.kind), (of_library(network), k, job.kind));
             assert_eq!(read.write(), Ok(file));
             assert_eq!(fontarelga::diagnose(read.network, k, &read.vectors, &read.responses), Ok(board_state));
         }

@@ -145,10 +145,22 @@ fn own_receivers() {
 }
 
 #[test]
-fn job_file() {
+fn turning() {
     for net in each_combination(N) {
+        let vectors = largest_set(&mut Generator::new(18), net);
+        let words = on_a_stack_of(OTHER_STACK_BYTES, || turn(N, &vectors)).unwrap();
+        let back = on_a_stack_of(OTHER_STACK_BYTES, || turn_back(N, MOST_VECTORS as u64, &words));
+        assert_eq!(back, Ok(vectors));
+    }
+    let full = on_a_stack_of(OTHER_STACK_BYTES, || turn(N, &[u64::MAX >> 16; MOST_VECTORS]));
+    assert_eq!(full, Ok(vec![u64::MAX; MOST_NETS]));
+}
+
+#[test]
+fn job_file() {
+    for (net, kind) in each_combination(N).into_iter().flat_map(|net| [(net, PARALLEL), (net, SEQUENTIAL)]) {
         let vectors = largest_set(&mut Generator::new(17), net);
-        let job = Job { network: of_library(net), class: N, responses: vectors.clone(), vectors };
+        let job = Job { network: of_library(net), class: N, kind, responses: vectors.clone(), vectors };
         let file = on_a_stack_of(OTHER_STACK_BYTES, || job.write()).unwrap();
         assert_eq!(on_a_stack_of(OTHER_STACK_BYTES, || Job::read(&file)), Ok(job));
     }

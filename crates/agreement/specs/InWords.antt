@@ -23,9 +23,10 @@ rest-of (a ∷ b ∷ c ∷ words) = rest-of words
 abbrev pub returned-shorter-words : Shortened → List ℕ
 returned-shorter-words counts = counts .kept ∷ counts .checks ∷ counts .floor ∷ []
 
--- what the reader returns: nets, level, gate, class, number of vectors, number of responses
+-- what the reader returns: nets, level, gate, class, kind, number of vectors, number of responses
 abbrev pub returned-job-words : Job → List ℕ
-returned-job-words job = job .network .nets ∷ job .network .level ∷ job .network .gate ∷ job .class ∷ job .vectors ∷ job .responses ∷ []
+returned-job-words job = job .network .nets ∷ job .network .level ∷ job .network .gate ∷ job .class ∷ job .kind ∷ job .vectors
+    ∷ job .responses ∷ []
 
 -- what the writer returns: how many bytes it wrote
 abbrev pub returned-size-words : ℕ → List ℕ

@@ -6,6 +6,7 @@ ghost use Prim.Native.Nat.{_≤_};
 ghost use lib.ListN.{length, replicate};
 ghost use Rattle.words.specs.Answers.{full, «lent-after»};
 ghost use Rattle.network.specs.Respond as Respond;
+ghost use Rattle.turning.specs.Turn as Turn;
 ghost use Rattle.checker.specs.Check as Check;
 ghost use Rattle.diagnosis.specs.Diagnosis as Diagnosis;
 ghost use Rattle.shorter.specs.Shorten as Shorten;
@@ -15,6 +16,7 @@ ghost use Rattle.writer.specs.Writer as Writer;
 ghost use Rattle.exports.specs.Exported.{code};
 ghost use Rattle.demands.specs.SessionCalls.{begin, first, second};
 ghost use Rattle.demands.specs.Programs.{«our-check», «our-plain-search», «our-shorten», «our-own-receivers»};
+ghost use Rattle.demands.specs.Programs.{«our-turn», «our-turn-back»};
 ghost use Rattle.demands.specs.Programs.{«our-response», «our-diagnosis», «our-findings»};
 ghost use Rattle.demands.specs.Programs.{«our-reader», «our-writer», «our-sessions», «our-drive», «our-report»};
 
@@ -31,6 +33,7 @@ use reader::ReadJob;
 use session::Session;
 use session::Stepped;
 use shorter::Shortening;
+use turning::Turned;
 use writer::Wrote;
 
 // *check*
@@ -70,6 +73,23 @@ pub fn own_receivers(nets: u64, out: &mut [u64]) -> Responded
     ensures list { λ r. ⌜ now (out .exit) ≡ our-own-receivers nets (now (out .entry)) .list ⌝ }
 {
     network::own_receivers(nets, out)
+}
+
+// *turn*
+pub fn turn(nets: u64, vectors: &[u64], out: &mut [u64]) -> Turned
+    ensures returned { λ r. ⌜ Turn.meaning r ≡ our-turn nets (now (vectors .entry)) (now (out .entry)) .returned ⌝ }
+    ensures list { λ r. ⌜ now (out .exit) ≡ our-turn nets (now (vectors .entry)) (now (out .entry)) .list ⌝ }
+{
+    turning::turn(nets, vectors, out)
+}
+
+// *turn back*
+pub fn turn_back(nets: u64, count: u64, words: &[u64], out: &mut [u64]) -> Turned
+    ensures returned { λ r. ⌜ Turn.meaning r
+        ≡ our-turn-back nets count (now (words .entry)) (now (out .entry)) .returned ⌝ }
+    ensures list { λ r. ⌜ now (out .exit) ≡ our-turn-back nets count (now (words .entry)) (now (out .entry)) .list ⌝ }
+{
+    turning::turn_back(nets, count, words, out)
 }
 
 // *response from a state*
@@ -170,6 +190,7 @@ pub fn read_job(file: &[u8], vectors: &mut [u64], responses: &mut [u64]) -> Read
 
 // *write a job file*
 pub fn write_job(
+    kind: u64,
     net: Network,
     class: u64,
     vectors: &[u64],
@@ -177,11 +198,11 @@ pub fn write_job(
     file: &mut [u8],
 ) -> Wrote
     ensures returned { λ r. ⌜ Writer.meaning r
-        ≡ our-writer net class (now (vectors .entry)) (now (responses .entry)) (now (file .entry)) .returned ⌝ }
+        ≡ our-writer kind net class (now (vectors .entry)) (now (responses .entry)) (now (file .entry)) .returned ⌝ }
     ensures list { λ r. ⌜ now (file .exit)
-        ≡ our-writer net class (now (vectors .entry)) (now (responses .entry)) (now (file .entry)) .list ⌝ }
+        ≡ our-writer kind net class (now (vectors .entry)) (now (responses .entry)) (now (file .entry)) .list ⌝ }
 {
-    writer::write_job(net, class, vectors, responses, file)
+    writer::write_job(kind, net, class, vectors, responses, file)
 }
 
 // the report

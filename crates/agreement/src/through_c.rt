@@ -8,6 +8,7 @@ ghost use Rattle.exports.specs.Exported.{code, «in-words», «fixed-after», �
 ghost use Rattle.demands.specs.SessionCalls.{begin, first, second};
 ghost use Rattle.demands.specs.Programs.{«our-check», «our-shorten», «our-own-receivers», «our-response»};
 ghost use Rattle.demands.specs.Programs.{«our-diagnosis», «our-findings», «our-reader», «our-writer»};
+ghost use Rattle.demands.specs.Programs.{«our-turn», «our-turn-back»};
 ghost use Rattle.demands.specs.ThroughC.{exported};
 ghost use Rattle.agreement.specs.InWords.{«records-of», «rest-of», «returned-shorter-words»};
 ghost use Rattle.agreement.specs.InWords.{«returned-job-words», «returned-size-words»};
@@ -189,7 +190,7 @@ pub fn to_drive<'a>(session: &[u64; 142], one: &'a [u64], two: &'a [u64]) -> u64
 }
 
 // *read a job file*
-pub fn read_job(file: &[u8], vectors: &mut [u64], responses: &mut [u64], job: &mut [u64; 6]) -> u64
+pub fn read_job(file: &[u8], vectors: &mut [u64], responses: &mut [u64], job: &mut [u64; 7]) -> u64
     ensures returned { λ r. ⌜ r ≡ code (our-reader (now (file .entry)) (now (vectors .entry)) (now (responses .entry)) .returned) ⌝ }
     ensures vectors { λ r. ⌜ now (vectors .exit)
         ≡ our-reader (now (file .entry)) (now (vectors .entry)) (now (responses .entry)) .vectors ⌝ }
@@ -205,6 +206,7 @@ pub fn read_job(file: &[u8], vectors: &mut [u64], responses: &mut [u64], job: &m
 
 // *write a job file*
 pub fn write_job(
+    kind: u64,
     nets: u64,
     level: u64,
     gate: u64,
@@ -215,15 +217,43 @@ pub fn write_job(
     size: &mut [u64; 1],
 ) -> u64
     ensures returned { λ r. ⌜ r
-        ≡ code (our-writer (network-with nets level gate) class (now (vectors .entry)) (now (responses .entry))
+        ≡ code (our-writer kind (network-with nets level gate) class (now (vectors .entry)) (now (responses .entry))
         (now (file .entry)) .returned) ⌝ }
     ensures file { λ r. ⌜ now (file .exit)
-        ≡ our-writer (network-with nets level gate) class (now (vectors .entry)) (now (responses .entry))
+        ≡ our-writer kind (network-with nets level gate) class (now (vectors .entry)) (now (responses .entry))
         (now (file .entry)) .list ⌝ }
     ensures size { λ r. ⌜ now (size .exit)
         ≡ fixed-after (in-words returned-size-words
-        (our-writer (network-with nets level gate) class (now (vectors .entry)) (now (responses .entry))
+        (our-writer kind (network-with nets level gate) class (now (vectors .entry)) (now (responses .entry))
         (now (file .entry)) .returned)) (now (size .entry)) ⌝ }
 {
-    exports::fontarelga_write_job(nets, level, gate, class, vectors, responses, file, size)
+    exports::fontarelga_write_job(
+        kind,
+        nets,
+        level,
+        gate,
+        class,
+        vectors,
+        responses,
+        file,
+        size,
+    )
+}
+
+// *turn*
+pub fn turn(nets: u64, vectors: &[u64], words: &mut [u64]) -> u64
+    ensures returned { λ r. ⌜ r ≡ code (our-turn nets (now (vectors .entry)) (now (words .entry)) .returned) ⌝ }
+    ensures words { λ r. ⌜ now (words .exit) ≡ our-turn nets (now (vectors .entry)) (now (words .entry)) .list ⌝ }
+{
+    exports::fontarelga_turn(nets, vectors, words)
+}
+
+// *turn back*
+pub fn turn_back(nets: u64, count: u64, words: &[u64], vectors: &mut [u64]) -> u64
+    ensures returned { λ r. ⌜ r
+        ≡ code (our-turn-back nets count (now (words .entry)) (now (vectors .entry)) .returned) ⌝ }
+    ensures vectors { λ r. ⌜ now (vectors .exit)
+        ≡ our-turn-back nets count (now (words .entry)) (now (vectors .entry)) .list ⌝ }
+{
+    exports::fontarelga_turn_back(nets, count, words, vectors)
 }

@@ -1,15 +1,16 @@
 // Trying the lines of a text. A line names the call that the lines after it make: `check`, `own receivers`, `respond`,
-// `diagnose`, `findings` or `shorten`. A line `level L` gives the soft level of the calls on the lines after it, a line
-// `gate G` their gate, and a line `receivers` with the net of each receiver their receivers, each up to the next line
-// of its name; `receivers own` is one receiver a net. At the start, and after a line that names a call, the level is 1,
-// the gate 0, and there is one receiver a net. A line that has not the form of its call, or begins with `level` or
-// `gate` and does not go on with a space and one number, or with `receivers` and goes on with no list, is shown as
-// unreadable.
+// `diagnose`, `findings`, `shorten`, `turn` or `turn back`. A line `level L` gives the soft level of the calls on the
+// lines after it, a line `gate G` their gate, and a line `receivers` with the net of each receiver their receivers,
+// each up to the next line of its name; `receivers own` is one receiver a net. At the start, and after a line that
+// names a call, the level is 1, the gate 0, and there is one receiver a net. A line that has not the form of its call,
+// or begins with `level` or `gate` and does not go on with a space and one number, or with `receivers` and goes on with
+// no list, is shown as unreadable.
 use crate::checking;
 use crate::finding;
 use crate::own;
 use crate::responding;
 use crate::shortening;
+use crate::turned;
 use trials::Line;
 use trials::setting;
 use trials::setting::Setting;
@@ -23,6 +24,8 @@ enum Call {
     Diagnosis,
     Findings,
     Shortening,
+    Turning,
+    TurningBack,
 }
 
 fn named(line: &[u8]) -> Call {
@@ -44,6 +47,12 @@ fn named(line: &[u8]) -> Call {
     if check::same(line, b"shorten") {
         return Call::Shortening;
     }
+    if check::same(line, b"turn") {
+        return Call::Turning;
+    }
+    if check::same(line, b"turn back") {
+        return Call::TurningBack;
+    }
     show::unreadable();
     show::end_line();
     Call::Unknown
@@ -58,6 +67,8 @@ fn called(call: Call, setting: Setting, line: &[u8]) {
         Call::Diagnosis => responding::try_line(true, setting, line),
         Call::Findings => finding::try_line(setting, line),
         Call::Shortening => shortening::try_line(setting, line),
+        Call::Turning => turned::try_line(line),
+        Call::TurningBack => turned::try_line_back(line),
         Call::Unknown => show::unreadable(),
     }
     show::end_line();

@@ -15,6 +15,7 @@ use Rattle.network.specs.Reading.{Response}
 use Rattle.network.specs.States.{Fits}
 use Rattle.network.specs.OwnReceivers.{OwnReceivers}
 use Rattle.network.specs.Rows.{Row9, Row12}
+use Rattle.turning.specs.Turn.{Exchanged}
 use Rattle.checker.specs.Rule.{Rule}
 use Rattle.shorter.specs.Shorten.{Shorter, IsShorter, kept-of, counted as shorter-counted}
 use Rattle.findings.specs.FindingsTable.{Findings}
@@ -30,13 +31,14 @@ use Rattle.demands.specs.SessionCalls.{finished-first, finished-second, 
 use Rattle.demands.specs.SessionCalls.{record-after, history-from, history, LeftBy, Awaits, FitsAnswers}
 use Rattle.demands.specs.SessionRecords.{WaitsFor}
 use Rattle.demands.specs.Demand3.{BeginRows, Written, second-words}
-use Rattle.demands.specs.Demand1.{PublicCall, own, check, shorten, respond, diagnose, find}
+use Rattle.demands.specs.Demand1.{PublicCall, own, turn, turn-back, check, shorten, respond, diagnose, find}
 use Rattle.demands.specs.Demand1.{read, write, advance, drive}
 use Rattle.demands.specs.Demand1.{awaited-vectors, SessionHighBit, InSession, SessionRows, Rows, numbers}
 use Rattle.demands.specs.Demand1.{RefusedFill, FullFill, Before, RefusedWith, FullResult, FirstRow, RefusedOrFull}
 use Rattle.demands.specs.Demand1.{Demand1}
-use Rattle.demands.specs.Programs.{our-own-receivers, our-response, our-check, our-diagnosis, our-findings}
+use Rattle.demands.specs.Programs.{our-turn, our-turn-back, our-own-receivers, our-response, our-check, our-diagnosis, our-findings}
 use Rattle.demands.specs.Programs.{our-writer, our-answer, our-sessions, ours}
+use Rattle.demands.proofs.TurnCalls.{turns, turns-back}
 use Rattle.demands.proofs.OwnReceivers.{owns}
 use Rattle.demands.proofs.Responding.{responds}
 use Rattle.demands.proofs.Diagnosing.{diagnoses}
@@ -265,6 +267,10 @@ advance-call session call =
     )) (advances session call)
 
 each-call : (call : PublicCall) → RefusedOrFull ours call
+each-call (turn nets vectors list) = fills (Rows ours (turn nets vectors list)) (Exchanged nets vectors) list
+    (our-turn nets vectors list) (turns nets vectors list)
+each-call (turn-back nets count words list) = fills (Rows ours (turn-back nets count words list)) (Exchanged count words) list
+    (our-turn-back nets count words list) (turns-back nets count words list)
 each-call (own nets list) = fills (Rows ours (own nets list)) (OwnReceivers nets) list (our-own-receivers nets list) (owns nets list)
 each-call (check net k vectors) =
     let call : PublicCall = check net k vectors in
@@ -282,21 +288,23 @@ each-call (find net owners state table) =
     fills (Rows ours (find net owners state table)) (Findings net owners state) table (our-findings net owners state table)
     (finds net owners state table)
 each-call (read file vectors responses) = read-call file vectors responses
-each-call (write net k vectors responses file) =
-    fills (Rows ours (write net k vectors responses file)) (λ bytes. bytes ≡ file-of net k vectors responses) file
-    (our-writer net k vectors responses file) (writes net k vectors responses file)
+each-call (write kind net k vectors responses file) =
+    fills (Rows ours (write kind net k vectors responses file)) (λ bytes. bytes ≡ file-of kind net k vectors responses) file
+    (our-writer kind net k vectors responses file) (writes kind net k vectors responses file)
 each-call (advance session call) = advance-call session call
 each-call (drive session one two) = inr (tt, drives session one two)
 
 by-its-rows : (call : PublicCall) → map (λ (row : ℕ × Type 0). row .0) (Rows ours call) ≡ numbers call
 by-its-rows (own nets list) = refl
+by-its-rows (turn nets vectors list) = refl
+by-its-rows (turn-back nets count words list) = refl
 by-its-rows (check net k vectors) = refl
 by-its-rows (shorten net k vectors allowed list) = refl
 by-its-rows (respond net owners k vectors state list) = refl
 by-its-rows (diagnose net owners k vectors responses list) = refl
 by-its-rows (find net owners state table) = refl
 by-its-rows (read file vectors responses) = refl
-by-its-rows (write net k vectors responses file) = refl
+by-its-rows (write kind net k vectors responses file) = refl
 by-its-rows (advance session (begin net owners list)) = refl
 by-its-rows (advance session (first answers list)) = refl
 by-its-rows (advance session (second answers)) = refl

@@ -1,6 +1,7 @@
 pub mod Responding
 pub mod Diagnosing
 pub mod Findings
+pub mod TurnCalls
 pub mod OwnReceivers
 pub mod Checking
 pub mod PlainSearch
@@ -11,6 +12,7 @@ pub mod ReadBytes
 pub mod MadeFile
 pub mod StandingFile
 pub mod Exactness
+pub mod Fronts
 pub mod JobFiles
 pub mod Sessions
 pub mod DemandThree
@@ -24,6 +26,7 @@ pub mod RefutingSessions
 pub mod RefutingFindings
 pub mod RefutingCalls
 pub mod RefutingShorter
+pub mod RefutingKinds
 pub mod Tables
 pub mod LevelTable
 pub mod GateTable
@@ -31,6 +34,9 @@ pub mod ReceiverTable
 pub mod ClassTable
 pub mod ShorterTable
 pub mod FileTables
+pub mod NetByNetTable
+pub mod KindsAlike
+pub mod KindTwo
 pub mod SaidAloneCalls
 pub mod SaidAloneFindings
 pub mod SaidAloneSteps

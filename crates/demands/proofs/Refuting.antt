@@ -30,6 +30,7 @@ use Rattle.demands.proofs.RefutingSessions.{own-two, guessed, second-ig
 use Rattle.demands.proofs.RefutingSessions.{refuses-begins, uncounted, no-vectors}
 use Rattle.demands.proofs.RefutingCalls.{vectors-cleared, started-again}
 use Rattle.demands.proofs.RefutingShorter as Shorter
+use Rattle.demands.proofs.RefutingKinds as Kinds
 
 -- walking ones with vector 0, and a set without it
 abbrev enough : List ℕ
@@ -166,6 +167,26 @@ refuted = record {
   refuses-begins = refuses-begins;
   uncounted = uncounted;
   no-vectors = no-vectors;
+  vectors-copied = Kinds.vectors-copied;
+  words-copied = Kinds.words-copied;
+  kind-ignored = Kinds.kind-ignored;
+  written-parallel = Kinds.written-parallel;
+  kind-not-named = Kinds.kind-not-named;
+  most-not-turned = Kinds.most-not-turned;
+  most-not-turned-back = Kinds.most-not-turned-back;
+  there-not-back = Kinds.there-not-back;
+  back-not-there = Kinds.back-not-there;
+  longest-not-read = Kinds.longest-not-read;
+  longest-not-read-4 = Kinds.longest-not-read-4;
+  longest-not-written = Kinds.longest-not-written;
+  longest-not-written-4 = Kinds.longest-not-written-4;
+  longest-not-read-as-before = Kinds.longest-not-read-as-before;
+  longest-not-written-as-before = Kinds.longest-not-written-as-before;
+  longest-not-exchanged = Kinds.longest-not-exchanged;
+  longest-read-otherwise = Kinds.longest-read-otherwise;
+  longest-reported-otherwise = Kinds.longest-reported-otherwise;
+  longer-accepted = Kinds.longer-accepted;
+  longer-of-kind-4 = Kinds.longer-of-kind-4;
   vectors-cleared = vectors-cleared;
   started-again = started-again;
 }

@@ -21,7 +21,8 @@ use Rattle.diagnosis.specs.Diagnosis.{OwnRows, diagnosis-answer}
 use Rattle.checker.proofs.PassedSets.{passed-apart}
 use Rattle.diagnosis.proofs.DiagnosisLaws.{diagnosis-by-table}
 use Rattle.jobfile.specs.Layout.{body-words, has-responses, file-responses}
-use Rattle.reader.specs.Reader.{JobContent, content, ListRows, ReaderRows, read-answer}
+use Rattle.reader.proofs.ReaderLaws.{set-of-file}
+use Rattle.reader.specs.Reader.{JobContent, content, FileBodyRows, ListRows, ReaderRows, read-answer}
 use Rattle.reader.proofs.ReaderLaws.{read-by-table}
 use Rattle.listing.specs.Report.{refused-line, verdict-line, net-lines, diagnosis-text, responses-text, content-text, job-text, report}
 use Rattle.demands.specs.Demand1.{FirstRow}
@@ -98,10 +99,10 @@ module _ (file : List ℕ) where
   set-rows = SetRows (content file .network) (content file .class) (content file .vectors)
 
   set-passed : NoneHolds (ReaderRows file 64 64) → NoneHolds set-rows
-  set-passed (_, (_, (_, none))) = none-front set-rows (ListRows file (content file) 64 64) none
+  set-passed (_, (_, (_, none))) = set-of-file file (none-front (FileBodyRows file) (ListRows file (content file) 64 64) none)
 
   lists-passed : NoneHolds (ReaderRows file 64 64) → NoneHolds (ListRows file (content file) 64 64)
-  lists-passed (_, (_, (_, none))) = none-rest set-rows (ListRows file (content file) 64 64) none
+  lists-passed (_, (_, (_, none))) = none-rest (FileBodyRows file) (ListRows file (content file) 64 64) none
 
 reached : (file : List ℕ) → NoneHolds (ReaderRows file 64 64) → read-answer file 64 64 ≡ full (content file)
     → LineOne (content file) (report file)

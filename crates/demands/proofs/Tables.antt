@@ -17,6 +17,7 @@ use Rattle.demands.specs.PartnerCases.{PartnerCases}
 use Rattle.demands.proofs.Sessions.{sessions}
 use Rattle.demands.proofs.Responding.{response-determined}
 use Rattle.demands.proofs.Diagnosing.{diagnosis-determined-program}
+use Rattle.demands.proofs.TurnCalls.{turn-determined-program, turn-back-determined-program}
 use Rattle.demands.proofs.OwnReceivers.{own-determined-program}
 use Rattle.demands.proofs.Findings.{findings-determined-program}
 use Rattle.demands.proofs.Shortening.{shorten-determined-program}
@@ -160,6 +161,8 @@ partner-cases = record {
 
 pub determined : Determined
 determined = record {
+  turn = turn-determined-program;
+  turn-back = turn-back-determined-program;
   own-receivers = own-determined-program;
   response = response-determined;
   check = check-determined-program;

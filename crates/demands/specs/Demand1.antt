@@ -13,6 +13,7 @@ use Rattle.network.specs.States.{Fits}
 use Rattle.network.specs.Rows.{SetRows, Row9, HighBit, Row12}
 use Rattle.network.specs.Respond.{ResponseRows}
 use Rattle.network.specs.OwnReceivers.{OwnReceivers, OwnReceiversRows}
+use Rattle.turning.specs.Turn.{Exchanged, TurnRows, TurnBackRows}
 use Rattle.checker.specs.declared.Verdict.{Verdict}
 use Rattle.checker.specs.Rule.{Rule}
 use Rattle.diagnosis.specs.Diagnosis.{DiagnosisRows}
@@ -24,6 +25,7 @@ use Rattle.reader.specs.Reader.{ReaderRows, content}
 use Rattle.writer.specs.Writer.{WriterRows, file-of}
 use Rattle.demands.specs.Demand2.{ResponseProgram, DiagnosisProgram}
 use Rattle.demands.specs.FindingsCall.{FindingsProgram}
+use Rattle.demands.specs.TurnCalls.{TurnProgram, TurnBackProgram}
 use Rattle.demands.specs.OwnReceiversCall.{OwnReceiversProgram}
 use Rattle.demands.specs.JobFiles.{WriterProgram, ReadDone, ReaderProgram}
 use Rattle.demands.specs.SessionCalls.{Call, begin, first, second, lent, SessionProgram, History, none}
@@ -38,6 +40,8 @@ use Rattle.demands.specs.SessionRecords.{WaitsFor, DriveProgram, DrivesN
 -- a public call, with all that it takes and is lent
 pub data PublicCall : Type 0 where
   own : (nets : ℕ) (list : List ℕ) → PublicCall
+  turn : (nets : ℕ) (vectors list : List ℕ) → PublicCall
+  turn-back : (nets count : ℕ) (words list : List ℕ) → PublicCall
   check : (net : Network) (k : ℕ) (vectors : List ℕ) → PublicCall
   shorten : (net : Network) (k : ℕ) (vectors : List ℕ) (allowed : ℕ) (list : List ℕ) → PublicCall
   -- in the next three, and in begin, `owners` has the net of each receiver
@@ -45,7 +49,7 @@ pub data PublicCall : Type 0 where
   diagnose : (net : Network) (owners : List ℕ) (k : ℕ) (vectors responses list : List ℕ) → PublicCall
   find : (net : Network) (owners state : List ℕ) (table : List Finding) → PublicCall
   read : (file vectors responses : List ℕ) → PublicCall
-  write : (net : Network) (k : ℕ) (vectors responses file : List ℕ) → PublicCall
+  write : (kind : ℕ) (net : Network) (k : ℕ) (vectors responses file : List ℕ) → PublicCall
   -- begin, first answers, second answers
   advance : (session : Session) (call : Call) → PublicCall
   -- the vectors to drive next: no refusal
@@ -54,6 +58,8 @@ pub data PublicCall : Type 0 where
 -- a program for each
 pub record Programs : Type 0 where
   pub owns : OwnReceiversProgram
+  pub turns : TurnProgram
+  pub turns-back : TurnBackProgram
   pub checks : CheckProgram
   pub shortens : ShortenProgram
   pub responds : ResponseProgram
@@ -106,13 +112,15 @@ SessionRows program session (second answers) =
 
 abbrev pub Rows : Programs → PublicCall → List (ℕ × Type 0)
 Rows p (own nets list) = OwnReceiversRows nets (length list)
+Rows p (turn nets vectors list) = TurnRows nets vectors (length list)
+Rows p (turn-back nets count words list) = TurnBackRows nets count words (length list)
 Rows p (check net k vectors) = SetRows net k vectors
 Rows p (shorten net k vectors allowed list) = ShortenRows net k vectors (length list)
 Rows p (respond net owners k vectors state list) = ResponseRows net owners k vectors state (length list)
 Rows p (diagnose net owners k vectors responses list) = DiagnosisRows net owners k vectors responses (length list)
 Rows p (find net owners state table) = FindingsRows net owners state (length table)
 Rows p (read file vectors responses) = ReaderRows file (length vectors) (length responses)
-Rows p (write net k vectors responses file) = WriterRows net k vectors responses (length file)
+Rows p (write kind net k vectors responses file) = WriterRows kind net k vectors responses (length file)
 Rows p (advance session call) = SessionRows (p .advances) session call
 Rows p (drive session one two) = []
 
@@ -124,13 +132,15 @@ session-numbers (second answers) = 4 ∷ 9 ∷ 10 ∷ 14 ∷ []
 
 abbrev pub numbers : PublicCall → List ℕ
 numbers (own nets list) = 5 ∷ 12 ∷ []
+numbers (turn nets vectors list) = 5 ∷ 7 ∷ 8 ∷ 12 ∷ []
+numbers (turn-back nets count words list) = 5 ∷ 7 ∷ 8 ∷ 12 ∷ []
 numbers (check net k vectors) = 5 ∷ 6 ∷ 17 ∷ 20 ∷ 7 ∷ 8 ∷ []
 numbers (shorten net k vectors allowed list) = 5 ∷ 6 ∷ 17 ∷ 20 ∷ 7 ∷ 8 ∷ 12 ∷ 13 ∷ []
 numbers (respond net owners k vectors state list) = 5 ∷ 21 ∷ 6 ∷ 17 ∷ 20 ∷ 7 ∷ 8 ∷ 11 ∷ 12 ∷ []
 numbers (diagnose net owners k vectors responses list) = 5 ∷ 21 ∷ 6 ∷ 17 ∷ 20 ∷ 7 ∷ 8 ∷ 9 ∷ 10 ∷ 12 ∷ 13 ∷ 14 ∷ []
 numbers (find net owners state table) = 5 ∷ 21 ∷ 17 ∷ 20 ∷ 11 ∷ 12 ∷ []
 numbers (read file vectors responses) = 1 ∷ 2 ∷ 3 ∷ 5 ∷ 6 ∷ 17 ∷ 20 ∷ 7 ∷ 8 ∷ 9 ∷ 10 ∷ 12 ∷ []
-numbers (write net k vectors responses file) = 5 ∷ 6 ∷ 17 ∷ 20 ∷ 7 ∷ 8 ∷ 9 ∷ 10 ∷ 12 ∷ []
+numbers (write kind net k vectors responses file) = 2 ∷ 5 ∷ 6 ∷ 17 ∷ 20 ∷ 7 ∷ 8 ∷ 9 ∷ 10 ∷ 12 ∷ []
 numbers (advance session call) = session-numbers call
 numbers (drive session one two) = []
 
@@ -163,6 +173,7 @@ FullRead file vectors responses did =
     (did .returned ≡ full (record {
       network = job .network;
       class = job .class;
+      kind = job .kind;
       vectors = length (job .vectors);
       responses = length (job .responses);
     }))
@@ -189,6 +200,8 @@ FullAdvance program session call =
 -- this number, and all memory lent as it was
 abbrev pub RefusedWith : Programs → PublicCall → ℕ → Type 0
 RefusedWith p (own nets list) number = RefusedFill list (p .owns nets list) number
+RefusedWith p (turn nets vectors list) number = RefusedFill list (p .turns nets vectors list) number
+RefusedWith p (turn-back nets count words list) number = RefusedFill list (p .turns-back nets count words list) number
 RefusedWith p (check net k vectors) number = p .checks net k vectors ≡ refused number
 RefusedWith p (shorten net k vectors allowed list) number =
     let did = p .shortens net k vectors allowed list in (did .returned ≡ refused number) × (did .list ≡ list)
@@ -199,7 +212,7 @@ RefusedWith p (find net owners state table) number = RefusedFill table (p .finds
 RefusedWith p (read file vectors responses) number =
     let did = p .reads file vectors responses in
     (did .returned ≡ refused number) × (did .vectors ≡ vectors) × (did .responses ≡ responses)
-RefusedWith p (write net k vectors responses file) number = RefusedFill file (p .writes net k vectors responses file) number
+RefusedWith p (write kind net k vectors responses file) number = RefusedFill file (p .writes kind net k vectors responses file) number
 RefusedWith p (advance session call) number =
     let did = p .advances session call in
     (did .answer ≡ refused number) × (did .list ≡ lent call) × (did .session ≡ session)
@@ -208,6 +221,8 @@ RefusedWith p (drive session one two) number = ⊥
 -- the whole result, and a longer list keeps its tail
 abbrev pub FullResult : Programs → PublicCall → Type 0
 FullResult p (own nets list) = FullFill (OwnReceivers nets) list (p .owns nets list)
+FullResult p (turn nets vectors list) = FullFill (Exchanged nets vectors) list (p .turns nets vectors list)
+FullResult p (turn-back nets count words list) = FullFill (Exchanged count words) list (p .turns-back nets count words list)
 FullResult p (check net k vectors) = (verdict : Verdict) × Rule net k vectors verdict × (p .checks net k vectors ≡ full verdict)
 FullResult p (shorten net k vectors allowed list) =
     FullShorten net k vectors allowed list (p .shortens net k vectors allowed list)
@@ -217,8 +232,8 @@ FullResult p (diagnose net owners k vectors responses list) =
     FullFill (Fits net (length owners) k vectors responses) list (p .diagnoses net owners k vectors responses list)
 FullResult p (find net owners state table) = FullFill (Findings net owners state) table (p .finds net owners state table)
 FullResult p (read file vectors responses) = FullRead file vectors responses (p .reads file vectors responses)
-FullResult p (write net k vectors responses file) =
-    FullFill (λ bytes. bytes ≡ file-of net k vectors responses) file (p .writes net k vectors responses file)
+FullResult p (write kind net k vectors responses file) =
+    FullFill (λ bytes. bytes ≡ file-of kind net k vectors responses) file (p .writes kind net k vectors responses file)
 FullResult p (advance session call) = FullAdvance (p .advances) session call
 FullResult p (drive session one two) = DrivesNext (p .advances) session one two (p .drives session one two)
 

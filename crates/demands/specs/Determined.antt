@@ -11,6 +11,7 @@ use Rattle.findings.specs.declared.Finding.{Finding}
 use Rattle.session.specs.declared.Session.{Session}
 use Rattle.demands.specs.Demand2.{ResponseProgram, Responds, DiagnosisProgram, Diagnoses}
 use Rattle.demands.specs.FindingsCall.{FindingsProgram, Finds}
+use Rattle.demands.specs.TurnCalls.{TurnProgram, TurnBackProgram, Turns, TurnsBack}
 use Rattle.demands.specs.OwnReceiversCall.{OwnReceiversProgram, Owns}
 use Rattle.demands.specs.JobFiles.{WriterProgram, Writes, ReaderProgram, Reads}
 use Rattle.demands.specs.SessionCalls.{Call, begin, SessionProgram, History, none, waits-first, waits-second}
@@ -47,6 +48,9 @@ pub record SessionsDetermined (p q : SessionProgram) : Type 0 where
       × (s .spent ≡ u .spent)
 
 pub record Determined : Type 0 where
+  pub turn : (p q : TurnProgram) → Turns p → Turns q → (nets : ℕ) (vectors lent : List ℕ) → p nets vectors lent ≡ q nets vectors lent
+  pub turn-back : (p q : TurnBackProgram) → TurnsBack p → TurnsBack q → (nets count : ℕ) (words lent : List ℕ)
+      → p nets count words lent ≡ q nets count words lent
   pub own-receivers : (p q : OwnReceiversProgram) → Owns p → Owns q → (nets : ℕ) (lent : List ℕ) → p nets lent ≡ q nets lent
   pub response : (p q : ResponseProgram) → Responds p → Responds q → (net : Network) (owners : List ℕ) (k : ℕ)
       (vectors state lent : List ℕ) → p net owners k vectors state lent ≡ q net owners k vectors state lent
@@ -59,8 +63,8 @@ pub record Determined : Type 0 where
   pub findings : (p q : FindingsProgram) → Finds p → Finds q → (net : Network) (owners state : List ℕ) (lent : List Finding)
       → p net owners state lent ≡ q net owners state lent
   pub session : (p q : SessionProgram) → Sessions p → Sessions q → SessionsDetermined p q
-  pub writer : (p q : WriterProgram) → Writes p → Writes q → (net : Network) (k : ℕ) (vectors responses lent : List ℕ)
-      → p net k vectors responses lent ≡ q net k vectors responses lent
+  pub writer : (p q : WriterProgram) → Writes p → Writes q → (kind : ℕ) (net : Network) (k : ℕ) (vectors responses lent : List ℕ)
+      → p kind net k vectors responses lent ≡ q kind net k vectors responses lent
   pub drive : (p q : DriveProgram) → Drives our-sessions p → Drives our-sessions q
       → (session : Session) (one two : List ℕ) → p session one two ≡ q session one two
   pub report : (p q : ReportProgram) → Reports p → Reports q → (file : List ℕ) → p file ≡ q file

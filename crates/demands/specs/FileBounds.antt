@@ -20,7 +20,7 @@ read file = read-answer file 5 5
 
 -- the answer with this content, of a network and of n nets
 abbrev pub holds-of : Network → ℕ → (vectors responses : List ℕ) → Answer JobContent
-holds-of net k vectors responses = full (record { network = net; class = k; vectors = vectors; responses = responses })
+holds-of net k vectors responses = full (record { network = net; class = k; kind = 2; vectors = vectors; responses = responses })
 
 abbrev pub holds : (n k : ℕ) → (vectors responses : List ℕ) → Answer JobContent
 holds n k vectors responses = holds-of (network-of n) k vectors responses
@@ -236,7 +236,7 @@ pub record ReaderBounds : Type 0 where
 
 -- *write a job file* with this much room
 abbrev pub write-into : ℕ → Network → ℕ → (vectors responses : List ℕ) → Answer (List ℕ)
-write-into room net k vectors responses = write-answer net k vectors responses room
+write-into room net k vectors responses = write-answer 2 net k vectors responses room
 
 -- with room for every job file, of a network and of n nets
 abbrev pub write-of : Network → ℕ → (vectors responses : List ℕ) → Answer (List ℕ)

@@ -156,26 +156,26 @@ set-file n k vectors = set-file-of (network-of n) k vectors
 
 pub record FileExamples : Type 0 where
   -- document 01's example, with the kinds 0, 1 and 2: what is written, what is read, and the report
-  pub example-bytes : file-of four 4 (0 ∷ 1 ∷ 2 ∷ 4 ∷ 8 ∷ []) (4 ∷ 7 ∷ 7 ∷ 4 ∷ 12 ∷ []) ≡ example-file
+  pub example-bytes : file-of 2 four 4 (0 ∷ 1 ∷ 2 ∷ 4 ∷ 8 ∷ []) (4 ∷ 7 ∷ 7 ∷ 4 ∷ 12 ∷ []) ≡ example-file
   pub example-content : read-answer example-file 5 5
-      ≡ full (record { network = four; class = 4; vectors = 0 ∷ 1 ∷ 2 ∷ 4 ∷ 8 ∷ []; responses = 4 ∷ 7 ∷ 7 ∷ 4 ∷ 12 ∷ [] })
+      ≡ full (record { network = four; class = 4; kind = 2; vectors = 0 ∷ 1 ∷ 2 ∷ 4 ∷ 8 ∷ []; responses = 4 ∷ 7 ∷ 7 ∷ 4 ∷ 12 ∷ [] })
   pub example-report : report example-file ≡ text "pass 4 4 5\n0 2 3 2\n1 2 3 1\n2 1 0 0\n3 0 8 0\n"
   -- kind 3, at net 0
-  pub both-bytes : file-of two 2 (0 ∷ 1 ∷ 2 ∷ []) (0 ∷ 0 ∷ 3 ∷ []) ≡ both-file
+  pub both-bytes : file-of 2 two 2 (0 ∷ 1 ∷ 2 ∷ []) (0 ∷ 0 ∷ 3 ∷ []) ≡ both-file
   pub both-report : report both-file ≡ text "pass 2 2 3\n0 3 2 2\n1 2 2 1\n"
   -- and at both nets of a crossed pair
   pub crossed-report : report (job-file 2 2 (0 ∷ 1 ∷ 2 ∷ []) (0 ∷ 2 ∷ 1 ∷ [])) ≡ text "pass 2 2 3\n0 3 2 2\n1 3 1 1\n"
   -- without responses line one alone, here with a pair
-  pub walking-bytes : file-of four 4 (1 ∷ 2 ∷ 4 ∷ 8 ∷ []) [] ≡ walking-file
+  pub walking-bytes : file-of 2 four 4 (1 ∷ 2 ∷ 4 ∷ 8 ∷ []) [] ≡ walking-file
   pub walking-report : report walking-file ≡ text "pair 4 4 4 0 15\n"
   -- wired OR and soft level 0: the set passes without vector 0, and a line says of each net what the example says of it
-  pub pulled-down-bytes : file-of (wired-or 4 0) 4 (1 ∷ 2 ∷ 4 ∷ 8 ∷ []) (3 ∷ 3 ∷ 0 ∷ 8 ∷ []) ≡ pulled-down-file
+  pub pulled-down-bytes : file-of 2 (wired-or 4 0) 4 (1 ∷ 2 ∷ 4 ∷ 8 ∷ []) (3 ∷ 3 ∷ 0 ∷ 8 ∷ []) ≡ pulled-down-file
   pub pulled-down-report : report pulled-down-file ≡ text "pass 4 4 4\n0 2 3 2\n1 2 3 1\n2 1 0 0\n3 0 8 0\n"
   -- wired AND and soft level 0: the set passes, and a line says of each net the same again
-  pub old-shelf-bytes : file-of (wired-and 4 0) 4 (15 ∷ 14 ∷ 13 ∷ 11 ∷ 7 ∷ []) (11 ∷ 8 ∷ 8 ∷ 11 ∷ 3 ∷ []) ≡ old-shelf-file
+  pub old-shelf-bytes : file-of 2 (wired-and 4 0) 4 (15 ∷ 14 ∷ 13 ∷ 11 ∷ 7 ∷ []) (11 ∷ 8 ∷ 8 ∷ 11 ∷ 3 ∷ []) ≡ old-shelf-file
   pub old-shelf-content : read-answer old-shelf-file 5 5
       ≡ full
-      (record { network = wired-and 4 0; class = 4; vectors = 15 ∷ 14 ∷ 13 ∷ 11 ∷ 7 ∷ []; responses = 11 ∷ 8 ∷ 8 ∷ 11 ∷ 3 ∷ [] })
+      (record { network = wired-and 4 0; class = 4; kind = 2; vectors = 15 ∷ 14 ∷ 13 ∷ 11 ∷ 7 ∷ []; responses = 11 ∷ 8 ∷ 8 ∷ 11 ∷ 3 ∷ [] })
   pub old-shelf-report : report old-shelf-file ≡ text "pass 4 4 5\n0 2 3 2\n1 2 3 1\n2 1 0 0\n3 0 8 0\n"
   -- without all ones it does not pass there, and does at soft level 1
   pub no-ones-report : report (set-file-of (wired-and 4 0) 4 (14 ∷ 13 ∷ 11 ∷ 7 ∷ [])) ≡ text "pair 4 4 4 0 15\n"

@@ -207,5 +207,5 @@ pub record GateCases : Type 0 where
       ≡ 1 ∷ 48 ∷ 0 ∷ 1 ∷ 48 ∷ own (wired-and 48 0) ++ replicate 89 0
   pub finished-words : session-words (finished shelf-at-0 (own shelf-at-0) broken 8)
       ≡ 3 ∷ 4 ∷ 0 ∷ 1 ∷ 4 ∷ 0 ∷ 1 ∷ 2 ∷ 3 ∷ replicate 60 0 ++ replicate 8 0 ++ broken ++ replicate 60 0 ++ 8 ∷ []
-  pub words-of-a-job : job-words (record { network = shelf-at-0; class = 2; vectors = walking-zeros; responses = 11 ∷ 8 ∷ [] })
-      ≡ 4 ∷ 0 ∷ 1 ∷ 2 ∷ 5 ∷ 2 ∷ []
+  pub words-of-a-job : job-words (record { network = shelf-at-0; class = 2; kind = 2; vectors = walking-zeros; responses = 11 ∷ 8 ∷ [] })
+      ≡ 4 ∷ 0 ∷ 1 ∷ 2 ∷ 2 ∷ 5 ∷ 2 ∷ []

@@ -137,5 +137,5 @@ pub record LevelCases : Type 0 where
       ≡ 2 ∷ 2 ∷ 0 ∷ 0 ∷ 2 ∷ 0 ∷ 1 ∷ replicate 62 0 ++ 3 ∷ 2 ∷ replicate 71 0
   pub finished-words : session-words (finished four-at-0 (own four-at-0) broken 7)
       ≡ 3 ∷ 4 ∷ 0 ∷ 0 ∷ 4 ∷ 0 ∷ 1 ∷ 2 ∷ 3 ∷ replicate 60 0 ++ replicate 8 0 ++ broken ++ replicate 60 0 ++ 7 ∷ []
-  pub words-of-a-job : job-words (record { network = four-at-0; class = 2; vectors = walking; responses = 0 ∷ 3 ∷ 3 ∷ [] })
-      ≡ 4 ∷ 0 ∷ 0 ∷ 2 ∷ 5 ∷ 3 ∷ []
+  pub words-of-a-job : job-words (record { network = four-at-0; class = 2; kind = 2; vectors = walking; responses = 0 ∷ 3 ∷ 3 ∷ [] })
+      ≡ 4 ∷ 0 ∷ 0 ∷ 2 ∷ 2 ∷ 5 ∷ 3 ∷ []

@@ -1,5 +1,6 @@
 pub mod Demand2
 pub mod FindingsCall
+pub mod TurnCalls
 pub mod OwnReceiversCall
 pub mod SessionCalls
 pub mod Demand3
@@ -7,6 +8,7 @@ pub mod PlainSearch
 pub mod ShortenCall
 pub mod SessionRecords
 pub mod JobFiles
+pub mod KindTwo
 pub mod Demand1
 pub mod Reports
 pub mod Programs
@@ -23,4 +25,5 @@ pub mod ClassCases
 pub mod ShorterCases
 pub mod FileExamples
 pub mod FileBounds
+pub mod NetByNetCases
 pub mod SaidAlone

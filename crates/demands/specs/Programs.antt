@@ -6,6 +6,7 @@ use lib.ListN.{length}
 use Rattle.words.specs.Answers.{Answer, lent-after, count-of}
 use Rattle.network.specs.Respond.{response-answer}
 use Rattle.network.specs.OwnReceivers.{own-receivers-answer}
+use Rattle.turning.specs.Turn.{turn-answer, turn-back-answer}
 use Rattle.checker.specs.Rule.{bounded-verdict}
 use Rattle.checker.specs.Check.{check-answer}
 use Rattle.diagnosis.specs.ReadBack.{read-back}
@@ -21,6 +22,7 @@ use Rattle.reader.specs.Reader.{read-answer, vectors-read, responses-read, coun
 use Rattle.writer.specs.Writer.{write-answer}
 use Rattle.listing.specs.Report.{report}
 use Rattle.demands.specs.Demand2.{ResponseProgram, DiagnosisProgram}
+use Rattle.demands.specs.TurnCalls.{TurnProgram, TurnBackProgram}
 use Rattle.demands.specs.OwnReceiversCall.{OwnReceiversProgram}
 use Rattle.demands.specs.FindingsCall.{FindingsProgram}
 use Rattle.demands.specs.JobFiles.{WriterProgram, ReaderProgram}
@@ -35,6 +37,16 @@ use Rattle.demands.specs.Reports.{ReportProgram}
 abbrev pub our-response : ResponseProgram
 our-response net owners k vectors state lent =
     let answer = response-answer net owners k vectors state (length lent) in
+    record { returned = count-of answer; list = lent-after answer lent }
+
+abbrev pub our-turn : TurnProgram
+our-turn nets vectors lent =
+    let answer = turn-answer nets vectors (length lent) in
+    record { returned = count-of answer; list = lent-after answer lent }
+
+abbrev pub our-turn-back : TurnBackProgram
+our-turn-back nets count words lent =
+    let answer = turn-back-answer nets count words (length lent) in
     record { returned = count-of answer; list = lent-after answer lent }
 
 abbrev pub our-own-receivers : OwnReceiversProgram
@@ -65,8 +77,8 @@ our-findings net owners state lent =
     record { returned = count-of answer; list = lent-after answer lent }
 
 abbrev pub our-writer : WriterProgram
-our-writer net k vectors responses lent =
-    let answer = write-answer net k vectors responses (length lent) in
+our-writer kind net k vectors responses lent =
+    let answer = write-answer kind net k vectors responses (length lent) in
     record { returned = count-of answer; list = lent-after answer lent }
 
 abbrev pub our-reader : ReaderProgram
@@ -116,6 +128,8 @@ our-report file = report file
 abbrev pub ours : Programs
 ours = record {
   owns = our-own-receivers;
+  turns = our-turn;
+  turns-back = our-turn-back;
   checks = our-check;
   shortens = our-shorten;
   responds = our-response;

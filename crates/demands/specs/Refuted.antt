@@ -1,14 +1,15 @@
 -- Wrong programs that the demands shut out.
 use Prim.Native.Nat.{ℕ, suc, _-_, min}
-use mathlib.Core.Bool.{true, not, cond}
+use mathlib.Core.Bool.{Bool, true, not, cond, _&&_}
 use mathlib.Core.List.{List, [], _∷_, _++_, map, reverse}
 use lib.Dec.{eqb}
 use lib.ListN.{length, take, drop}
-use Rattle.words.specs.Answers.{Answer, refused, full, by-tests, lent-after, count-of}
+use Rattle.words.specs.Answers.{Answer, refused, full, by-tests, lent-after, count-of, Filled}
 use Rattle.words.specs.Bits.{at}
 use Rattle.words.specs.Searching.{passing}
 use Rattle.network.specs.Respond.{response-answer}
 use Rattle.network.specs.declared.Network.{Network}
+use Rattle.network.specs.Reading.{network-of}
 use Rattle.checker.specs.declared.Verdict.the-variants.{Pass, Pair}
 use Rattle.checker.specs.Passed.{passes}
 use Rattle.diagnosis.specs.ReadBack.{read-back}
@@ -19,15 +20,24 @@ use Rattle.findings.specs.FindingsTable.{findings-answer, blank}
 use Rattle.session.specs.declared.Session.{Session}
 use Rattle.session.specs.Record.{awaiting-first, finished, held-owners, held-answers, awaits-second}
 use Rattle.session.specs.Calls.{stepped, vectors-driven}
+use Rattle.turning.specs.Turn.{turn-tests, turn-back-tests}
+use Rattle.jobfile.specs.Bytes.{word-bytes}
+use Rattle.jobfile.specs.VectorsBody.{lead-bytes}
 use Rattle.reader.specs.Reader.{read-answer, vectors-read, responses-read, counted}
+use Rattle.writer.specs.Writer.{head-of, bodies-of, file-of, writer-tests}
 use Rattle.demands.specs.Demand2.{ResponseProgram, Responds, DiagnosisProgram, Diagnoses}
 use Rattle.demands.specs.FindingsCall.{FindingsProgram, Finds}
-use Rattle.demands.specs.JobFiles.{ReaderProgram}
+use Rattle.demands.specs.TurnCalls.{TurnProgram, TurnBackProgram, Turns, TurnsBack, ThereAndBack}
+use Rattle.demands.specs.JobFiles.{WriterProgram, Writes, ReaderProgram, Reads, Exact, ReadsExchanged, of-kind}
+use Rattle.demands.specs.JobFiles.{KindsReadAlike, SizeLimits}
+use Rattle.demands.specs.Reports.{ReportProgram, KindsReportAlike}
+use Rattle.demands.specs.KindTwo.{KindTwoAsBefore}
 use Rattle.demands.specs.SessionCalls.{begin, first, second, lent, SessionProgram}
 use Rattle.demands.specs.Demand3.{CheckProgram, Checks, Sessions}
 use Rattle.demands.specs.ShortenCall.{ShortenProgram, Shortens}
 use Rattle.demands.specs.Demand1.{Programs, Demand1}
-use Rattle.demands.specs.Programs.{our-reader, our-answer, our-new, our-sessions, ours}
+use Rattle.demands.specs.Programs.{our-turn, our-turn-back, our-reader, our-writer, our-report, our-answer, our-new}
+use Rattle.demands.specs.Programs.{our-sessions, ours}
 
 -- ---- checkers
 
@@ -242,11 +252,82 @@ writes-uncounted session (second answers) = our-sessions session (second answers
 abbrev pub writes-no-vectors : SessionProgram
 writes-no-vectors session call = record { answer = our-answer session call; list = lent call; session = our-sessions session call .session }
 
+-- ---- turning: our rows, and the words that were given; rows and columns are not exchanged
+
+abbrev pub fills-with : Answer (List ℕ) → List ℕ → Filled ℕ
+fills-with answer lent = record { returned = count-of answer; list = lent-after answer lent }
+
+abbrev pub copies-vectors : TurnProgram
+copies-vectors nets vectors lent = fills-with (by-tests (turn-tests nets vectors (length lent)) vectors) lent
+
+abbrev pub copies-words : TurnBackProgram
+copies-words nets count words lent = fills-with (by-tests (turn-back-tests nets count words (length lent)) words) lent
+
+-- ---- job files
+
+-- the kind is not asked for: every file is of kind 2
+abbrev pub ignores-kind : WriterProgram
+ignores-kind kind net k vectors responses lent = our-writer 2 net k vectors responses lent
+
+-- the words of a file of kind 4 are the vectors themselves
+abbrev pub parallel-body : (kind : ℕ) → List ℕ → List ℕ
+parallel-body kind vectors = lead-bytes kind (length vectors) ++ word-bytes vectors
+
+abbrev pub writes-parallel : WriterProgram
+writes-parallel kind net k vectors responses lent =
+    let body = parallel-body kind vectors in
+    let file = head-of kind (length body) responses ++ bodies-of net k body responses in
+    fills-with (by-tests (writer-tests kind net k vectors responses (length lent)) file) lent
+
+-- the kind is not named: every file is told to be of kind 2
+abbrev pub names-kind-2 : ReaderProgram
+names-kind-2 file vectors responses =
+    let did = our-reader file vectors responses in
+    record { returned = of-kind 2 (did .returned); vectors = did .vectors; responses = did .responses }
+
+-- ---- turning and job files: right, but for the most nets and vectors
+
+-- 48 nets and 64 vectors are not turned, nor turned back
+abbrev pub turns-but-most : TurnProgram
+turns-but-most nets vectors lent =
+    cond (eqb nets 48 && eqb (length vectors) 64) (record { returned = full nets; list = lent }) (our-turn nets vectors lent)
+
+abbrev pub turns-back-but-most : TurnBackProgram
+turns-back-but-most nets count words lent =
+    cond (eqb nets 48 && eqb count 64) (record { returned = full count; list = lent }) (our-turn-back nets count words lent)
+
+-- of a file with so many bytes no vectors are read; it is not written; and nothing is reported of it. The most are 1,060
+-- of kind 2 and 933 of kind 4
+abbrev pub reads-but : ℕ → ReaderProgram
+reads-but size file vectors responses =
+    let did = our-reader file vectors responses in
+    cond (eqb (length file) size) (record { returned = did .returned; vectors = vectors; responses = did .responses }) did
+
+abbrev pub left-as-lent : {A : Type 0} → Bool → Filled A → List A → Filled A
+left-as-lent this did lent = cond this (record { returned = did .returned; list = lent }) did
+
+abbrev pub writes-but : ℕ → WriterProgram
+writes-but size kind net k vectors responses lent =
+    left-as-lent (eqb (length (file-of kind net k vectors responses)) size) (our-writer kind net k vectors responses lent) lent
+
+abbrev pub reports-but : ℕ → ReportProgram
+reports-but size file = cond (eqb (length file) size) [] (our-report file)
+
+-- any file is accepted, as one of this kind
+abbrev pub accepts-all : ℕ → ReaderProgram
+accepts-all kind file vectors responses = record {
+  returned = full (record { network = network-of 2; class = 1; kind = kind; vectors = 0; responses = 0 });
+  vectors = vectors;
+  responses = responses;
+}
+
 -- ---- demand 1: our programs, with another reader and other session calls
 
 abbrev pub ours-but : ReaderProgram → SessionProgram → Programs
 ours-but reader sessions = record {
   owns = ours .owns;
+  turns = ours .turns;
+  turns-back = ours .turns-back;
   checks = ours .checks;
   shortens = ours .shortens;
   responds = ours .responds;
@@ -306,5 +387,25 @@ pub record Refuted : Type 0 where
   pub refuses-begins : (number : ℕ) → ¬ (Sessions (refuses-every-begin number))
   pub uncounted : ¬ (Sessions writes-uncounted)
   pub no-vectors : ¬ (Sessions writes-no-vectors)
+  pub vectors-copied : ¬ (Turns copies-vectors)
+  pub words-copied : ¬ (TurnsBack copies-words)
+  pub kind-ignored : ¬ (Writes ignores-kind)
+  pub written-parallel : ¬ (Writes writes-parallel)
+  pub kind-not-named : ¬ (Reads names-kind-2)
+  pub most-not-turned : ¬ (Turns turns-but-most)
+  pub most-not-turned-back : ¬ (TurnsBack turns-back-but-most)
+  pub there-not-back : ¬ (ThereAndBack our-turn turns-back-but-most)
+  pub back-not-there : ¬ (ThereAndBack turns-but-most our-turn-back)
+  pub longest-not-read : ¬ (Exact (reads-but 1060) our-writer)
+  pub longest-not-read-4 : ¬ (Exact (reads-but 933) our-writer)
+  pub longest-not-written : ¬ (Exact our-reader (writes-but 1060))
+  pub longest-not-written-4 : ¬ (Exact our-reader (writes-but 933))
+  pub longest-not-read-as-before : ¬ (KindTwoAsBefore (reads-but 1060) our-writer)
+  pub longest-not-written-as-before : ¬ (KindTwoAsBefore our-reader (writes-but 1060))
+  pub longest-not-exchanged : ¬ (ReadsExchanged (reads-but 933))
+  pub longest-read-otherwise : ¬ (KindsReadAlike (reads-but 933) our-writer)
+  pub longest-reported-otherwise : ¬ (KindsReportAlike (reports-but 933) our-writer)
+  pub longer-accepted : ¬ (SizeLimits (accepts-all 2))
+  pub longer-of-kind-4 : ¬ (SizeLimits (accepts-all 4))
   pub vectors-cleared : ¬ (Demand1 (ours-but clears-vectors our-sessions))
   pub started-again : ¬ (Demand1 (ours-but our-reader starts-again))

@@ -5,7 +5,8 @@ use mathlib.Core.Path.{_≡_}
 use mathlib.Core.Logic.{_⊎_, _≢_}
 use mathlib.Core.List.{List, [], _++_}
 use lib.ListN.{length, take}
-use Rattle.words.specs.Answers.{NoneHolds}
+use Rattle.words.specs.Answers.{full, NoneHolds}
+use Rattle.network.specs.declared.Network.{Network}
 use Rattle.network.specs.States.{Fits}
 use Rattle.checker.specs.declared.Verdict.{Verdict}
 use Rattle.checker.specs.Rule.{Rule}
@@ -14,6 +15,7 @@ use Rattle.diagnosis.specs.Diagnosis.{Row14}
 use Rattle.reader.specs.Reader.{JobContent, content, ReaderRows}
 use Rattle.listing.specs.Report.{refused-line, verdict-line, net-lines, deciding-bytes}
 use Rattle.demands.specs.Demand1.{FirstRow}
+use Rattle.demands.specs.JobFiles.{WriterProgram, file-written}
 
 -- a program that writes text for a file's bytes
 abbrev pub ReportProgram : Type 0
@@ -51,3 +53,12 @@ Reports program = (file : List ℕ) → Says file (program file)
 -- a file's first bytes decide what is written, whatever follows them
 abbrev pub FirstBytesDecide : ReportProgram → Type 0
 FirstBytesDecide program = (file : List ℕ) → program (take deciding-bytes file) ≡ program file
+
+-- of one content written in either kind one report is written
+abbrev pub KindsReportAlike : ReportProgram → WriterProgram → Type 0
+KindsReportAlike program writer =
+    (net : Network) (k : ℕ) (vectors responses lent other-lent : List ℕ) (count other-count : ℕ)
+    → writer 2 net k vectors responses lent .returned ≡ full count
+    → writer 4 net k vectors responses other-lent .returned ≡ full other-count
+    → program (file-written (writer 2 net k vectors responses lent) count)
+    ≡ program (file-written (writer 4 net k vectors responses other-lent) other-count)

@@ -66,12 +66,12 @@ code-read (refused number) n said = ap code said
 code-read (full job) n said = ap code said
 
 pub fixed-read : (a : Answer JobContent) (job : Job) (lent : List ℕ) → full job ≡ counted a
-    → job .network .nets ∷ job .network .level ∷ job .network .gate ∷ job .class ∷ job .vectors ∷ job .responses ∷ []
+    → job .network .nets ∷ job .network .level ∷ job .network .gate ∷ job .class ∷ job .kind ∷ job .vectors ∷ job .responses ∷ []
     ≡ fixed-after (in-words job-words a) lent
 unfolding job-words
 fixed-read a job lent said =
     let r = read-counted-full a job (sym said) in
-    ap (λ (j : Job). j .network .nets ∷ j .network .level ∷ j .network .gate ∷ j .class ∷ j .vectors ∷ j .responses ∷ [])
+    ap (λ (j : Job). j .network .nets ∷ j .network .level ∷ j .network .gate ∷ j .class ∷ j .kind ∷ j .vectors ∷ j .responses ∷ [])
     (sym (r .2))
     ∙ fixed-full a (r .0) (r .1) job-words lent
 

@@ -7,6 +7,7 @@ ghost use Rattle.words.specs.Answers.{«lent-after»};
 ghost use Rattle.network.specs.Reading.{«network-with»};
 ghost use Rattle.network.specs.Respond.{«response-answer»};
 ghost use Rattle.network.specs.OwnReceivers.{«own-receivers-answer»};
+ghost use Rattle.turning.specs.Turn.{«turn-answer», «turn-back-answer»};
 ghost use Rattle.checker.specs.Check.{«check-answer»};
 ghost use Rattle.diagnosis.specs.Diagnosis.{«diagnosis-answer»};
 ghost use Rattle.shorter.specs.Shorten.{«shorten-answer», «kept-of»};
@@ -23,6 +24,7 @@ use network::Network;
 use network::Responded;
 use reader::ReadJob;
 use shorter::Shortening;
+use turning::Turned;
 use writer::Wrote;
 
 // The call *check*. The verdict's 3 words: 0 0 0 for pass, or 1 and the pair. Rows 5, 6, 17, 20, 7, 8.
@@ -293,14 +295,48 @@ pub extern "C" fn fontarelga_to_drive<'a>(
     driven.len() as u64
 }
 
-// The call *read a job file*. The job's 6 words: nets, level, gate, class, number of vectors, number of responses.
-// Rows 1, 2, 3, 5, 6, 17, 20, 7, 8, 9, 10, 12.
+// The call *turn*: the sequential words of the vectors, one for each net, into the front of `words`. Rows 5, 7, 8, 12.
+#[no_mangle]
+pub extern "C" fn fontarelga_turn(nets: u64, vectors: &[u64], words: &mut [u64]) -> u64
+    ensures answer { λ r. ⌜ r ≡ code (turn-answer nets (now (vectors .entry)) (length (now (words .entry)))) ⌝ }
+    ensures words { λ r. ⌜ now (words .exit)
+        ≡ lent-after (turn-answer nets (now (vectors .entry)) (length (now (words .entry)))) (now (words .entry)) ⌝ }
+{
+    match turning::turn(nets, vectors, words) {
+        Turned::Wrote(_) => 0,
+        Turned::Refused(number) => number,
+    }
+}
+
+// The call *turn back*: from sequential words, one for each net, the vectors, as many as `count` says, into the front of
+// `vectors`. Rows 5, 7, 8, 12.
+#[no_mangle]
+pub extern "C" fn fontarelga_turn_back(
+    nets: u64,
+    count: u64,
+    words: &[u64],
+    vectors: &mut [u64],
+) -> u64
+    ensures answer { λ r. ⌜ r
+        ≡ code (turn-back-answer nets count (now (words .entry)) (length (now (vectors .entry)))) ⌝ }
+    ensures vectors { λ r. ⌜ now (vectors .exit)
+        ≡ lent-after (turn-back-answer nets count (now (words .entry)) (length (now (vectors .entry))))
+        (now (vectors .entry)) ⌝ }
+{
+    match turning::turn_back(nets, count, words, vectors) {
+        Turned::Wrote(_) => 0,
+        Turned::Refused(number) => number,
+    }
+}
+
+// The call *read a job file*. The job's 7 words: nets, level, gate, class, kind, number of vectors, number of
+// responses. Rows 1, 2, 3, 5, 6, 17, 20, 7, 8, 9, 10, 12.
 #[no_mangle]
 pub extern "C" fn fontarelga_read_job(
     file: &[u8],
     vectors: &mut [u64],
     responses: &mut [u64],
-    job: &mut [u64; 6],
+    job: &mut [u64; 7],
 ) -> u64
     ensures answer { λ r. ⌜ r
         ≡ code (read-answer (now (file .entry)) (length (now (vectors .entry))) (length (now (responses .entry)))) ⌝ }
@@ -324,6 +360,7 @@ pub extern "C" fn fontarelga_read_job(
                 content.network.level,
                 content.network.gate,
                 content.class,
+                content.kind,
                 content.vectors as u64,
                 content.responses as u64,
             ];
@@ -333,10 +370,11 @@ pub extern "C" fn fontarelga_read_job(
     }
 }
 
-// The call *write a job file*. The size's only word: how many bytes were written. Rows 5, 6, 17, 20, 7, 8, 9, 10 and
-// 12; 9 and 10 only if there are responses.
+// The call *write a job file*. The size's only word: how many bytes were written. Rows 2, 5, 6, 17, 20, 7, 8, 9, 10
+// and 12; 9 and 10 only if there are responses.
 #[no_mangle]
 pub extern "C" fn fontarelga_write_job(
+    kind: u64,
     nets: u64,
     level: u64,
     gate: u64,
@@ -347,14 +385,14 @@ pub extern "C" fn fontarelga_write_job(
     size: &mut [u64; 1],
 ) -> u64
     ensures answer { λ r. ⌜ r
-        ≡ code (write-answer (network-with nets level gate) class (now (vectors .entry)) (now (responses .entry))
+        ≡ code (write-answer kind (network-with nets level gate) class (now (vectors .entry)) (now (responses .entry))
         (length (now (file .entry)))) ⌝ }
     ensures file { λ r. ⌜ now (file .exit)
-        ≡ lent-after (write-answer (network-with nets level gate) class (now (vectors .entry)) (now (responses .entry))
+        ≡ lent-after (write-answer kind (network-with nets level gate) class (now (vectors .entry)) (now (responses .entry))
         (length (now (file .entry)))) (now (file .entry)) ⌝ }
     ensures size { λ r. ⌜ now (size .exit)
         ≡ fixed-after (in-words size-words
-        (write-answer (network-with nets level gate) class (now (vectors .entry)) (now (responses .entry))
+        (write-answer kind (network-with nets level gate) class (now (vectors .entry)) (now (responses .entry))
         (length (now (file .entry))))) (now (size .entry)) ⌝ }
 {
     let net = Network {
@@ -362,7 +400,7 @@ pub extern "C" fn fontarelga_write_job(
         level: level,
         gate: gate,
     };
-    match writer::write_job(net, class, vectors, responses, file) {
+    match writer::write_job(kind, net, class, vectors, responses, file) {
         Wrote::Bytes(count) => {
             *size = [count];
             0

@@ -15,7 +15,8 @@ use Rattle.words.proofs.Tests.{decides-equal, decides-not, decides-or, decides-
 use Rattle.words.proofs.Searching.{any-none, any-false, decides-any}
 use Rattle.jobfile.specs.Layout.{mark, most-bytes, entry-count, bodies-at, entry-kind, body-offset, body-length}
 use Rattle.jobfile.specs.Layout.{Row1, Layout, Row2, Row3, same-bytes, bad-mark, bad-entry, bad-layout}
-use Rattle.jobfile.specs.Layout.{nets-size, bad-bodies}
+use Rattle.jobfile.specs.Layout.{KindAt, kind-at, nets-size, bad-bodies}
+use Rattle.jobfile.specs.VectorsBody.{lead}
 
 -- ---- row 1
 
@@ -47,6 +48,9 @@ decides-row-1 file = decides-not (decides-same-bytes (take 4 file) mark)
 
 -- ---- row 2
 
+decides-kind : (i kind : ℕ) → Decides (kind-at i kind) (KindAt i kind)
+decides-kind i kind = decides-or (decides-equal kind (suc i)) (decides-and (decides-equal i 1) (decides-equal kind 4))
+
 -- an entry that breaks nothing
 module _ (file : List ℕ) (i : ℕ) where
   abbrev pub body-start : ℕ
@@ -55,16 +59,16 @@ module _ (file : List ℕ) (i : ℕ) where
   abbrev ends-early : Bool
   ends-early = eqb (suc i) (entry-count file) && not (eqb (body-offset file i + body-length file i) (length file))
 
-  entry-facts : bad-entry file i ≡ false → (entry-kind file i ≡ suc i) × (body-offset file i ≡ body-start) × (ends-early ≡ false)
+  entry-facts : bad-entry file i ≡ false → KindAt i (entry-kind file i) × (body-offset file i ≡ body-start) × (ends-early ≡ false)
   unfolding bad-entry
   entry-facts e =
-      let p = neither (not (eqb (entry-kind file i) (suc i))) (not (eqb (body-offset file i) body-start) || ends-early) e in
+      let p = neither (not (kind-at i (entry-kind file i))) (not (eqb (body-offset file i) body-start) || ends-early) e in
       let q = neither (not (eqb (body-offset file i) body-start)) ends-early (p .1) in
-      (eqb-true _ _ (not-false _ (p .0)), eqb-true _ _ (not-false _ (q .0)), q .1)
+      (decides-kind i (entry-kind file i) .0 (not-false _ (p .0)), eqb-true _ _ (not-false _ (q .0)), q .1)
 
-  entry-test : entry-kind file i ≡ suc i → body-offset file i ≡ body-start → ends-early ≡ false → bad-entry file i ≡ false
+  entry-test : KindAt i (entry-kind file i) → body-offset file i ≡ body-start → ends-early ≡ false → bad-entry file i ≡ false
   unfolding bad-entry
-  entry-test k o l = rw (eq-eqb (entry-kind file i) (suc i) k, eq-eqb (body-offset file i) body-start o, l)
+  entry-test k o l = rw (test-passes (decides-kind i (entry-kind file i)) k, eq-eqb (body-offset file i) body-start o, l)
 
 start-after : (file : List ℕ) (i : ℕ) → body-start file (suc i) ≡ body-offset file i + body-length file i
 start-after file i = let back : suc i - 1 ≡ i = omega arith in rw (ne-eqb (suc i) 0 (λ e. omega arith), back)
@@ -179,7 +183,8 @@ pub decides-row-3 : (file : List ℕ) → Decides (bad-bodies file) (Row3 file)
 unfolding bad-bodies
 decides-row-3 file =
     let d =
-    decides-any (λ i. ltb 0 i && not (eqb (body-length file i % 8) 0)) (λ i. (0 < i) × (body-length file i % 8 ≢ 0)) (entry-count file)
-    (λ i. decides-and (decides-less 0 i) (decides-not (decides-equal (body-length file i % 8) 0))) in
+    decides-any (λ i. ltb 0 i && not (eqb (body-length file i % 8) (lead (entry-kind file i))))
+    (λ i. (0 < i) × (body-length file i % 8 ≢ lead (entry-kind file i))) (entry-count file)
+    (λ i. decides-and (decides-less 0 i) (decides-not (decides-equal (body-length file i % 8) (lead (entry-kind file i))))) in
     decides-or (decides-not (decides-equal (body-length file 0) nets-size))
     (λ e. let w = d .0 e in (w .0, w .2 .0, w .1, w .2 .1), λ e w. d .1 e (w .0, w .2, (w .1, w .3)))

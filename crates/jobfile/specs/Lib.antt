@@ -1,3 +1,4 @@
 pub mod Bytes
+pub mod VectorsBody
 pub mod Layout
 pub mod Open

@@ -25,9 +25,9 @@ use Rattle.findings.specs.FindingsTable.{TableRows, FindingsRows}
 use Rattle.reader.specs.declared.Job.{Job}
 use Rattle.reader.specs.declared.ReadJob.{ReadJob}
 use Rattle.reader.specs.declared.ReadJob.the-variants.{Content, Refused as Stopped}
-use Rattle.reader.specs.Reader.{JobContent, content, ListRows, ReaderRows, read-answer, vectors-read, responses-read, counted}
+use Rattle.reader.specs.Reader.{JobContent, content, FileBodyRows, ListRows, ReaderRows, read-answer, vectors-read, responses-read, counted}
 use Rattle.reader.specs.Reader.{meaning as read-meaning}
-use Rattle.reader.proofs.ReaderLaws.{read-by-table}
+use Rattle.reader.proofs.ReaderLaws.{read-by-table, set-of-file}
 use Rattle.reader.proofs.ReaderAnswers.{read-counted-refused, read-counted-full}
 use Rattle.decimal.specs.Decimal.{spaced, numbers-end}
 use Rattle.decimal.proofs.Numerals.{decimal-most}
@@ -158,14 +158,19 @@ module _ (file : List ℕ) where
   set-admitted c e =
       let by-rows : ByTable (ReaderRows file 64 64) (λ x. x ≡ content file) (full c) =
       subst (ByTable (ReaderRows file 64 64) (λ x. x ≡ content file)) e (read-by-table file 64 64) in
-      let job = content file in
-      let set = none-front (SetRows (job .network) (job .class) (job .vectors)) (ListRows file job 64 64)
-      (table-none-holds (λ x. x ≡ content file) (ReaderRows file 64 64) c by-rows .1 .1 .1) in
+      let set = set-of-file file (none-front (FileBodyRows file) (ListRows file (content file) 64 64)
+      (table-none-holds (λ x. x ≡ content file) (ReaderRows file 64 64) c by-rows .1 .1 .1)) in
       subst (λ (x : JobContent). NoneHolds (SetRows (x .network) (x .class) (x .vectors)))
       (sym (table-full (λ x. x ≡ content file) (ReaderRows file 64 64) c by-rows)) set
 
   content-read : (job : Job) (c : JobContent) → read-answer file 64 64 ≡ full c
-      → record { network = c .network; class = c .class; vectors = length (c .vectors); responses = length (c .responses) } ≡ job
+      → record {
+        network = c .network;
+        class = c .class;
+        kind = c .kind;
+        vectors = length (c .vectors);
+        responses = length (c .responses);
+      } ≡ job
       → ReadContent file job (lent-after (full (c .vectors)) (replicate 64 0)) (lent-after (full (c .responses)) (replicate 64 0))
   unfolding report
   content-read job c e same =

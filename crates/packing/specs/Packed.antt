@@ -25,10 +25,11 @@ unfoldable pub finding-words : List Finding → List ℕ
 finding-words [] = []
 finding-words (found ∷ table) = found .kind ∷ found .reach ∷ found .partners ∷ finding-words table
 
--- nets, level, gate, class, number of vectors, number of responses
+-- nets, level, gate, class, kind, number of vectors, number of responses
 unfoldable pub job-words : JobContent → List ℕ
 job-words job =
-    job .network .nets ∷ job .network .level ∷ job .network .gate ∷ job .class ∷ length (job .vectors) ∷ length (job .responses) ∷ []
+    job .network .nets ∷ job .network .level ∷ job .network .gate ∷ job .class ∷ job .kind ∷ length (job .vectors)
+    ∷ length (job .responses) ∷ []
 
 -- how many bytes a file has
 abbrev pub size-words : List ℕ → List ℕ

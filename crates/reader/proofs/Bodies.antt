@@ -1,22 +1,25 @@
 -- What a file of the right layout has: each body inside it, and its words.
 use mathlib.Core.Path.{_≡_, sym, _∙_}
-use mathlib.Core.Bool.{true, false, not, _&&_}
+use mathlib.Core.Bool.{true, false}
+use mathlib.Core.Logic.{inl, inr, ⊎-elim}
 use mathlib.Core.List.{List, []}
 use Prim.Native.Nat.{ℕ, zero, suc, _+_, _*_, _-_, _/_, _%_, _≤_, _<_}
 use native.Mathlib.Omega.{arith}
-use lib.Dec.{eqb, ltb}
-use lib.ListN.{length, take}
-use lib.Seq.{ext-getD, length-take-le, getD-take}
-use borrow.Author.Tests.{eqb-true, not-false}
+use lib.ListN.{length}
+use borrow.Author.Tests.{eqb-true}
 use Rattle.words.specs.Bits.{at}
-use Rattle.words.specs.Searching.{any}
-use Rattle.words.specs.Turning.{tabulate}
-use Rattle.words.proofs.Tests.{neither}
+use Rattle.words.specs.Turning.{transpose}
+use Rattle.words.proofs.Tests.{cases, equal-if-not-unequal}
 use Rattle.words.proofs.Columns.{length-tabulate, tabulate-at}
 use Rattle.jobfile.specs.Bytes.{number-at}
 use Rattle.jobfile.specs.Layout.{Layout, entry-count, bodies-at, body-offset, body-length, nets-size, bad-layout}
-use Rattle.jobfile.specs.Layout.{bad-bodies, body-words, has-responses, file-responses}
-use Rattle.jobfile.proofs.FileRows.{test→layout, two-entries}
+use Rattle.jobfile.specs.Layout.{entry-kind, bad-bodies, body-words, file-kind, file-count, file-vectors, has-responses, file-responses}
+use Rattle.jobfile.specs.VectorsBody.{lead, net-by-net}
+use Rattle.jobfile.proofs.FileRows.{test→layout, two-entries, decides-row-3}
+use Rattle.jobfile.proofs.StoredVectors.{vectors-turned, vectors-plain}
+
+pub lead-most : (kind : ℕ) → lead kind ≤ 1
+lead-most kind = ⊎-elim (λ e. rw e (omega arith)) (λ e. rw e (omega arith)) (cases (net-by-net kind))
 
 module _ (file : List ℕ) (e : bad-layout file ≡ false) where
   layout : Layout file
@@ -38,38 +41,63 @@ module _ (file : List ℕ) (e : bad-layout file ≡ false) where
   body-inside i l = body-ends (entry-count file - suc i) i (omega arith)
 
   pub nets-inside : bad-bodies file ≡ false → body-offset file 0 + nets-size ≤ length file
-  unfolding bad-bodies
   nets-inside f =
-      let words = any (entry-count file) (λ i. ltb 0 i && not (eqb (body-length file i % 8) 0)) in
       let size : body-length file 0 ≡ nets-size =
-      eqb-true _ _ (not-false _ (neither (not (eqb (body-length file 0) nets-size)) words f .0)) in
+      equal-if-not-unequal (body-length file 0) nets-size (λ n. decides-row-3 file .1 f (inl n)) in
       omega (arith, body-inside 0 (omega (arith, two-entries file e)))
 
-  -- at most 256 words, each in the file
+  -- a body is its lead and whole words
+  pub whole-words : bad-bodies file ≡ false → (i : ℕ) → 0 < i → i < entry-count file
+      → body-length file i % 8 ≡ lead (entry-kind file i)
+  whole-words f i p l = equal-if-not-unequal (body-length file i % 8) (lead (entry-kind file i))
+      (λ n. decides-row-3 file .1 f (inr (i, p, l, n)))
+
+  -- a body that is net by net has its count
+  pub count-inside : bad-bodies file ≡ false → net-by-net (file-kind file) ≡ true → body-offset file 1 < length file
+  count-inside f turned =
+      let two = two-entries file e in
+      let one : body-length file 1 % 8 ≡ 1 = whole-words f 1 (omega arith) (omega arith) ∙ rw turned in
+      omega (arith, body-inside 1 (omega arith))
+
+  -- at most 256 words
   pub words-most : (i : ℕ) → i < entry-count file → body-length file i / 8 ≤ 256
   words-most i l = omega (arith, body-inside i l, layout .size)
 
-  pub word-inside : (i t : ℕ) → i < entry-count file → t < body-length file i / 8 → body-offset file i + 8 * t + 8 ≤ length file
-  word-inside i t l m = omega (arith, body-inside i l)
-
 pub word-count : (file : List ℕ) (i : ℕ) → length (body-words file i) ≡ body-length file i / 8
 unfolding body-words
-word-count file i = length-tabulate (body-length file i / 8) (λ t. number-at file (body-offset file i + 8 * t) 8)
+word-count file i = length-tabulate (body-length file i / 8) (λ t. number-at file (body-offset file i + lead (entry-kind file i) + 8 * t) 8)
 
--- a list that begins with the words of body i
-pub begins-with-words : (file : List ℕ) (i : ℕ) (words : List ℕ) → body-length file i / 8 ≤ length words
-    → ((t : ℕ) → t < body-length file i / 8 → at words t ≡ number-at file (body-offset file i + 8 * t) 8)
-    → take (length (body-words file i)) words ≡ body-words file i
+-- they are all in the file
+pub words-inside : (file : List ℕ) (i : ℕ) → bad-layout file ≡ false → bad-bodies file ≡ false → 0 < i → i < entry-count file
+    → body-offset file i + lead (entry-kind file i) + 8 * length (body-words file i) ≤ length file
+words-inside file i e f p l = omega (arith, body-inside file e i l, whole-words file e f i p l, word-count file i)
+
+-- word t of body i, whose words begin at `start`
+pub word-read : (file : List ℕ) (i start t : ℕ) → start ≡ body-offset file i + lead (entry-kind file i) → t < length (body-words file i)
+    → number-at file (start + 8 * t) 8 ≡ at (body-words file i) t
 unfolding body-words
-begins-with-words file i words room h =
-    let n = body-length file i / 8 in
-    let word : ℕ → ℕ = λ t. number-at file (body-offset file i + 8 * t) 8 in
-    let size : length (take n words) ≡ n = length-take-le n words room in
-    rw (word-count file i)
-    (ext-getD 0 (take n words) (tabulate n word) (size ∙ sym (length-tabulate n word))
-    (λ t l.
-    let m : t < n = rw size at l in
-    getD-take n words t 0 m ∙ h t m ∙ sym (tabulate-at n word t m)))
+word-read file i start t begins m =
+    rw begins (sym (tabulate-at (body-length file i / 8) (λ t. number-at file (body-offset file i + lead (entry-kind file i) + 8 * t) 8) t
+    (rw (word-count file i) at m)))
+
+-- the vectors' body: its count is in its first byte, or that of its words
+module _ (file : List ℕ) where
+  pub count-stored : net-by-net (file-kind file) ≡ true → file-count file ≡ at file (body-offset file 1)
+  unfolding file-count
+  count-stored e = rw e
+
+  pub count-of-words : net-by-net (file-kind file) ≡ false → file-count file ≡ length (body-words file 1)
+  unfolding file-count
+  count-of-words e = rw e
+
+  -- the vectors are its words, or these turned
+  pub vectors-of-turned : net-by-net (file-kind file) ≡ true → file-vectors file ≡ transpose (file-count file) (body-words file 1)
+  unfolding file-vectors
+  vectors-of-turned e = vectors-turned (file-kind file) e (file-count file) (body-words file 1)
+
+  pub vectors-of-plain : net-by-net (file-kind file) ≡ false → file-vectors file ≡ body-words file 1
+  unfolding file-vectors
+  vectors-of-plain e = vectors-plain (file-kind file) e (file-count file) (body-words file 1)
 
 -- the responses: the words of the third body, if there is one
 module _ (file : List ℕ) where

@@ -4,39 +4,49 @@ use mathlib.Core.Bool.{Bool, true, false, _&&_, _||_}
 use mathlib.Core.List.{List, [], _∷_, _++_}
 use Prim.Native.Nat.{ℕ}
 use lib.ListN.{length}
-use Rattle.words.specs.Answers.{Answer, refused, full, by-tests, lent-after}
-use Rattle.words.proofs.Answers.{shared-refuse, shared-pass, refused-not-full}
-use Rattle.network.specs.declared.Network.{Network}
-use Rattle.network.specs.Rows.{set-tests, bad-response-count, has-high-bit, no-room}
+use Rattle.words.specs.Answers.{Answer, refused, full, NoneHolds, by-tests, lent-after}
+use Rattle.words.proofs.Answers.{shared-refuse, shared-pass, refused-not-full, AllFail, none-passed, full-answer}
+use Rattle.network.specs.Rows.{bad-response-count, has-high-bit, no-room}
 use Rattle.jobfile.specs.Layout.{bad-mark, bad-layout, bad-bodies, file-network, file-class, body-words, has-responses, file-responses}
+use Rattle.jobfile.specs.Layout.{file-kind, file-count, file-vectors}
+use Rattle.jobfile.proofs.StoredVectors.{vectors-count, body-none-holds}
+use Rattle.reader.proofs.Bodies.{count-of-words}
 use Rattle.reader.specs.declared.Job.{Job}
 use Rattle.reader.specs.Reader.{JobContent, content, read-answer, vectors-read, responses-read, counted}
+use Rattle.reader.specs.Reader.{FileBodyRows, file-body-tests}
 
--- the rows of the test set, 9 and 10; these two only where responses are given
-abbrev pub content-tests : Network → ℕ → (vectors responses : List ℕ) → Bool → List (ℕ × Bool)
-content-tests net k vectors responses given =
-    set-tests net k vectors
-    ++ (9, given && bad-response-count (length vectors) (length responses))
-    ∷ (10, given && has-high-bit (net .nets) responses)
-    ∷ []
+-- rows 9 and 10, only where there is a third entry
+abbrev pub nine : List ℕ → Bool
+nine file = has-responses file && bad-response-count (file-count file) (length (file-responses file))
 
-abbrev pub content-admission : Network → ℕ → (vectors responses : List ℕ) → Bool → Answer (Unit {0})
-content-admission net k vectors responses given = by-tests (content-tests net k vectors responses given) tt
+abbrev pub ten : List ℕ → Bool
+ten file = has-responses file && has-high-bit (file-network file .nets) (file-responses file)
 
--- the same of a file's content
+-- the rows of the test set and these
+abbrev file-content-tests : List ℕ → List (ℕ × Bool)
+file-content-tests file = file-body-tests file ++ (9, nine file) ∷ (10, ten file) ∷ []
+
 abbrev pub file-admission : List ℕ → Answer (Unit {0})
-file-admission file = content-admission (file-network file) (file-class file) (body-words file 1) (file-responses file) (has-responses file)
-
-pub content-same : (file : List ℕ) (net : Network) (k : ℕ) (vectors responses : List ℕ) (given : Bool)
-    → net ≡ file-network file → k ≡ file-class file
-    → vectors ≡ body-words file 1 → responses ≡ file-responses file → given ≡ has-responses file
-    → content-admission net k vectors responses given ≡ file-admission file
-content-same file net k vectors responses given a b c d e = rw (a, b, c, d, e)
+file-admission file = by-tests (file-content-tests file) tt
 
 -- row 12: either list
 abbrev pub file-no-room : List ℕ → (vectors-room responses-room : ℕ) → Bool
 file-no-room file vectors-room responses-room =
-    no-room (length (body-words file 1)) vectors-room || no-room (length (file-responses file)) responses-room
+    no-room (file-count file) vectors-room || no-room (length (file-responses file)) responses-room
+
+-- where they admit it, no row holds of the vectors' body
+pub body-admitted : (file : List ℕ) → file-admission file ≡ full tt → NoneHolds (FileBodyRows file)
+body-admitted file e =
+    body-none-holds (file-network file) (file-class file) (file-kind file) (file-count file) (body-words file 1)
+    (full-answer (file-body-tests file) tt (front (none-passed (file-content-tests file) tt tt e .0)))
+  where
+    front : AllFail (file-content-tests file) → AllFail (file-body-tests file)
+    front (a, (b, (c, (d, (e, (f, rest)))))) = (a, (b, (c, (d, (e, (f, tt))))))
+
+-- as many vectors as the file says
+pub vectors-said : (file : List ℕ) → length (file-vectors file) ≡ file-count file
+unfolding file-vectors
+vectors-said file = vectors-count (file-kind file) (file-count file) (body-words file 1) (count-of-words file)
 
 module _ (file : List ℕ) (vectors-room responses-room : ℕ) where
   pub by-row-1 : bad-mark file ≡ true → read-answer file vectors-room responses-room ≡ refused 1
@@ -54,25 +64,21 @@ module _ (file : List ℕ) (vectors-room responses-room : ℕ) where
       by-row-3 e = rw (mark, layout, e)
 
       module _ (bodies : bad-bodies file ≡ false) where
-        abbrev file-content-tests : List (ℕ × Bool)
-        file-content-tests =
-            content-tests (file-network file) (file-class file) (body-words file 1) (file-responses file) (has-responses file)
-
         by-content : read-answer file vectors-room responses-room
-            ≡ by-tests (file-content-tests ++ (12, file-no-room file vectors-room responses-room) ∷ []) (content file)
+            ≡ by-tests (file-content-tests file ++ (12, file-no-room file vectors-room responses-room) ∷ []) (content file)
         unfolding read-answer by-tests content
-        by-content = rw (mark, layout, bodies)
+        by-content = rw (mark, layout, bodies, vectors-said file)
 
         pub by-content-row : (number : ℕ) → file-admission file ≡ refused number
             → read-answer file vectors-room responses-room ≡ refused number
         by-content-row number e = by-content
-            ∙ shared-refuse tt (content file) file-content-tests
+            ∙ shared-refuse tt (content file) (file-content-tests file)
             ((12, file-no-room file vectors-room responses-room) ∷ []) number e
 
         module _ (admitted : file-admission file ≡ full tt) where
           by-own : read-answer file vectors-room responses-room
               ≡ by-tests ((12, file-no-room file vectors-room responses-room) ∷ []) (content file)
-          by-own = by-content ∙ shared-pass tt (content file) file-content-tests
+          by-own = by-content ∙ shared-pass tt (content file) (file-content-tests file)
               ((12, file-no-room file vectors-room responses-room) ∷ []) tt admitted
 
           pub by-row-12 : file-no-room file vectors-room responses-room ≡ true → read-answer file vectors-room responses-room ≡ refused 12
@@ -94,6 +100,7 @@ pub read-counted-full : (a : Answer JobContent) (job : Job) → counted a ≡ fu
     × (record {
       network = c .network;
       class = c .class;
+      kind = c .kind;
       vectors = length (c .vectors);
       responses = length (c .responses);
     } ≡ job)
@@ -113,10 +120,11 @@ module _ (file : List ℕ) where
       → job ≡ record {
         network = file-network file;
         class = file-class file;
-        vectors = length (body-words file 1);
+        kind = file-kind file;
+        vectors = length (file-vectors file);
         responses = length (file-responses file);
       }
-      → vectors-after ≡ lent-after (full (body-words file 1)) vectors → responses-after ≡ lent-after (full (file-responses file)) responses
+      → vectors-after ≡ lent-after (full (file-vectors file)) vectors → responses-after ≡ lent-after (full (file-responses file)) responses
       → (full job ≡ counted a) ×
       ((vectors-after ≡ lent-after (vectors-read a) vectors)
       × (responses-after ≡ lent-after (responses-read a) responses))

@@ -7,12 +7,16 @@ use Prim.Native.Nat.{ℕ}
 use lib.ListN.{length}
 use Rattle.words.specs.Answers.{Answer, ByTable, Decides, Decided}
 use Rattle.words.proofs.Tests.{decides-itself, decides-or, decides-and}
+use Rattle.words.specs.Answers.{NoneHolds}
 use Rattle.words.proofs.Answers.{decided-append, tests-by-table, table-determined}
-use Rattle.network.specs.Rows.{SetRows, Row12, set-tests, no-room}
-use Rattle.network.proofs.Rows.{decides-set, decides-row-9, decides-high-bit, decides-row-12}
-use Rattle.jobfile.specs.Layout.{has-responses}
+use Rattle.reader.proofs.Bodies.{count-of-words}
+use Rattle.network.specs.Rows.{SetRows, Row12, no-room}
+use Rattle.network.proofs.Rows.{decides-row-9, decides-high-bit, decides-row-12}
+use Rattle.jobfile.specs.Layout.{file-network, file-class, file-kind, file-count, file-vectors, body-words, has-responses}
+use Rattle.jobfile.proofs.StoredVectors.{decides-body, set-of-body}
 use Rattle.jobfile.proofs.FileRows.{decides-row-1, decides-row-2, decides-row-3}
-use Rattle.reader.specs.Reader.{JobContent, content, FileRows, ListRows, ReaderRows, file-tests, list-tests}
+use Rattle.reader.specs.Reader.{JobContent, content, FileRows, FileBodyRows, ListRows, ReaderRows, file-tests}
+use Rattle.reader.specs.Reader.{file-body-tests, list-tests}
 use Rattle.reader.specs.Reader.{reader-tests, read-answer}
 
 decides-given-row : (file : List ℕ) {b : Bool} {B : Type 0} → Decides b B
@@ -44,15 +48,12 @@ module _ (file : List ℕ) (vectors-room responses-room : ℕ) where
   decides-rows : Decided (ReaderRows file vectors-room responses-room)
       (reader-tests file (content file) vectors-room responses-room)
   decides-rows =
-      let job = content file in
-      decided-append (FileRows file)
-      (SetRows (job .network) (job .class) (job .vectors) ++ ListRows file job vectors-room responses-room)
-      (file-tests file)
-      (set-tests (job .network) (job .class) (job .vectors) ++ list-tests file job vectors-room responses-room) decides-file
-      (λ _.
-      decided-append (SetRows (job .network) (job .class) (job .vectors))
-      (ListRows file job vectors-room responses-room) (set-tests (job .network) (job .class) (job .vectors))
-      (list-tests file job vectors-room responses-room) (decides-set (job .network) (job .class) (job .vectors)) (λ _. decides-lists job))
+      let lists = ListRows file (content file) vectors-room responses-room in
+      let list-ones = list-tests file (content file) vectors-room responses-room in
+      decided-append (FileRows file) (FileBodyRows file ++ lists) (file-tests file) (file-body-tests file ++ list-ones) decides-file
+      (λ _. decided-append (FileBodyRows file) lists (file-body-tests file) list-ones
+      (decides-body (file-network file) (file-class file) (file-kind file) (file-count file) (body-words file 1))
+      (λ _. decides-lists (content file)))
 
   pub read-by-table : ByTable (ReaderRows file vectors-room responses-room) (λ job. job ≡ content file)
       (read-answer file vectors-room responses-room)
@@ -66,3 +67,10 @@ module _ (file : List ℕ) (vectors-room responses-room : ℕ) where
       → ByTable (ReaderRows file vectors-room responses-room) (λ job. job ≡ content file) b → a ≡ b
   read-determined a b = table-determined (λ job. job ≡ content file) (ReaderRows file vectors-room responses-room) a b
       (λ _ x y p q. p ∙ sym q)
+
+-- where no row of the vectors' body holds, none of a test set's holds of the vectors
+pub set-of-file : (file : List ℕ) → NoneHolds (FileBodyRows file)
+    → NoneHolds (SetRows (content file .network) (content file .class) (content file .vectors))
+unfolding content file-vectors
+set-of-file file none =
+    set-of-body (file-network file) (file-class file) (file-kind file) (file-count file) (body-words file 1) (count-of-words file) none

@@ -11,10 +11,12 @@ mod reading;
 use network::Admission;
 use network::Network;
 
-// What the reader answers besides the words: the network, the class, and how many vectors and responses were read.
+// What the reader answers besides the words: the network, the class, the kind of the vectors' body, and how many
+// vectors and responses were read.
 pub struct Job {
     pub network: Network,
     pub class: u64,
+    pub kind: u64,
     pub vectors: usize,
     pub responses: usize,
 }
@@ -40,33 +42,23 @@ fn read_content(file: &[u8], vectors: &mut [u64], responses: &mut [u64]) -> Read
         (read-answer (now (file .entry)) (length (now (vectors .entry))) (length (now (responses .entry)))))
         (now (responses .entry)) ⌝ }
 {
-    let network = reading::file_network(file);
-    let class = reading::file_class(file);
-    let given = reading::has_responses(file);
-    let sent = reading::body_words(file, 1);
-    let sent_count = reading::word_count(file, 1);
-    let came = reading::response_words(file);
-    let came_count = reading::response_count(file);
-    let admission = reading::admit_job(
-        network,
-        class,
-        &sent[..sent_count],
-        &came[..came_count],
-        given,
-    );
+    let admission = reading::admit_job(file);
     if let Admission::Refused(number) = admission {
         return ReadJob::Refused(number);
     }
-    if reading::no_room(sent_count, vectors.len(), came_count, responses.len()) {
+    let sent = reading::file_count(file);
+    let came = reading::response_count(file);
+    if reading::no_room(sent, vectors.len(), came, responses.len()) {
         return ReadJob::Refused(12);
     }
-    words::lists::copy_words(&sent[..sent_count], vectors);
-    words::lists::copy_words(&came[..came_count], responses);
+    reading::put_vectors(file, vectors);
+    reading::put_responses(file, responses);
     ReadJob::Content(Job {
-        network,
-        class,
-        vectors: sent_count,
-        responses: came_count,
+        network: reading::file_network(file),
+        class: reading::file_class(file),
+        kind: reading::file_kind(file),
+        vectors: sent,
+        responses: came,
     })
 }
 

@@ -4,6 +4,7 @@ pub mod Places
 pub mod Bits
 pub mod Making
 pub mod Columns
+pub mod Adding
 pub mod Classes
 pub mod Passing
 pub mod Counting

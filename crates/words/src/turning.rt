@@ -1,6 +1,6 @@
-// Turning: from parallel words the sequential words of the nets, from sequential words the parallel word of a vector.
-// The two are one exchange of rows and columns. Helpers between crates: at most 64 words, an index below 64, at
-// most 64 columns.
+// Turning: from parallel words the sequential words of the nets, from sequential words the parallel words of the
+// vectors. The two are one exchange of rows and columns. Helpers between crates: at most 64 words, an index below 64,
+// at most 64 columns.
 ghost use mathlib.Core.Path.{_≡_};
 ghost use Prim.Native.Nat.{ℕ, _+_, _*_, _^_, _<_, _≤_};
 ghost use lib.ListN.{length};
@@ -25,19 +25,37 @@ fn column(rows: &[u64], i: u64) -> u64
     w
 }
 
-// Bit t into the column of each net whose driver drives 1 on the vector.
-fn add_row(vector: Ptv, t: u64, columns: &mut [u64; 64])
+// A word of either kind as row t: bit t into each column of which it has the bit.
+fn add_row(word: u64, t: u64, columns: &mut [u64; 64])
     requires { ⌜ (t < 64) × (length (now columns) ≡ 64) × ((i : ℕ) → i < 64 → at (now columns) i < 2 ^ t) ⌝ }
     ensures { λ r. ⌜ (length (now (columns .exit)) ≡ 64) × ((i : ℕ) → i < 64
-        → at (now (columns .exit)) i ≡ at (now (columns .entry)) i + «bit-value» (has (vector .0) i) * 2 ^ t) ⌝ }
+        → at (now (columns .exit)) i ≡ at (now (columns .entry)) i + «bit-value» (has word i) * 2 ^ t) ⌝ }
 {
     let row = crate::sets::bit_word(t);
-    let mut rest = vector.0;
+    let mut rest = word;
     while rest != 0 {
         let i = crate::sets::lowest_net(rest);
         columns[i as usize] += row;
         rest &= rest - 1;
     }
+}
+
+// A vector as row t: a column for each net.
+fn add_vector(vector: Ptv, t: u64, columns: &mut [u64; 64])
+    requires { ⌜ (t < 64) × (length (now columns) ≡ 64) × ((i : ℕ) → i < 64 → at (now columns) i < 2 ^ t) ⌝ }
+    ensures { λ r. ⌜ (length (now (columns .exit)) ≡ 64) × ((i : ℕ) → i < 64
+        → at (now (columns .exit)) i ≡ at (now (columns .entry)) i + «bit-value» (has (vector .0) i) * 2 ^ t) ⌝ }
+{
+    add_row(vector.0, t, columns);
+}
+
+// The sequential word of net t as row t: a column for each vector.
+fn add_net(word: Stv, t: u64, columns: &mut [u64; 64])
+    requires { ⌜ (t < 64) × (length (now columns) ≡ 64) × ((i : ℕ) → i < 64 → at (now columns) i < 2 ^ t) ⌝ }
+    ensures { λ r. ⌜ (length (now (columns .exit)) ≡ 64) × ((i : ℕ) → i < 64
+        → at (now (columns .exit)) i ≡ at (now (columns .entry)) i + «bit-value» (has (word .0) i) * 2 ^ t) ⌝ }
+{
+    add_row(word.0, t, columns);
 }
 
 // All columns of parallel words below bit n: entry i is the sequential word of net i. Only the bits that are set are
@@ -51,13 +69,29 @@ pub fn columns(words: &[u64], n: u64) -> [u64; 64]
     let mut t: usize = 0;
     while t < words.len() {
         let word = words[t] & inside;
-        add_row(Ptv(word), t as u64, &mut columns);
+        add_vector(Ptv(word), t as u64, &mut columns);
         t += 1;
     }
     columns
 }
 
-// The sequential word of a net, of columns turned before.
+// The same of sequential words: entry t is the parallel word of vector t.
+pub fn vector_columns(words: &[u64], n: u64) -> [u64; 64]
+    requires { ⌜ (length (now words) ≤ 64) × (n ≤ 64) ⌝ }
+    ensures { λ r. ⌜ (length r ≡ 64) × Columns n (now (words .entry)) r ⌝ }
+{
+    let inside = crate::sets::low_ones(n);
+    let mut columns = [0u64; 64];
+    let mut i: usize = 0;
+    while i < words.len() {
+        let word = words[i] & inside;
+        add_net(Stv(word), i as u64, &mut columns);
+        i += 1;
+    }
+    columns
+}
+
+// The sequential word of a net, of the columns of parallel words.
 pub fn sequential_word(columns: &[u64; 64], net: u64) -> Stv
     requires { ⌜ net < 64 ⌝ }
     ensures { λ r. ⌜ r .0 ≡ at (now (columns .entry)) net ⌝ }
@@ -65,7 +99,15 @@ pub fn sequential_word(columns: &[u64; 64], net: u64) -> Stv
     Stv(columns[net as usize])
 }
 
-// The parallel word of a vector: bit i is its bit in the sequential word of net i.
+// The parallel word of a vector, of the columns of sequential words.
+pub fn turned_vector(columns: &[u64; 64], vector: u64) -> Ptv
+    requires { ⌜ vector < 64 ⌝ }
+    ensures { λ r. ⌜ r .0 ≡ at (now (columns .entry)) vector ⌝ }
+{
+    Ptv(columns[vector as usize])
+}
+
+// The same where few vectors are wanted: bit i is the vector's bit in the sequential word of net i.
 pub fn parallel_word(words: &[u64], vector: u64) -> Ptv
     requires { ⌜ (length (now words) ≤ 64) × (vector < 64) ⌝ }
     ensures { λ r. ⌜ r .0 ≡ column (now (words .entry)) vector ⌝ }

@@ -12,11 +12,13 @@ use lib.ListN.{length, length-append}
 use borrow.Author.Tests.{lt-ltb, eqb-true, not-false}
 use Rattle.words.specs.Answers.{Answer, ByTable, Decides, Decided}
 use Rattle.words.proofs.Answers.{decided-append, tests-by-table, table-determined}
-use Rattle.words.proofs.Tests.{decides-and}
+use Rattle.words.proofs.Tests.{decides-and, decides-not}
 use Rattle.network.specs.declared.Network.{Network}
 use Rattle.network.specs.Rows.{SetRows, set-tests, bad-response-count}
 use Rattle.network.proofs.Rows.{decides-set, decides-row-9, decides-high-bit, decides-row-12}
 use Rattle.jobfile.specs.Bytes.{bytes-of, word-bytes}
+use Rattle.jobfile.specs.VectorsBody.{vectors-bytes}
+use Rattle.jobfile.proofs.StoredVectors.{decides-vectors-kind}
 use Rattle.jobfile.specs.Layout.{mark, entry-at, bodies-at, nets-bytes, nets-size}
 use Rattle.jobfile.proofs.ByteLaws.{bytes-count, word-bytes-count}
 use Rattle.writer.specs.Writer.{entry-bytes, response-entry, entries-for, head-of, bodies-of, file-of, OwnRows}
@@ -58,32 +60,32 @@ pub response-entry-size : (offset : ℕ) (responses : List ℕ)
 response-entry-size offset [] = omega arith
 response-entry-size offset (word ∷ words) = let size = entry-size 3 offset (8 * length (word ∷ words)) in omega arith
 
-module _ (vectors responses : List ℕ) where
-  pub head-size : length (head-of vectors responses) ≡ bodies-at (entries-for responses)
-  head-size =
-      let start = bodies-at (entries-for responses) in
-      let one = entry-bytes 1 start nets-size in
-      let two = entry-bytes 2 (start + nets-size) (8 * length vectors) in
-      let three = response-entry (start + nets-size + 8 * length vectors) responses in
-      let a = length-append (mark ++ entries-for responses ∷ one ++ two) three in
-      let b = length-append (mark ++ entries-for responses ∷ one) two in
-      let c = length-append mark (entries-for responses ∷ one) in
-      let d = entry-size 1 start nets-size in
-      let e = entry-size 2 (start + nets-size) (8 * length vectors) in
-      let f = response-entry-size (start + nets-size + 8 * length vectors) responses in
-      omega arith
+pub head-size : (kind size : ℕ) (responses : List ℕ) → length (head-of kind size responses) ≡ bodies-at (entries-for responses)
+head-size kind size responses =
+    let start = bodies-at (entries-for responses) in
+    let one = entry-bytes 1 start nets-size in
+    let two = entry-bytes kind (start + nets-size) size in
+    let three = response-entry (start + nets-size + size) responses in
+    let a = length-append (mark ++ entries-for responses ∷ one ++ two) three in
+    let b = length-append (mark ++ entries-for responses ∷ one) two in
+    let c = length-append mark (entries-for responses ∷ one) in
+    let d = entry-size 1 start nets-size in
+    let e = entry-size kind (start + nets-size) size in
+    let f = response-entry-size (start + nets-size + size) responses in
+    omega arith
 
-  pub file-size : (net : Network) (k : ℕ)
-      → length (file-of net k vectors responses)
-      ≡ bodies-at (entries-for responses) + nets-size + 8 * length vectors + 8 * length responses
-  unfolding file-of
-  file-size net k =
-      let a = length-append (head-of vectors responses) (bodies-of net k vectors responses) in
-      let b = length-append (nets-bytes net k ++ word-bytes vectors) (word-bytes responses) in
-      let c = word-bytes-count vectors in
-      let d = word-bytes-count responses in
-      let e = head-size in
-      omega arith
+pub file-size : (kind : ℕ) (vectors responses : List ℕ) (net : Network) (k : ℕ)
+    → length (file-of kind net k vectors responses)
+    ≡ bodies-at (entries-for responses) + nets-size + length (vectors-bytes kind (net .nets) vectors) + 8 * length responses
+unfolding file-of
+file-size kind vectors responses net k =
+    let body = vectors-bytes kind (net .nets) vectors in
+    let a = length-append (head-of kind (length body) responses) (bodies-of net k body responses) in
+    let b = length-append (nets-bytes net k ++ body) (word-bytes responses) in
+    let c = length-append (nets-bytes net k) body in
+    let d = word-bytes-count responses in
+    let e = head-size kind (length body) responses in
+    omega arith
 
 -- ---- the rows
 
@@ -104,35 +106,38 @@ responses-most vectors [] e = omega arith
 responses-most vectors (word ∷ words) e =
     let same = eqb-true (length (word ∷ words)) (length vectors) (not-false (eqb (length (word ∷ words)) (length vectors)) e) in omega arith
 
-module _ (net : Network) (k : ℕ) (vectors responses : List ℕ) (room : ℕ) where
-  decides-rows : Decided (WriterRows net k vectors responses room) (writer-tests net k vectors responses room)
+module _ (kind : ℕ) (net : Network) (k : ℕ) (vectors responses : List ℕ) (room : ℕ) where
+  decides-rows : Decided (WriterRows kind net k vectors responses room) (writer-tests kind net k vectors responses room)
   decides-rows =
-      let is-given = decides-given responses in
-      decided-append (SetRows net k vectors) (OwnRows net k vectors responses room) (set-tests net k vectors)
-      (own-tests net k vectors responses room)
-      (decides-set net k vectors)
-      (λ _. (
+      let is-given = decides-given responses in (
         refl,
-        decides-and is-given (decides-row-9 (length vectors) (length responses)),
-        λ _. (
-          refl,
-          decides-and is-given (decides-high-bit (net .nets) responses),
-          λ _.
-              (refl, decides-row-12 (length (file-of net k vectors responses)) room, λ _. tt),
-        ),
-      ))
+        decides-not (decides-vectors-kind kind),
+        λ _. decided-append (SetRows net k vectors) (OwnRows kind net k vectors responses room) (set-tests net k vectors)
+            (own-tests kind net k vectors responses room)
+            (decides-set net k vectors)
+            (λ _. (
+              refl,
+              decides-and is-given (decides-row-9 (length vectors) (length responses)),
+              λ _. (
+                refl,
+                decides-and is-given (decides-high-bit (net .nets) responses),
+                λ _.
+                    (refl, decides-row-12 (length (file-of kind net k vectors responses)) room, λ _. tt),
+              ),
+            )),
+      )
 
-  pub write-by-table : ByTable (WriterRows net k vectors responses room)
-      (λ bytes. bytes ≡ file-of net k vectors responses) (write-answer net k vectors responses room)
+  pub write-by-table : ByTable (WriterRows kind net k vectors responses room)
+      (λ bytes. bytes ≡ file-of kind net k vectors responses) (write-answer kind net k vectors responses room)
   unfolding write-answer
   write-by-table =
-      tests-by-table (λ bytes. bytes ≡ file-of net k vectors responses) (WriterRows net k vectors responses room)
-      (writer-tests net k vectors responses room)
-      (file-of net k vectors responses) decides-rows (λ _. refl)
+      tests-by-table (λ bytes. bytes ≡ file-of kind net k vectors responses) (WriterRows kind net k vectors responses room)
+      (writer-tests kind net k vectors responses room)
+      (file-of kind net k vectors responses) decides-rows (λ _. refl)
 
   pub write-determined : (a b : Answer (List ℕ))
-      → ByTable (WriterRows net k vectors responses room) (λ bytes. bytes ≡ file-of net k vectors responses) a
-      → ByTable (WriterRows net k vectors responses room) (λ bytes. bytes ≡ file-of net k vectors responses) b → a ≡ b
+      → ByTable (WriterRows kind net k vectors responses room) (λ bytes. bytes ≡ file-of kind net k vectors responses) a
+      → ByTable (WriterRows kind net k vectors responses room) (λ bytes. bytes ≡ file-of kind net k vectors responses) b → a ≡ b
   write-determined a b =
-      table-determined (λ bytes. bytes ≡ file-of net k vectors responses) (WriterRows net k vectors responses room) a b
+      table-determined (λ bytes. bytes ≡ file-of kind net k vectors responses) (WriterRows kind net k vectors responses room) a b
       (λ _ x y p q. p ∙ sym q)

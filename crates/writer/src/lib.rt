@@ -15,9 +15,10 @@ pub enum Wrote {
     Refused(u64),
 }
 
-// The call *write a job file*: its bytes into the front of `file`. Rows 5, 6, 17, 20, 7, 8, 9, 10, 12; 9 and 10 only
-// if there are responses.
+// The call *write a job file*: its bytes into the front of `file`, the vectors' body of this kind, 2 or 4. Rows 2, 5,
+// 6, 17, 20, 7, 8, 9, 10, 12; 9 and 10 only if there are responses.
 pub fn write_job(
+    kind: u64,
     net: Network,
     class: u64,
     vectors: &[u64],
@@ -25,12 +26,15 @@ pub fn write_job(
     file: &mut [u8],
 ) -> Wrote
     ensures answer { λ r. ⌜ meaning r
-        ≡ count-of (write-answer net class (now (vectors .entry)) (now (responses .entry))
+        ≡ count-of (write-answer kind net class (now (vectors .entry)) (now (responses .entry))
         (length (now (file .entry)))) ⌝ }
     ensures list { λ r. ⌜ now (file .exit)
-        ≡ lent-after (write-answer net class (now (vectors .entry)) (now (responses .entry))
+        ≡ lent-after (write-answer kind net class (now (vectors .entry)) (now (responses .entry))
         (length (now (file .entry)))) (now (file .entry)) ⌝ }
 {
+    if writing::bad_kind(kind) {
+        return Wrote::Refused(2);
+    }
     let admission = network::refusals::admit_set(net, class, vectors);
     if let Admission::Refused(number) = admission {
         return Wrote::Refused(number);
@@ -42,10 +46,10 @@ pub fn write_job(
     if given & network::refusals::has_high_bit(net.nets, responses) {
         return Wrote::Refused(10);
     }
-    let size = writing::file_size(vectors, responses);
+    let size = writing::file_size(kind, net, vectors, responses);
     if network::refusals::no_room(size, file.len()) {
         return Wrote::Refused(12);
     }
-    writing::put_file(file, net, class, vectors, responses);
+    writing::put_file(file, kind, net, class, vectors, responses);
     Wrote::Bytes(size as u64)
 }

@@ -5,12 +5,14 @@ ghost use mathlib.Core.List.{[], _∷_};
 ghost use Prim.Native.Nat.{ℕ, _+_, _*_, _<_, _≤_};
 ghost use lib.ListN.{length};
 ghost use Rattle.words.specs.Answers.{full, «lent-after»};
+ghost use Rattle.words.specs.Turning.{transpose};
 ghost use Rattle.words.specs.Writing.{written};
 ghost use Rattle.network.specs.declared.Network.{Network};
 ghost use Rattle.jobfile.specs.Bytes.{«bytes-of», «word-bytes», AllBytes};
 ghost use Rattle.jobfile.specs.Layout.{«bodies-at», «nets-bytes», «nets-size»};
 ghost use Rattle.writer.specs.Writer.{«entry-bytes», «response-entry», «entries-for», «head-of»};
-ghost use Rattle.writer.specs.Writer.{«bodies-of», «file-of»};
+ghost use Rattle.writer.specs.Writer.{«bodies-of», «file-of», «bad-kind»};
+ghost use Rattle.jobfile.specs.VectorsBody.{«vectors-bytes»};
 use jobfile::NETS_SIZE;
 use network::Network;
 
@@ -75,12 +77,30 @@ fn bodies_at(responses: &[u64]) -> usize
     5 + 9 * entries_for(responses)
 }
 
-// How many bytes the file has, whatever the network and the class.
-pub fn file_size(vectors: &[u64], responses: &[u64]) -> usize
-    requires { ⌜ (length (now vectors) ≤ 64) × (length (now responses) ≤ 64) ⌝ }
-    ensures { λ r. ⌜ ((net : Network) (k : ℕ) → r ≡ length (file-of net k (now (vectors .entry)) (now (responses .entry)))) ⌝ }
+// Row 2: a kind of the vectors' body that is neither 2 nor 4.
+pub fn bad_kind(kind: u64) -> bool
+    ensures { λ r. ⌜ r ≡ bad-kind kind ⌝ }
 {
-    bodies_at(responses) + NETS_SIZE + 8 * vectors.len() + 8 * responses.len()
+    !((kind == 2) | (kind == 4))
+}
+
+// How many bytes the vectors' body has.
+fn vectors_size(kind: u64, nets: u64, vectors: &[u64]) -> usize
+    requires { ⌜ (nets ≤ 48) × (length (now vectors) ≤ 64) ⌝ }
+    ensures { λ r. ⌜ (r ≡ length (vectors-bytes kind nets (now (vectors .entry)))) × (r ≤ 512) ⌝ }
+{
+    if kind == 4 {
+        return 1 + 8 * (nets as usize);
+    }
+    8 * vectors.len()
+}
+
+// How many bytes the file has, whatever the class.
+pub fn file_size(kind: u64, net: Network, vectors: &[u64], responses: &[u64]) -> usize
+    requires { ⌜ (net .nets ≤ 48) × (length (now vectors) ≤ 64) × (length (now responses) ≤ 64) ⌝ }
+    ensures { λ r. ⌜ ((k : ℕ) → r ≡ length (file-of kind net k (now (vectors .entry)) (now (responses .entry)))) ⌝ }
+{
+    bodies_at(responses) + NETS_SIZE + vectors_size(kind, net.nets, vectors) + 8 * responses.len()
 }
 
 // The entry of the responses, if there are any.
@@ -94,17 +114,16 @@ fn put_response_entry(file: &mut [u8], offset: usize, body: usize, responses: &[
 }
 
 // What stands before the bodies.
-fn put_head(file: &mut [u8], vectors: &[u64], responses: &[u64])
-    requires { ⌜ (length (now vectors) ≤ 64) × (bodies-at (entries-for (now responses)) ≤ length (now file)) ⌝ }
-    ensures { λ r. ⌜ now (file .exit) ≡ written (now (file .entry)) 0 (head-of (now (vectors .entry)) (now (responses .entry))) ⌝ }
+fn put_head(file: &mut [u8], kind: u8, size: usize, responses: &[u64])
+    requires { ⌜ (size ≤ 512) × (bodies-at (entries-for (now responses)) ≤ length (now file)) ⌝ }
+    ensures { λ r. ⌜ now (file .exit) ≡ written (now (file .entry)) 0 (head-of kind size (now (responses .entry))) ⌝ }
 {
     let entries = entries_for(responses);
     let start = bodies_at(responses);
-    let size = 8 * vectors.len();
     jobfile::put_mark(file);
     put_byte(file, 4, entries as u8);
     put_entry(file, 5, 1, start, NETS_SIZE);
-    put_entry(file, 14, 2, start + NETS_SIZE, size);
+    put_entry(file, 14, kind, start + NETS_SIZE, size);
     put_response_entry(file, 23, start + NETS_SIZE + size, responses);
 }
 
@@ -119,35 +138,73 @@ fn put_nets(file: &mut [u8], offset: usize, net: Network, class: u64)
     put_byte(file, offset + 3, net.gate as u8);
 }
 
+// The vectors' body net by net: their number, then the sequential words.
+fn put_turned(file: &mut [u8], offset: usize, nets: u64, vectors: &[u64])
+    requires { ⌜ (nets ≤ 48) × (length (now vectors) ≤ 64) × (offset + 1 + 8 * nets ≤ length (now file)) ⌝ }
+    ensures { λ r. ⌜ now (file .exit) ≡ written (now (file .entry)) offset
+        (length (now (vectors .entry)) ∷ word-bytes (transpose nets (now (vectors .entry)))) ⌝ }
+{
+    let n = nets as usize;
+    let mut turned = [0u64; 48];
+    turning::fill_sequential(vectors, nets, &mut turned);
+    put_byte(file, offset, vectors.len() as u8);
+    put_words(file, offset + 1, &turned[..n]);
+}
+
+// The vectors' body.
+fn put_vectors(file: &mut [u8], offset: usize, kind: u64, nets: u64, vectors: &[u64])
+    requires { ⌜ (nets ≤ 48) × (length (now vectors) ≤ 64)
+        × (offset + length (vectors-bytes kind nets (now vectors)) ≤ length (now file)) ⌝ }
+    ensures { λ r. ⌜ now (file .exit)
+        ≡ written (now (file .entry)) offset (vectors-bytes kind nets (now (vectors .entry))) ⌝ }
+{
+    if kind == 4 {
+        put_turned(file, offset, nets, vectors);
+    } else {
+        put_words(file, offset, vectors);
+    }
+}
+
 // The nets body, then the words.
 fn put_bodies(
     file: &mut [u8],
     offset: usize,
+    kind: u64,
     net: Network,
     class: u64,
     vectors: &[u64],
     responses: &[u64],
 )
-    requires { ⌜ AllBytes (nets-bytes net class)
-        × (offset + nets-size + 8 * length (now vectors) + 8 * length (now responses) ≤ length (now file)) ⌝ }
+    requires { ⌜ AllBytes (nets-bytes net class) × (net .nets ≤ 48) × (length (now vectors) ≤ 64)
+        × (offset + nets-size + length (vectors-bytes kind (net .nets) (now vectors)) + 8 * length (now responses)
+        ≤ length (now file)) ⌝ }
     ensures { λ r. ⌜ now (file .exit)
         ≡ written (now (file .entry)) offset
-        (bodies-of net class (now (vectors .entry)) (now (responses .entry))) ⌝ }
+        (bodies-of net class (vectors-bytes kind (net .nets) (now (vectors .entry))) (now (responses .entry))) ⌝ }
 {
+    let size = vectors_size(kind, net.nets, vectors);
     put_nets(file, offset, net, class);
-    put_words(file, offset + NETS_SIZE, vectors);
-    put_words(file, offset + NETS_SIZE + 8 * vectors.len(), responses);
+    put_vectors(file, offset + NETS_SIZE, kind, net.nets, vectors);
+    put_words(file, offset + NETS_SIZE + size, responses);
 }
 
 // The whole file into the front of a lent one.
-pub fn put_file(file: &mut [u8], net: Network, class: u64, vectors: &[u64], responses: &[u64])
-    requires { ⌜ AllBytes (nets-bytes net class) × (length (now vectors) ≤ 64)
-        × (length (file-of net class (now vectors) (now responses)) ≤ length (now file)) ⌝ }
+pub fn put_file(
+    file: &mut [u8],
+    kind: u64,
+    net: Network,
+    class: u64,
+    vectors: &[u64],
+    responses: &[u64],
+)
+    requires { ⌜ (kind < 256) × AllBytes (nets-bytes net class) × (net .nets ≤ 48) × (length (now vectors) ≤ 64)
+        × (length (file-of kind net class (now vectors) (now responses)) ≤ length (now file)) ⌝ }
     ensures { λ r. ⌜ now (file .exit)
-        ≡ lent-after (full (file-of net class (now (vectors .entry)) (now (responses .entry))))
+        ≡ lent-after (full (file-of kind net class (now (vectors .entry)) (now (responses .entry))))
         (now (file .entry)) ⌝ }
 {
     let start = bodies_at(responses);
-    put_head(file, vectors, responses);
-    put_bodies(file, start, net, class, vectors, responses);
+    let size = vectors_size(kind, net.nets, vectors);
+    put_head(file, kind as u8, size, responses);
+    put_bodies(file, start, kind, net, class, vectors, responses);
 }

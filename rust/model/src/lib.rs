@@ -17,13 +17,15 @@ pub mod responding;
 pub mod rows;
 pub mod session;
 pub mod shortening;
+pub mod turning;
 pub mod words;
 
 pub use board::Board;
 pub use checker::{check, Verdict};
 pub use diagnosis::{diagnose, findings, Finding};
-pub use jobfile::{read_job, write_job, Job};
+pub use jobfile::{read_job, write_job, Job, PARALLEL, SEQUENTIAL};
 pub use network::{Network, AND, OR};
 pub use responding::respond;
 pub use session::{begin, first_answers, second_answers, to_drive, Record};
 pub use shortening::{shorten, Shorter};
+pub use turning::{turn, turn_back};

@@ -86,11 +86,17 @@ pub fn bad_gate(gate: u64) -> bool {
 }
 
 /// Row 7.
-pub fn bad_vector_count(count: usize) -> bool {
+pub fn bad_vector_count(count: u64) -> bool {
     !(1..=64).contains(&count)
 }
 
-/// Row 8, of n bits, and row 10, of m bits: a bit at or above that many.
+/// Row 7 of sequential words: the same, and besides words that are not n.
+pub fn bad_sequential_words(n: u64, count: u64, words: &[u64]) -> bool {
+    bad_vector_count(count) || words.len() as u64 != n
+}
+
+/// Row 8, of n bits or in a sequential word as many as there are vectors, and row 10, of m bits: a bit at or above that
+/// many.
 pub fn has_high_bit(bits: u64, words: &[u64]) -> bool {
     words.iter().any(|word| (0..64).any(|i| i >= bits && bit(*word, i)))
 }
@@ -101,48 +107,62 @@ pub fn bad_state(board: &Board, k: u64, state: &[u64]) -> bool {
 }
 
 /// Row 5.
-fn row_of_net_count<'a>(net: Network) -> Rows<'a> {
-    Rows::new().row(5, move || bad_net_count(net.nets))
+pub fn row_of_net_count<'a>(n: u64) -> Rows<'a> {
+    Rows::new().row(5, move || bad_net_count(n))
 }
 
 /// Rows 5 and 21.
 fn rows_of_receivers(board: &Board) -> Rows<'_> {
-    row_of_net_count(board.network).row(21, move || bad_receivers(board))
+    row_of_net_count(board.network.nets).row(21, move || bad_receivers(board))
 }
 
 /// Rows 5, 21, 17 and 20, which begin the calls that take receivers and no class.
 pub fn rows_of_board(board: &Board) -> Rows<'_> {
-    let net = board.network;
-    rows_of_receivers(board).row(17, move || bad_level(net.level)).row(20, move || bad_gate(net.gate))
+    rows_of_receivers(board).then(rows_of_level_and_gate(board.network))
 }
 
-/// Rows 5, 6, 17, 20, 7 and 8, which begin the calls on a test set that take no receivers.
+/// Rows 5, 6, 17 and 20, which begin the calls on a test set that take no receivers.
+pub fn rows_before_vectors<'a>(net: Network, k: u64) -> Rows<'a> {
+    row_of_net_count(net.nets).then(rows_of_class(net, k))
+}
+
+/// The same and rows 7 and 8.
 pub fn rows_of_set<'a>(net: Network, k: u64, vectors: &'a [u64]) -> Rows<'a> {
-    row_of_net_count(net).then(rows_of_class_and_vectors(net, k, vectors))
+    rows_before_vectors(net, k).then(rows_of_vectors(net.nets, vectors))
 }
 
 /// The same rows for a set to be shortened, with a row 6 of its own.
 pub fn rows_of_set_to_shorten<'a>(net: Network, k: u64, vectors: &'a [u64]) -> Rows<'a> {
-    row_of_net_count(net).row(6, move || bad_class_to_shorten(net.nets, k)).then(rows_after_class(net, vectors))
+    row_of_net_count(net.nets)
+        .row(6, move || bad_class_to_shorten(net.nets, k))
+        .then(rows_of_level_and_gate(net))
+        .then(rows_of_vectors(net.nets, vectors))
 }
 
 /// Rows 5, 21, 6, 17, 20, 7 and 8, which begin those that take receivers.
 pub fn rows_of_set_on_board<'a>(board: &'a Board, k: u64, vectors: &'a [u64]) -> Rows<'a> {
-    rows_of_receivers(board).then(rows_of_class_and_vectors(board.network, k, vectors))
+    let net = board.network;
+    rows_of_receivers(board).then(rows_of_class(net, k)).then(rows_of_vectors(net.nets, vectors))
 }
 
-/// Rows 6, 17, 20, 7 and 8.
-fn rows_of_class_and_vectors<'a>(net: Network, k: u64, vectors: &'a [u64]) -> Rows<'a> {
-    Rows::new().row(6, move || bad_class(net.nets, k)).then(rows_after_class(net, vectors))
+/// Rows 6, 17 and 20.
+fn rows_of_class<'a>(net: Network, k: u64) -> Rows<'a> {
+    Rows::new().row(6, move || bad_class(net.nets, k)).then(rows_of_level_and_gate(net))
 }
 
-/// Rows 17, 20, 7 and 8.
-fn rows_after_class<'a>(net: Network, vectors: &'a [u64]) -> Rows<'a> {
-    Rows::new()
-        .row(17, move || bad_level(net.level))
-        .row(20, move || bad_gate(net.gate))
-        .row(7, move || bad_vector_count(vectors.len()))
-        .row(8, move || has_high_bit(net.nets, vectors))
+/// Rows 17 and 20.
+fn rows_of_level_and_gate<'a>(net: Network) -> Rows<'a> {
+    Rows::new().row(17, move || bad_level(net.level)).row(20, move || bad_gate(net.gate))
+}
+
+/// Rows 7 and 8 on parallel words.
+pub fn rows_of_vectors(n: u64, vectors: &[u64]) -> Rows<'_> {
+    Rows::new().row(7, move || bad_vector_count(vectors.len() as u64)).row(8, move || has_high_bit(n, vectors))
+}
+
+/// Rows 7 and 8 on the sequential words of this many vectors.
+pub fn rows_of_sequential(n: u64, count: u64, words: &[u64]) -> Rows<'_> {
+    Rows::new().row(7, move || bad_sequential_words(n, count, words)).row(8, move || has_high_bit(count, words))
 }
 
 /// Rows 9 and 10 on the responses of m receivers to `asked` vectors.

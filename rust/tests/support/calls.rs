@@ -121,7 +121,7 @@ pub fn findings_gives(board: &Board, state: &[u64], room: usize, answer: &Answer
 /// The words of a job.
 fn job_words(job: &Job) -> [u64; JOB_WORDS] {
     let Network { nets, level, gate } = job.network;
-    [nets, level, gate, job.k, job.vectors.len() as u64, job.responses.len() as u64]
+    [nets, level, gate, job.k, job.kind, job.vectors.len() as u64, job.responses.len() as u64]
 }
 
 pub fn read_job_gives(file: &[u8], vector_room: usize, response_room: usize, answer: &Answer<Job>) {
@@ -142,20 +142,31 @@ pub fn read_job_gives(file: &[u8], vector_room: usize, response_room: usize, ans
     given.assert_unchanged();
 }
 
-pub fn write_job_gives(
-    net: Network,
-    k: u64,
-    vectors: &[u64],
-    responses: &[u64],
-    room: usize,
-    answer: &Answer<Vec<u8>>,
-) {
-    let what = ("write", net, k, vectors, responses, room);
-    let given = [Given::of(vectors), Given::of(responses)];
+pub fn write_job_gives(job: &Job, room: usize, answer: &Answer<Vec<u8>>) {
+    let what = ("write", job, room);
+    let (network, [vectors, responses]) =
+        (of_library(job.network), [Given::of(&job.vectors), Given::of(&job.responses)]);
     let (mut file, mut size) = (Lent::bytes(room), Lent::words(3));
-    let number = raw::write_job(of_library(net), k, given[0].give(), given[1].give(), file.lend(), &mut size.lend()[0]);
+    let lent = (file.lend(), &mut size.lend()[0]);
+    let number = raw::write_job(job.kind, network, job.k, vectors.give(), responses.give(), lent.0, lent.1);
     assert_eq!(number, code(answer), "{what:?}");
     file.assert_holds(&written(answer), &what);
     size.assert_holds(&Vec::from_iter(answer.as_ref().ok().map(|bytes| bytes.len() as u64)), &what);
-    given.iter().for_each(Given::assert_unchanged);
+    [vectors, responses].iter().for_each(Given::assert_unchanged);
+}
+
+pub fn turn_gives(n: u64, vectors: &[u64], room: usize, answer: &Answer<Vec<u64>>) {
+    let what = ("turn", n, vectors, room);
+    let (given, mut words) = (Given::of(vectors), Lent::words(room));
+    assert_eq!(raw::turn(n, given.give(), words.lend()), code(answer), "{what:?}");
+    words.assert_holds(&written(answer), &what);
+    given.assert_unchanged();
+}
+
+pub fn turn_back_gives(n: u64, count: u64, words: &[u64], room: usize, answer: &Answer<Vec<u64>>) {
+    let what = ("turn back", n, count, words, room);
+    let (given, mut vectors) = (Given::of(words), Lent::words(room));
+    assert_eq!(raw::turn_back(n, count, given.give(), vectors.lend()), code(answer), "{what:?}");
+    vectors.assert_holds(&written(answer), &what);
+    given.assert_unchanged();
 }

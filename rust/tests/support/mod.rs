@@ -5,6 +5,7 @@
 pub mod boards;
 pub mod calls;
 pub mod generator;
+pub mod jobs;
 pub mod lent;
 pub mod networks;
 pub mod session;

@@ -30,7 +30,7 @@ returns c =
     let k = t .before .before .before .before in
     let a = k .before .before .before .before .before .args in
     let net = network-with (a .nets) (a .level) (a .gate) in
-    let answer = write-answer net (a .class) (a .vectors .now) (a .responses .now) (length (a .file .now)) in
+    let answer = write-answer (a .kind) net (a .class) (a .vectors .now) (a .responses .now) (length (a .file .now)) in
     let count = t .count .given .0 .0 in
     let said : full count ≡ count-of answer = sym (ap meaning (t .count .given .1)) ∙ k .write-job .ensures .0 in
     (code-counted answer (full count) said, (k .write-job .ensures .1, fixed-size answer count (a .size .now) said))
@@ -45,7 +45,7 @@ returns-2 c =
     let k = t .before .before .before .before in
     let a = k .before .before .before .before .before .args in
     let net = network-with (a .nets) (a .level) (a .gate) in
-    let answer = write-answer net (a .class) (a .vectors .now) (a .responses .now) (length (a .file .now)) in
+    let answer = write-answer (a .kind) net (a .class) (a .vectors .now) (a .responses .now) (length (a .file .now)) in
     let number = t .number .given .0 .0 in
     let said : refused number ≡ count-of answer = sym (ap meaning (t .number .given .1)) ∙ k .write-job .ensures .0 in
     let e = counted-refused answer number (sym said) in

@@ -6,12 +6,13 @@ mod generator;
 mod plain;
 mod timing;
 
-use fontarelga::{raw, Board, Job, Network, AND, OR};
+use fontarelga::{raw, Board, Job, Network, AND, OR, PARALLEL, SEQUENTIAL};
 use fontarelga::{FINDING_WORDS, JOB_WORDS, RECORD_WORDS, SHORTENED_WORDS};
 use fontarelga::{MOST_FIRST_VECTORS, MOST_RECEIVERS, MOST_SECOND_VECTORS, MOST_VECTORS};
 use generator::Generator;
 use plain::checker::{all_sets, hash, pairs, Search};
 use plain::session::{Record, REACHES};
+use plain::turning::{by_bits, by_ones, turn, turn_back};
 use std::hint::black_box;
 use timing::{print_head, print_lines, Version};
 
@@ -212,9 +213,8 @@ fn bench_sessions(board: &Board, g: &mut Generator) {
     print_lines(&job, &mut || run_all(&OURS), &mut [("plain", &mut || run_all(&PLAIN))]);
 }
 
-fn bench_reader(network: Network, g: &mut Generator) {
-    let mut words = || (0..64).map(|_| g.sparse(N)).collect::<Vec<u64>>();
-    let job = Job { network, class: N, vectors: words(), responses: words() };
+/// Measures the reading of one job from a file of its kind.
+fn bench_reader(job: &Job) {
     let file = job.write().expect("an admitted job");
     let lists = ([7; 64], [7; 64], [7; JOB_WORDS]);
     let (mut ours, mut theirs) = (lists, lists);
@@ -229,8 +229,52 @@ fn bench_reader(network: Network, g: &mut Generator) {
         let lent = black_box(&mut theirs);
         black_box(plain::job::read_job(black_box(&file), &mut lent.0, &mut lent.1, &mut lent.2));
     };
-    let name = format!("{}, {} bytes", named("job reader", network), file.len());
+    let reader = if job.kind == SEQUENTIAL { "job reader, net by net" } else { "job reader" };
+    let name = format!("{}, {} bytes", named(reader, job.network), file.len());
     print_lines(&name, &mut call, &mut [("plain", &mut call_plain)]);
+}
+
+/// The same job from a file of each kind.
+fn bench_readers(network: Network, g: &mut Generator) {
+    let mut words = || (0..64).map(|_| g.sparse(N)).collect::<Vec<u64>>();
+    let job = Job { network, class: N, kind: PARALLEL, vectors: words(), responses: words() };
+    bench_reader(&job);
+    bench_reader(&Job { kind: SEQUENTIAL, ..job });
+}
+
+/// The call *turn* or *turn back*, ours or a plain one, of 48 nets and 64 vectors.
+type Turning = fn(&[u64], &mut [u64]) -> u64;
+
+/// Measures one of the two calls on the words given, which must give those expected.
+fn bench_turning(job: &str, ours: Turning, plain: [(&'static str, Turning); 2], given: &[u64], expected: &[u64]) {
+    let call_of = |turning: Turning| {
+        let mut lent = vec![7; expected.len()];
+        assert_eq!((turning(given, &mut lent), &lent[..]), (0, expected));
+        move || {
+            black_box(turning(black_box(given), black_box(&mut lent)));
+        }
+    };
+    let mut plain_calls = plain.map(|(name, turning)| (name, call_of(turning)));
+    let mut versions: Vec<Version> = plain_calls.iter_mut().map(|(name, call)| (*name, call as _)).collect();
+    print_lines(job, &mut call_of(ours), &mut versions);
+}
+
+/// 64 random vectors, turned and turned back.
+fn bench_turnings(g: &mut Generator) {
+    const COUNT: u64 = MOST_VECTORS as u64;
+    let vectors: Vec<u64> = (0..COUNT).map(|_| g.sparse(N)).collect();
+    let words = plain::turned(N, &vectors);
+    let turns: [(&str, Turning); 2] = [
+        ("bits", |vectors, words| turn(by_bits, N, vectors, words)),
+        ("ones", |vectors, words| turn(by_ones, N, vectors, words)),
+    ];
+    bench_turning("turn, 64 random", |vectors, words| raw::turn(N, vectors, words), turns, &vectors, &words);
+    let turns_back: [(&str, Turning); 2] = [
+        ("bits", |words, vectors| turn_back(by_bits, N, COUNT, words, vectors)),
+        ("ones", |words, vectors| turn_back(by_ones, N, COUNT, words, vectors)),
+    ];
+    let ours: Turning = |words, vectors| raw::turn_back(N, COUNT, words, vectors);
+    bench_turning("turn back, 64 random", ours, turns_back, &words, &vectors);
 }
 
 fn bench_checks(network: Network, g: &mut Generator) {
@@ -254,7 +298,7 @@ fn bench_combination(gate: u64, level: u64) {
     [1, 2, 3, N].iter().for_each(|k| bench_diagnosis(board, *k, g));
     bench_sessions(board, g);
     if gate == OR {
-        bench_reader(network, g);
+        bench_readers(network, g);
         bench_findings(board, g);
     }
     bench_several_receivers(network, g);
@@ -292,4 +336,5 @@ fn main() {
         [1, 0].iter().for_each(|level| bench_combination(gate, *level));
     }
     bench_shorter_sets(Network::new(N), &mut Generator(2024));
+    bench_turnings(&mut Generator(2024));
 }

@@ -24,7 +24,7 @@ returns c =
     let a = done .before .before .before .before .before .before .args in
     let e = done .fontarelga-write-job .ensures in
     let net = network-with (a .nets) (a .level) (a .gate) in
-    let answer = write-answer net (a .class) (a .vectors .now) (a .responses .now) (length (a .file .now)) in
+    let answer = write-answer (a .kind) net (a .class) (a .vectors .now) (a .responses .now) (length (a .file .now)) in
     let size = ap (λ (b : Answer (List ℕ)). fixed-after b (a .size .now)) (wrote-in-words answer) in
     (e .0 ∙ sym (code-counted answer _ refl), (e .1 .0, e .1 .1 ∙ size))
 

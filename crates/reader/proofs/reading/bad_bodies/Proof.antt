@@ -9,14 +9,15 @@ use mathlib.Core.List.{List}
 use lib.Dec.{eqb, ltb}
 use Rattle.words.proofs.Tests.{and-both, and-false}
 use Rattle.words.proofs.Searching.{any-at, any-none}
-use Rattle.jobfile.specs.Layout.{entry-count, body-length, nets-size, bad-bodies}
+use Rattle.jobfile.specs.VectorsBody.{lead}
+use Rattle.jobfile.specs.Layout.{entry-count, entry-kind, body-length, nets-size, bad-bodies}
 use Rattle.jobfile.proofs.FileRows.{two-entries, table-there}
 use Rattle.reader.proofs.reading.bad_bodies.Statement.{statement}
 use Rattle.reader.proofs.reading.bad_bodies.Tie as tie
 
 -- body i has words that are not complete
 abbrev bad-words : List ℕ → ℕ → Bool
-bad-words file i = ltb 0 i && not (eqb (body-length file i % 8) 0)
+bad-words file i = ltb 0 i && not (eqb (body-length file i % 8) (lead (entry-kind file i)))
 
 abbrev Inv-loop : tie.InvT-loop
 Inv-loop file count i₀ i = (i ≤ count) × (0 < i) × ((z : ℕ) → z < i → bad-words file z ≡ false)
@@ -59,16 +60,19 @@ body-length-requires-2 c κs =
     let s = e .before .before .before .before in
     omega (arith, table-there (s .args .file .now) (s .pre), e .entry-count .ensures .0)
 
+lead-requires : tie.Need-lead-requires Inv-loop μ-loop
+lead-requires c κs = body-length-requires-2 (c .before) κs
+
 returns-2 : tie.Need-returns-2 Inv-loop μ-loop
 unfolding bad-bodies
 returns-2 c =
-    let l = c .before .before .before in
+    let l = c .before .before .before .before in
     let e = l .before in
     let file = e .before .before .before .before .args .file .now in
     let broken : bad-words file (l .loop .i) ≡ true =
     and-both (lt-ltb 0 (l .loop .i) (l .loop .inv .1))
-    (ap not (ne-eqb (body-length file (l .loop .i) % 8) 0
-    (λ q. c .if2 .taken (ap (λ (n : ℕ). n % 8) (c .before .body-length2 .ensures .0) ∙ q)))) in
+    (ap not (ne-eqb (body-length file (l .loop .i) % 8) (lead (entry-kind file (l .loop .i)))
+    (λ q. c .if2 .taken (ap (λ (n : ℕ). n % 8) (c .before .before .body-length2 .ensures .0) ∙ q ∙ sym (c .before .lead .ensures))))) in
     rw (nets-body e) (sym (any-at (bad-words file) (entry-count file) (l .loop .i) (omega (arith, e .entry-count .ensures .0)) broken))
 
 add-i : tie.Need-add-i Inv-loop μ-loop
@@ -79,11 +83,11 @@ loop-less c = search needs
 
 loop-again : tie.Need-loop-again Inv-loop μ-loop
 loop-again c =
-    let l = c .before .before .before in
+    let l = c .before .before .before .before in
     let file = l .before .before .before .before .before .args .file .now in
     let complete : bad-words file (l .loop .i) ≡ false =
-    rw (eq-eqb (body-length file (l .loop .i) % 8) 0
-    (ap (λ (n : ℕ). n % 8) (sym (c .before .body-length2 .ensures .0)) ∙ c .if2 .left))
+    rw (eq-eqb (body-length file (l .loop .i) % 8) (lead (entry-kind file (l .loop .i)))
+    (ap (λ (n : ℕ). n % 8) (sym (c .before .before .body-length2 .ensures .0)) ∙ c .if2 .left ∙ c .before .lead .ensures))
     (and-false (ltb 0 (l .loop .i))) in
     (search needs, search needs, below-more (λ z. bad-words file z ≡ false) (l .loop .i) (l .loop .inv .2) complete)
 
@@ -107,6 +111,7 @@ bad-bodies-spec =
     entry-count-requires
     loop-holds
     body-length-requires-2
+    lead-requires
     returns-2
     add-i
     loop-less

@@ -1,8 +1,8 @@
-use borrow.Author.Needs.{needs}
 use Prim.Native.Nat.{_+_, _*_}
 use native.Mathlib.Omega.{arith}
 use native.Mathlib.Numerals.{add-one}
 use Rattle.jobfile.specs.Layout.{entry-kind, bad-entry}
+use borrow.Author.Needs.{needs}
 use Rattle.reader.proofs.reading.bad_entry.Statement.{statement}
 use Rattle.reader.proofs.reading.bad_entry.Tie as tie
 
@@ -24,27 +24,26 @@ entry-count-requires c κs = search needs
 add-last : tie.Need-add-last
 add-last c = search needs
 
-mul-result : tie.Need-mul-result
-mul-result c = search needs
+mul-kind : tie.Need-mul-kind
+mul-kind c = search needs
 
-add-result : tie.Need-add-result
-add-result c = search needs
+add-kind : tie.Need-add-kind
+add-kind c = search needs
 
-shared-slice-read-result : tie.Need-shared-slice-read-result
-shared-slice-read-result c = search needs
+shared-slice-read-kind : tie.Need-shared-slice-read-kind
+shared-slice-read-kind c = search needs
 
-cast-result : tie.Need-cast-result
-cast-result c =
+cast-kind : tie.Need-cast-kind
+cast-kind c =
     let a = c .before .before .before .before .before .before .args in
     omega (arith, c .shared-slice-known2 .given (5 + 9 * a .i))
 
-add-result-2 : tie.Need-add-result-2
-add-result-2 c = search needs
+add-right : tie.Need-add-right
+add-right c = search needs
 
 returns : tie.Need-returns
 unfolding bad-entry entry-kind
 returns c =
-    let a = c .before .before .before .before .before .before .args in
     rw (
       c .before .before .before .before .body-offset .ensures .0,
       c .before .before .before .body-length .ensures .0,
@@ -63,9 +62,9 @@ bad-entry-spec =
     body-start-requires
     entry-count-requires
     add-last
-    mul-result
-    add-result
-    shared-slice-read-result
-    cast-result
-    add-result-2
+    mul-kind
+    add-kind
+    shared-slice-read-kind
+    cast-kind
+    add-right
     returns)

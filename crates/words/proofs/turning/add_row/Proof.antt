@@ -57,13 +57,13 @@ settled x t rest i e = rw (e, has-zero i) (omega arith)
 
 -- each entry, with the bit that the rest still adds to it
 abbrev Inv-loop : tie.InvT-loop
-Inv-loop t columns₀ row rest₀ columns rest =
+Inv-loop word t columns₀ row rest₀ columns rest =
     (rest < 2 ^ 64) × (length columns ≡ 64)
     × ((i : ℕ) → i < 64 → at columns i + bit-value (has rest i) * 2 ^ t
     ≡ at columns₀ i + bit-value (has rest₀ i) * 2 ^ t)
 
 abbrev μ-loop : tie.MeasureT-loop
-μ-loop t columns₀ row rest₀ columns rest = rest
+μ-loop word t columns₀ row rest₀ columns rest = rest
 
 -- the lowest net of the rest
 module _ (c : tie.After-lowest-net Inv-loop μ-loop) where

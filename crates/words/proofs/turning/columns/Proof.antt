@@ -1,29 +1,17 @@
 use borrow.Author.Needs.{needs}
-use Prim.Native.Nat.{ℕ, _+_, _-_, _*_, _^_, _≤_, _<_}
+use Prim.Native.Nat.{_-_, _≤_}
 use native.Mathlib.Omega.{arith}
-use mathlib.Core.Path.{_≡_, sym, ap, _∙_}
-use mathlib.Core.Bool.{Bool, _&&_}
-use mathlib.Core.List.{map}
-use lib.Bits.{bitAnd}
-use lib.ListN.{length, take, getD-replicate}
-use Rattle.words.specs.Bits.{has, bit-value, word, at}
-use Rattle.words.specs.Turning.{column}
-use Rattle.words.proofs.Bits.{has-all, has-and}
-use Rattle.words.proofs.Making.{made-equal, word-more, word-small, word-whole}
-use Rattle.words.proofs.Tests.{and-true}
+use mathlib.Core.Path.{_≡_}
+use lib.ListN.{length, getD-replicate}
+use Rattle.words.specs.Bits.{word}
+use Rattle.words.proofs.Adding.{Added, added-small, added-more, added-whole}
 use Rattle.words.proofs.turning.columns.Statement.{statement}
 use Rattle.words.proofs.turning.columns.Tie as tie
-
--- a word's bits below n
-has-masked : (w mask n i : ℕ) → mask ≡ 2 ^ n - 1 → i < n → has (bitAnd w mask) i ≡ has w i
-has-masked w mask n i e l =
-    has-and w mask i ∙ ap (λ (x : ℕ). has w i && has x i) e ∙ ap (λ (b : Bool). has w i && b) (has-all n i l)
-    ∙ and-true (has w i)
 
 abbrev Inv-loop : tie.InvT-loop
 Inv-loop words n inside columns₀ t₀ columns t =
     (t ≤ length words) × (length columns ≡ 64)
-    × ((i : ℕ) → i < 64 → at columns i ≡ word (map (λ w. has (bitAnd w inside) i) (take t words)))
+    × Added words inside t columns
 
 abbrev μ-loop : tie.MeasureT-loop
 μ-loop words n inside columns₀ t₀ columns t = length words - t
@@ -41,14 +29,11 @@ mul-word c = search needs
 shared-slice-read-word : tie.Need-shared-slice-read-word Inv-loop μ-loop
 shared-slice-read-word c = search needs
 
-add-row-requires : tie.Need-add-row-requires Inv-loop μ-loop
-add-row-requires c κs =
+add-vector-requires : tie.Need-add-vector-requires Inv-loop μ-loop
+add-vector-requires c κs =
     let l = c .before .before .before .loop in
-    let a = c .before .before .before .before .before .before .args in (
-      omega arith,
-      l .inv .1,
-      λ i m. rw (l .inv .2 i m) (word-small _ (a .words .now) (l .t) (omega arith)),
-    )
+    let a = c .before .before .before .before .before .before .args in
+    (omega arith, l .inv .1, added-small (a .words .now) _ (l .t) (l .columns) (l .inv .2) (omega arith))
 
 add-t : tie.Need-add-t Inv-loop μ-loop
 add-t c = search needs
@@ -59,25 +44,18 @@ loop-less c = search needs
 loop-again : tie.Need-loop-again Inv-loop μ-loop
 loop-again c =
     let l = c .before .before .before .before .loop in
-    let a = c .before .before .before .before .before .before .before .args in
-    let mask = c .before .before .before .before .before .low-ones .result in (
+    let a = c .before .before .before .before .before .before .before .args in (
       search needs,
-      c .add-row .ensures .0,
-      λ i m. c .add-row .ensures .1 i m
-          ∙ ap (λ (x : ℕ). x + bit-value (has (bitAnd (at (a .words .now) (l .t)) mask) i) * 2 ^ l .t) (l .inv .2 i m)
-          ∙ sym (word-more (λ w. has (bitAnd w mask) i) (a .words .now) (l .t) (omega arith)),
+      c .add-vector .ensures .0,
+      λ i m. added-more (a .words .now) _ (l .t) (l .columns) (l .inv .2) i m _ (c .add-vector .ensures .1 i m) (omega arith),
     )
 
 returns : tie.Need-returns Inv-loop μ-loop
-unfolding column
 returns c =
     let l = c .before .loop in
     let a = c .before .before .before .before .args in
-    let e = c .before .before .low-ones .ensures in (
-      l .inv .1,
-      λ i m. l .inv .2 i (omega arith) ∙ word-whole _ (a .words .now) (l .t) (c .loop-test .left)
-          ∙ made-equal _ (a .words .now) (λ w. has w i) (λ z k. has-masked _ _ _ i e m),
-    )
+    let e = c .before .before .low-ones .ensures in
+    (l .inv .1, added-whole (a .words .now) _ (l .t) (l .columns) (l .inv .2) (a .n) e (omega arith) (c .loop-test .left))
 
 pub columns-spec : {M : Type 1} → statement M
 columns-spec =
@@ -89,7 +67,7 @@ columns-spec =
     loop-holds
     mul-word
     shared-slice-read-word
-    add-row-requires
+    add-vector-requires
     add-t
     loop-less
     loop-again

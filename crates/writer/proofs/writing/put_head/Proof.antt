@@ -13,19 +13,19 @@ use Rattle.writer.proofs.writing.put_head.Statement.{statement}
 use Rattle.writer.proofs.writing.put_head.Tie as tie
 
 -- the parts one after the other are the head
-head-written : (vectors responses lent marked counted first second third : List ℕ) (entries start : ℕ)
+head-written : (kind size : ℕ) (responses lent marked counted first second third : List ℕ) (entries start : ℕ)
     → entries ≡ entries-for responses → start ≡ bodies-at (entries-for responses)
     → marked ≡ written lent 0 mark → counted ≡ written marked 4 (entries ∷ [])
     → first ≡ written counted (entry-at 0) (entry-bytes 1 start nets-size)
-    → second ≡ written first (entry-at 1) (entry-bytes 2 (start + nets-size) (8 * length vectors))
-    → third ≡ written second (entry-at 2) (response-entry (start + nets-size + 8 * length vectors) responses)
-    → third ≡ written lent 0 (head-of vectors responses)
-head-written vectors responses lent marked counted first second third entries start n s e f g h i =
+    → second ≡ written first (entry-at 1) (entry-bytes kind (start + nets-size) size)
+    → third ≡ written second (entry-at 2) (response-entry (start + nets-size + size) responses)
+    → third ≡ written lent 0 (head-of kind size responses)
+head-written kind size responses lent marked counted first second third entries start n s e f g h i =
     let one = entry-bytes 1 start nets-size in
-    let two = entry-bytes 2 (start + nets-size) (8 * length vectors) in
-    let three = response-entry (start + nets-size + 8 * length vectors) responses in
+    let two = entry-bytes kind (start + nets-size) size in
+    let three = response-entry (start + nets-size + size) responses in
     let p = entry-size 1 start nets-size in
-    let q = entry-size 2 (start + nets-size) (8 * length vectors) in
+    let q = entry-size kind (start + nets-size) size in
     let r = length-append (mark ++ entries ∷ one) two in
     let c : counted ≡ written lent 0 (mark ++ entries ∷ []) =
     written-next lent marked counted 0 4 mark (entries ∷ []) e f refl (omega arith) in
@@ -36,8 +36,8 @@ head-written vectors responses lent marked counted first second third entries st
     let u : third ≡ written lent 0 (mark ++ entries ∷ one ++ two ++ three) =
     written-next lent second third 0 (entry-at 2) (mark ++ entries ∷ one ++ two) three t i (omega arith) (omega arith) in
     u ∙ ap₂ (λ (k m : ℕ). written lent 0
-    (mark ++ k ∷ entry-bytes 1 m nets-size ++ entry-bytes 2 (m + nets-size) (8 * length vectors)
-    ++ response-entry (m + nets-size + 8 * length vectors) responses)) n s
+    (mark ++ k ∷ entry-bytes 1 m nets-size ++ entry-bytes kind (m + nets-size) size
+    ++ response-entry (m + nets-size + size) responses)) n s
 
 entries-for-requires : tie.Need-entries-for-requires
 entries-for-requires c κs = search needs
@@ -45,16 +45,13 @@ entries-for-requires c κs = search needs
 bodies-at-requires : tie.Need-bodies-at-requires
 bodies-at-requires c κs = search needs
 
-mul-size : tie.Need-mul-size
-mul-size c = search needs
-
 put-mark-requires : tie.Need-put-mark-requires
 put-mark-requires c κs = search needs
 
 cast-put-byte : tie.Need-cast-put-byte
 cast-put-byte c =
     let e = c .before .before .before .before .before .before in
-    let few = entries-range (e .before .before .before .before .args .responses .now) .1 in
+    let few = entries-range (e .before .before .before .args .responses .now) .1 in
     let is = e .entries-for .ensures in
     omega arith
 
@@ -64,7 +61,7 @@ put-byte-requires c κs = search needs
 put-entry-requires : tie.Need-put-entry-requires
 put-entry-requires c κs =
     let p1 = c .before .before .before .before .before .before .before in
-    let a = p1 .before .before .before .before .before .before .before .args in
+    let a = p1 .before .before .before .before .before .before .args in
     let many = entries-range (a .responses .now) .0 in
     omega arith
 
@@ -74,7 +71,7 @@ add-put-entry c = search needs
 put-entry-requires-2 : tie.Need-put-entry-requires-2
 put-entry-requires-2 c κs =
     let p2 = c .before .before .before .before .before .before .before in
-    let a = p2 .before .before .before .before .before .before .before .before .before .before .before .args in
+    let a = p2 .before .before .before .before .before .before .before .before .before .before .args in
     let many = entries-range (a .responses .now) .0 in
     omega arith
 
@@ -88,8 +85,8 @@ put-response-entry-requires : tie.Need-put-response-entry-requires
 put-response-entry-requires c κs =
     let p3 = c .before .before .before .before .before .before .before in
     let b = p3 .before .before .before .before .before .before .before .before .before .before in
-    let a = b .before .before .before .before .before .args in
-    let size = response-entry-size (b .bodies-at .result + nets-size + 8 * length (a .vectors .now)) (a .responses .now) in
+    let a = b .before .before .before .before .args in
+    let size = response-entry-size (b .bodies-at .result + nets-size + a .size) (a .responses .now) in
     omega arith
 
 same-length : tie.Need-same-length
@@ -104,8 +101,8 @@ returns c =
     let p1 = p2 .before .before .before .before in
     let b = p1 .before .before in
     let e = b .before in
-    let a = e .before .before .before .before .args in
-    head-written (a .vectors .now) (a .responses .now) (a .file .now) _ _ _ _ _ _ _ (e .entries-for .ensures) (b .bodies-at .ensures)
+    let a = e .before .before .before .args in
+    head-written (a .kind) (a .size) (a .responses .now) (a .file .now) _ _ _ _ _ _ _ (e .entries-for .ensures) (b .bodies-at .ensures)
     (p1 .put-mark .ensures) (p2 .put-byte .ensures) (p3 .put-entry .ensures) (p4 .put-entry2 .ensures) (p5 .put-response-entry .ensures)
 
 pub put-head-spec : {M : Type 1} → statement M
@@ -114,7 +111,6 @@ put-head-spec =
     (tie.spec
     entries-for-requires
     bodies-at-requires
-    mul-size
     put-mark-requires
     cast-put-byte
     put-byte-requires

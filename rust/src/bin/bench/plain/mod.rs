@@ -7,6 +7,7 @@ pub mod findings;
 pub mod job;
 pub mod session;
 pub mod shortening;
+pub mod turning;
 
 use fontarelga::{Board, Network, AND, OR};
 
@@ -26,8 +27,8 @@ pub fn receiver_count(board: &Board) -> u64 {
 }
 
 /// Row 5.
-fn admit_nets(network: Network) -> Result<(), u64> {
-    if (2..=48).contains(&network.nets()) {
+fn admit_nets(n: u64) -> Result<(), u64> {
+    if (2..=48).contains(&n) {
         Ok(())
     } else {
         Err(5)
@@ -58,45 +59,68 @@ fn admit_level_and_gate(network: Network) -> Result<(), u64> {
 
 /// Rows 5, 21, 17 and 20.
 pub fn admit_board(board: &Board) -> Result<(), u64> {
-    admit_nets(board.network())?;
+    admit_nets(board.network().nets())?;
     admit_receivers(board)?;
     admit_level_and_gate(board.network())
 }
 
+/// Rows 5, 6, 17 and 20.
+fn admit_before_vectors(network: Network, k: u64) -> Result<(), u64> {
+    admit_nets(network.nets())?;
+    admit_class(network, k)
+}
+
 /// Rows 5, 6, 17, 20, 7 and 8.
 pub fn admit_set(network: Network, k: u64, vectors: &[u64]) -> Result<(), u64> {
-    admit_nets(network)?;
-    admit_class_and_vectors(network, k, vectors)
+    admit_before_vectors(network, k)?;
+    admit_vectors(network.nets(), vectors)
 }
 
 /// The same rows, of which row 6 also turns away every class above 3.
 pub fn admit_set_to_shorten(network: Network, k: u64, vectors: &[u64]) -> Result<(), u64> {
-    admit_nets(network)?;
+    admit_nets(network.nets())?;
     if k > 3 {
         return Err(6);
     }
-    admit_class_and_vectors(network, k, vectors)
+    admit_class(network, k)?;
+    admit_vectors(network.nets(), vectors)
 }
 
 /// Rows 5, 21, 6, 17, 20, 7 and 8.
 pub fn admit_set_on_board(board: &Board, k: u64, vectors: &[u64]) -> Result<(), u64> {
-    admit_nets(board.network())?;
+    admit_nets(board.network().nets())?;
     admit_receivers(board)?;
-    admit_class_and_vectors(board.network(), k, vectors)
+    admit_class(board.network(), k)?;
+    admit_vectors(board.network().nets(), vectors)
 }
 
-/// Rows 6, 17, 20, 7 and 8.
-fn admit_class_and_vectors(network: Network, k: u64, vectors: &[u64]) -> Result<(), u64> {
+/// Rows 6, 17 and 20.
+fn admit_class(network: Network, k: u64) -> Result<(), u64> {
     let n = network.nets();
     let most = if n <= 10 { n } else { 3 };
     if !(1..=most).contains(&k) && k != n {
         return Err(6);
     }
-    admit_level_and_gate(network)?;
+    admit_level_and_gate(network)
+}
+
+/// Rows 7 and 8.
+fn admit_vectors(n: u64, vectors: &[u64]) -> Result<(), u64> {
     if !(1..=64).contains(&vectors.len()) {
         return Err(7);
     }
     if has_high_bit(n, vectors) {
+        return Err(8);
+    }
+    Ok(())
+}
+
+/// Rows 7 and 8 on the sequential words of this many vectors.
+fn admit_sequential(n: u64, count: u64, words: &[u64]) -> Result<(), u64> {
+    if !(1..=64).contains(&count) || words.len() as u64 != n {
+        return Err(7);
+    }
+    if has_high_bit(count, words) {
         return Err(8);
     }
     Ok(())
@@ -118,10 +142,14 @@ pub fn code(answer: Result<(), u64>) -> u64 {
     answer.err().unwrap_or(0)
 }
 
+/// Bit i of each of these words, the first word's first: of parallel words a sequential one.
+fn along(words: &[u64], i: u64) -> u64 {
+    words.iter().enumerate().map(|(t, word)| (word >> i & 1) << t).sum()
+}
+
 /// The words along these words, one for each of their lowest bits: from parallel words the sequential ones.
 pub fn turned(bits: u64, words: &[u64]) -> Vec<u64> {
-    let along = |i: u64| words.iter().enumerate().map(|(t, word)| (word >> i & 1) << t).sum();
-    (0..bits).map(along).collect()
+    (0..bits).map(|i| along(words, i)).collect()
 }
 
 /// All n drivers.
