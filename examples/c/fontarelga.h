@@ -25,8 +25,8 @@
  * FONTARELGA_GATE_OR or FONTARELGA_GATE_AND. receivers has the net of each receiver, n to 64 of them, at least one on
  * each net; its length is m, and an empty list is refused with 21 as any other that is too short. class_ is k, the most
  * drivers of a reach: 1, 2, 3, n or, for n up to 10, one from 4 to n - 1.
- * Bit i of a word stands for net i, and in responses and answers for receiver i: a parallel word, one a vector. A
- * sequential word belongs to a net, and its bit t stands for vector t. */
+ * Bit i of a word stands for net i, and in responses and answers for receiver i. Vectors, responses and answers are
+ * parallel words, one for each vector. A sequential word belongs to a net, and its bit t stands for vector t. */
 
 #ifndef FONTARELGA_H
 #define FONTARELGA_H

@@ -1,9 +1,9 @@
 -- Files of kind 2 are read and written as before kind 4.
 use mathlib.Core.Path.{_≡_, refl, sym, ap, ap₂, _∙_}
 use mathlib.Core.Bool.{Bool, true, false, not, cond, _&&_, _||_}
-use mathlib.Core.Logic.{_≢_, _⊎_, inl, inr, ⊎-elim}
+use mathlib.Core.Logic.{_≢_, ⊎-elim}
 use mathlib.Core.List.{List, [], _∷_, _++_}
-use Prim.Native.Nat.{ℕ, suc, _+_, _-_, _*_, _/_, _%_, _<_}
+use Prim.Native.Nat.{ℕ, suc, _+_, _-_, _/_, _%_, _<_}
 use native.Mathlib.Omega.{arith}
 use lib.Dec.{eqb, ltb}
 use lib.ListN.{length}
@@ -15,9 +15,9 @@ use Rattle.words.proofs.Searching.{any-at, any-some}
 use Rattle.network.specs.declared.Network.{Network}
 use Rattle.network.specs.Rows.{set-tests, bad-count, network-tests, has-high-bit, bad-response-count, no-room}
 use Rattle.jobfile.specs.Bytes.{word-bytes, words-at}
-use Rattle.jobfile.specs.VectorsBody.{net-by-net, lead, words-of, vectors-bytes, body-tests}
+use Rattle.jobfile.specs.VectorsBody.{net-by-net, lead, words-of, vectors-bytes}
 use Rattle.jobfile.specs.Layout.{most-bytes, kind-at, nets-bytes, entry-count, bodies-at, entry-kind, body-offset, body-length, nets-size}
-use Rattle.jobfile.specs.Layout.{bad-mark, bad-entry, bad-layout, bad-bodies, body-words, file-kind, file-count, file-vectors}
+use Rattle.jobfile.specs.Layout.{bad-mark, bad-entry, bad-layout, bad-bodies, body-words, file-kind, file-count}
 use Rattle.jobfile.specs.Layout.{file-network, file-class, has-responses, file-responses}
 use Rattle.jobfile.proofs.ByteLaws.{word-bytes-count}
 use Rattle.jobfile.proofs.FileRows.{test→layout}

@@ -9,7 +9,6 @@ use native.Mathlib.Omega.{arith}
 use lib.Dec.{eqb}
 use lib.ListN.{length, take, drop}
 use lib.Seq.{drop-at, drop-drop, getD-drop}
-use borrow.Author.Tests.{eqb-true, eq-eqb}
 use Rattle.words.proofs.Tests.{cases}
 use Rattle.words.specs.Bits.{at}
 use Rattle.words.proofs.Tests.{test-fails}
@@ -19,7 +18,7 @@ use Rattle.jobfile.specs.Bytes.{bytes-of, word-bytes, words-at}
 use Rattle.jobfile.specs.VectorsBody.{VectorsKind, net-by-net, lead, words-of, vectors-of, lead-bytes, vectors-bytes, body-tests}
 use Rattle.jobfile.specs.Layout.{KindAt, mark, entry-count, bodies-at, entry-kind, body-offset, body-length, nets-size}
 use Rattle.jobfile.specs.Layout.{Layout, bad-bodies, nets-byte, file-network, file-class, body-words}
-use Rattle.jobfile.specs.Layout.{file-kind, file-count, file-vectors, has-responses, file-responses}
+use Rattle.jobfile.specs.Layout.{file-count, file-vectors, has-responses, file-responses}
 use Rattle.jobfile.proofs.StoredVectors.{words-plain, bytes-turned, size-turned, size-plain, lead-size, body-size, vectors-back}
 use Rattle.reader.proofs.Bodies.{lead-most, count-stored, count-of-words}
 use Rattle.jobfile.proofs.FileRows.{decides-row-3}

@@ -28,7 +28,7 @@ use Rattle.demands.specs.Reports.{KindsReportAlike}
 use Rattle.demands.specs.KindTwo.{KindTwoAsBefore}
 use Rattle.demands.specs.Programs.{our-turn, our-turn-back, our-reader, our-writer}
 use Rattle.demands.specs.Refuted.{copies-vectors, copies-words, ignores-kind, writes-parallel, names-kind-2}
-use Rattle.demands.specs.Refuted.{turns-but-most, turns-back-but-most, reads-but, writes-but, reports-but, accepts-all}
+use Rattle.demands.specs.Refuted.{turns-but-most, turns-back-but-most, reads-but, writes-but, reports-but, accepts-longer}
 use Rattle.demands.proofs.TurnCalls.{turns, turns-back, turn-determined-program, turn-back-determined-program}
 use Rattle.demands.proofs.JobFiles.{writes, reads-files, writer-determined, reader-determined}
 
@@ -85,9 +85,9 @@ kind-not-named claim =
     (reader-determined names-kind-2 our-reader claim reads-files file (9 ∷ []) []) in
     omega arith
 
--- ---- at the most nets and vectors
+-- ---- at the most nets and vectors, and at the longest files (`longest-2` is of 4 nets)
 
--- whatever the list, its last entry tells
+-- the last entry lent is still 0
 pub most-not-turned : ¬ (Turns turns-but-most)
 unfolding open-turning
 most-not-turned claim =
@@ -207,10 +207,10 @@ longest-reported-otherwise claim =
     omega (arith, z)
 
 -- files that are one byte too long
-pub longer-accepted : ¬ (SizeLimits (accepts-all 2))
+pub longer-accepted : ¬ (SizeLimits (accepts-longer 1061 2))
 unfolding all-small
 longer-accepted claim = let l = claim (replicate 1061 0) [] [] _ (bytes-by-test (replicate 1061 0) refl) refl .0 in omega (arith, l)
 
-pub longer-of-kind-4 : ¬ (SizeLimits (accepts-all 4))
+pub longer-of-kind-4 : ¬ (SizeLimits (accepts-longer 934 4))
 unfolding all-small
 longer-of-kind-4 claim = let l = claim (replicate 934 0) [] [] _ (bytes-by-test (replicate 934 0) refl) refl .1 refl in omega (arith, l)

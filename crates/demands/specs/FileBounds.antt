@@ -1,6 +1,6 @@
--- Job files on both sides of each bound of the reader's rows, and calls of the writer on both sides of each of its own.
--- Each is worked out by hand from documents 01 and 02; none is a program's output. Where no level is said it is 1,
--- where no gate is said it is OR.
+-- Job files of kind 2 on both sides of each bound of the reader's rows, and calls of the writer for kind 2 on both
+-- sides of each bound of its own but row 2. Each is worked out by hand from documents 01 and 02; none is a program's
+-- output. Where no level is said it is 1, where no gate is said it is OR.
 use Prim.Native.Nat.{ℕ, _+_, _*_, _-_, _^_}
 use mathlib.Core.Path.{_≡_}
 use mathlib.Core.List.{List, [], _∷_, _++_}

@@ -1,5 +1,5 @@
--- Job files as they were before kind 4, and that those of kind 2 are read and written as before. What was said before is
--- restated here; what did not change is used as it stands.
+-- Job files as they were before kind 4, and that those of kind 2 are read and written as before. What kind 4 changed
+-- is restated as it was. `head-of` is given the kind and the size that it had; a job, which named no kind, names 2.
 use Prim.Native.Nat.{ℕ, suc, _+_, _-_, _*_, _/_, _%_}
 use mathlib.Core.Path.{_≡_}
 use mathlib.Core.Bool.{Bool, not, cond, _&&_, _||_}

@@ -5,7 +5,7 @@ use mathlib.Core.Path.{_≡_}
 use mathlib.Core.Logic.{_≢_}
 use mathlib.Core.List.{List, [], _∷_, _++_}
 use lib.ListN.{length, replicate}
-use Rattle.words.specs.Answers.{Answer, refused, full, Filled}
+use Rattle.words.specs.Answers.{Answer, refused, full}
 use Rattle.network.specs.declared.Network.{Network}
 use Rattle.network.specs.Reading.{network-of, wired-and}
 use Rattle.turning.specs.Turn.{turn-answer, turn-back-answer}
@@ -60,7 +60,7 @@ archive-file =
     ++ 4 ∷ 0 ∷ 0 ∷ 0 ∷ 0 ∷ 0 ∷ 0 ∷ 0 ∷ []
     ++ 12 ∷ 0 ∷ 0 ∷ 0 ∷ 0 ∷ 0 ∷ 0 ∷ 0 ∷ []
 
--- a body of this kind, with a byte and then words: n = k = 4 unless a network is given; and with responses
+-- a body of this kind, with a byte and then words: k = 4, and n = 4 unless a network is given; and with responses
 abbrev pub stored-of : Network → (kind count : ℕ) → List ℕ → List ℕ
 stored-of net kind count list =
     start 2 ++ entry 1 23 nets-length ++ entry kind after-two (1 + 8 * length list) ++ nets-body net 4 ++ count ∷ words list
@@ -171,12 +171,12 @@ pub record NetByNetCases : Type 0 where
   pub words-of-a-job : job-words
       (record { network = wired-and 4 0; class = 3; kind = 4; vectors = five-vectors; responses = [] })
       ≡ 4 ∷ 0 ∷ 1 ∷ 3 ∷ 4 ∷ 5 ∷ 0 ∷ []
-  -- row 2: the kind that is written, before all other rows; and those of 2 and 4 that are told from it by higher bits
+  -- row 2: the kind that is written, before all other rows; also one whose low bits are those of 2 or 4
   pub no-other-kind : (kind : ℕ) → kind ≢ 2 → kind ≢ 4 → (net : Network) (k : ℕ) (vectors responses : List ℕ) (room : ℕ)
       → write-answer kind net k vectors responses room ≡ refused 2
   pub kind-3-written : write-answer 3 (network-of 1) 0 [] [] 0 ≡ refused 2
   pub kind-258-written : write-answer (2 + 2 ^ 8) four 4 (0 ∷ []) [] 64 ≡ refused 2
-  pub kind-greatest-written : write-answer (4 + 2 ^ 63) four 4 (0 ∷ []) [] 64 ≡ refused 2
+  pub kind-bit-63-written : write-answer (4 + 2 ^ 63) four 4 (0 ∷ []) [] 64 ≡ refused 2
   -- the kind that is read: 4 in place of 2, and nowhere else
   pub kind-4-read : read (stored 4 1 zeros) ≡ holds (0 ∷ []) []
   pub kind-0-read : read (stored 0 1 zeros) ≡ refused 2
@@ -237,7 +237,7 @@ pub record NetByNetCases : Type 0 where
   pub rows-3-5 : read (start 2 ++ entry 1 23 nets-length ++ entry 4 after-two 8 ++ nets-body (network-of 1) 1 ++ replicate 8 0)
       ≡ refused 3
   pub rows-5-7 : read (stored-of (network-of 1) 4 0 zeros) ≡ refused 5
-  pub rows-7-8 : read (stored 4 65 (255 ∷ 255 ∷ 255 ∷ [])) ≡ refused 7
+  pub rows-7-8 : read (stored 4 0 (255 ∷ 255 ∷ 255 ∷ 255 ∷ [])) ≡ refused 7
   pub rows-7-8-words : read (stored 4 1 (2 ∷ [])) ≡ refused 7
   pub rows-7-9 : read (answered 0 zeros (0 ∷ [])) ≡ refused 7
   pub rows-8-9 : read (answered 1 (2 ∷ 0 ∷ 0 ∷ 0 ∷ []) (0 ∷ 0 ∷ [])) ≡ refused 8

@@ -285,26 +285,27 @@ names-kind-2 file vectors responses =
     let did = our-reader file vectors responses in
     record { returned = of-kind 2 (did .returned); vectors = did .vectors; responses = did .responses }
 
--- ---- turning and job files: right, but for the most nets and vectors
+-- ---- turning and job files: right, but for the most nets and vectors, or the longest files
 
--- 48 nets and 64 vectors are not turned, nor turned back
+-- a right answer, and here the list left as lent
+abbrev pub left-as-lent : {A : Type 0} → Bool → Filled A → List A → Filled A
+left-as-lent here did lent = cond here (record { returned = did .returned; list = lent }) did
+
+-- with 48 nets and 64 vectors nothing is written
 abbrev pub turns-but-most : TurnProgram
 turns-but-most nets vectors lent =
-    cond (eqb nets 48 && eqb (length vectors) 64) (record { returned = full nets; list = lent }) (our-turn nets vectors lent)
+    left-as-lent (eqb nets 48 && eqb (length vectors) 64) (our-turn nets vectors lent) lent
 
 abbrev pub turns-back-but-most : TurnBackProgram
 turns-back-but-most nets count words lent =
-    cond (eqb nets 48 && eqb count 64) (record { returned = full count; list = lent }) (our-turn-back nets count words lent)
+    left-as-lent (eqb nets 48 && eqb count 64) (our-turn-back nets count words lent) lent
 
--- of a file with so many bytes no vectors are read; it is not written; and nothing is reported of it. The most are 1,060
--- of kind 2 and 933 of kind 4
+-- of a file with so many bytes no vectors are read; it is not written; and nothing is reported of it. The most are
+-- 1,060 of kind 2 and 933 of kind 4
 abbrev pub reads-but : ℕ → ReaderProgram
 reads-but size file vectors responses =
     let did = our-reader file vectors responses in
     cond (eqb (length file) size) (record { returned = did .returned; vectors = vectors; responses = did .responses }) did
-
-abbrev pub left-as-lent : {A : Type 0} → Bool → Filled A → List A → Filled A
-left-as-lent this did lent = cond this (record { returned = did .returned; list = lent }) did
 
 abbrev pub writes-but : ℕ → WriterProgram
 writes-but size kind net k vectors responses lent =
@@ -313,13 +314,16 @@ writes-but size kind net k vectors responses lent =
 abbrev pub reports-but : ℕ → ReportProgram
 reports-but size file = cond (eqb (length file) size) [] (our-report file)
 
--- any file is accepted, as one of this kind
-abbrev pub accepts-all : ℕ → ReaderProgram
-accepts-all kind file vectors responses = record {
-  returned = full (record { network = network-of 2; class = 1; kind = kind; vectors = 0; responses = 0 });
-  vectors = vectors;
-  responses = responses;
-}
+-- a file of so many bytes is accepted, as one of this kind, whatever it holds
+abbrev pub accepts-longer : (size kind : ℕ) → ReaderProgram
+accepts-longer size kind file vectors responses =
+    cond (eqb (length file) size)
+    (record {
+      returned = full (record { network = network-of 2; class = 1; kind = kind; vectors = 0; responses = 0 });
+      vectors = vectors;
+      responses = responses;
+    })
+    (our-reader file vectors responses)
 
 -- ---- demand 1: our programs, with another reader and other session calls
 
@@ -405,7 +409,7 @@ pub record Refuted : Type 0 where
   pub longest-not-exchanged : ¬ (ReadsExchanged (reads-but 933))
   pub longest-read-otherwise : ¬ (KindsReadAlike (reads-but 933) our-writer)
   pub longest-reported-otherwise : ¬ (KindsReportAlike (reports-but 933) our-writer)
-  pub longer-accepted : ¬ (SizeLimits (accepts-all 2))
-  pub longer-of-kind-4 : ¬ (SizeLimits (accepts-all 4))
+  pub longer-accepted : ¬ (SizeLimits (accepts-longer 1061 2))
+  pub longer-of-kind-4 : ¬ (SizeLimits (accepts-longer 934 4))
   pub vectors-cleared : ¬ (Demand1 (ours-but clears-vectors our-sessions))
   pub started-again : ¬ (Demand1 (ours-but our-reader starts-again))

@@ -308,8 +308,8 @@ pub extern "C" fn fontarelga_turn(nets: u64, vectors: &[u64], words: &mut [u64])
     }
 }
 
-// The call *turn back*: from sequential words, one for each net, the vectors, as many as `count` says, into the front of
-// `vectors`. Rows 5, 7, 8, 12.
+// The call *turn back*: from sequential words, one for each net, the vectors, as many as `count` says, into the front
+// of `vectors`. Rows 5, 7, 8, 12.
 #[no_mangle]
 pub extern "C" fn fontarelga_turn_back(
     nets: u64,

@@ -1,19 +1,18 @@
 -- Laws of the vectors' body: how long it is, that its words and the vectors are each other's, and that the rows asked
 -- of its words are those of the vectors.
 use mathlib.Core.Path.{_≡_, refl, sym, ap, _∙_, subst}
-use mathlib.Core.Bool.{Bool, true, false, cond, false≢true}
+use mathlib.Core.Bool.{true, false, cond}
 use mathlib.Core.Logic.{_⊎_, inl, inr, ⊎-elim}
 use mathlib.Core.List.{List, [], _∷_}
 use Prim.Native.Nat.{ℕ, _+_, _*_, _^_, _≤_, _<_}
 use native.Mathlib.Omega.{arith}
-use lib.Dec.{eqb}
 use lib.ListN.{length, length-append}
 use borrow.Author.Tests.{eqb-true, eq-eqb}
 use Rattle.words.specs.Answers.{full, NoneHolds, Decides, Decided}
 use Rattle.words.proofs.Answers.{decided-append, let-through}
 use Rattle.words.specs.Bits.{at}
 use Rattle.words.specs.Turning.{transpose}
-use Rattle.words.proofs.Tests.{cases, contrary, decides-equal, decides-or, decides-and, decides-not, equal-if-not-unequal}
+use Rattle.words.proofs.Tests.{cases, decides-equal, decides-or, decides-and, decides-not, equal-if-not-unequal}
 use Rattle.words.proofs.Columns.{transpose-size, transpose-back}
 use Rattle.network.specs.declared.Network.{Network}
 use Rattle.network.specs.Rows.{NetworkRows, network-tests, SetRows, Row7, HighBit}

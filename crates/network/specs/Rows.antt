@@ -140,7 +140,8 @@ AdmittedBoard net owners = NoneHolds (BoardRows net owners)
 abbrev pub AdmittedNetwork : Network → Type 0
 AdmittedNetwork net = NoneHolds ((5, Row5 net) ∷ (17, Row17 net) ∷ (20, Row20 net) ∷ [])
 
--- ---- rows 5, 6, 17, 20, 7 and 8, with which every call on a test set begins; 21 after 5 if it takes receivers
+-- ---- rows 5, 6, 17, 20, 7 and 8, with which every call on a test set and a class begins; 21 after 5 if it takes
+-- receivers
 
 -- 6, 17 and 20, with row 6 as the call has it
 abbrev pub ClassRows : Type 0 → Network → List (ℕ × Type 0)

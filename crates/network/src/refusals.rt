@@ -130,7 +130,7 @@ pub fn admit_network(net: Network, class: u64) -> Admission
     Admission::Admitted
 }
 
-// Rows 5, 6, 17, 20, 7 and 8, with which a call on a test set begins that takes no receivers.
+// Rows 5, 6, 17, 20, 7 and 8, with which a call on a test set and a class begins that takes no receivers.
 pub fn admit_set(net: Network, class: u64, vectors: &[u64]) -> Admission
     ensures { λ r. ⌜ admission r ≡ set-admission net class (now (vectors .entry)) ⌝ }
 {

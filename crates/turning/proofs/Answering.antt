@@ -1,8 +1,7 @@
 -- An answer of four tests, row by row.
 use mathlib.Core.Path.{_≡_}
 use mathlib.Core.Bool.{Bool, true, false}
-use mathlib.Core.List.{List, [], _∷_}
-use Prim.Native.Nat.{ℕ}
+use mathlib.Core.List.{[], _∷_}
 use Rattle.words.specs.Answers.{Answer, refused, full, by-tests}
 
 module _ {A : Type 0} (five seven eight twelve : Bool) (x : A) where

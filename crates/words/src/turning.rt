@@ -75,7 +75,7 @@ pub fn columns(words: &[u64], n: u64) -> [u64; 64]
     columns
 }
 
-// The same of sequential words: entry t is the parallel word of vector t.
+// The same of sequential words, n the number of vectors: entry t is the parallel word of vector t.
 pub fn vector_columns(words: &[u64], n: u64) -> [u64; 64]
     requires { ⌜ (length (now words) ≤ 64) × (n ≤ 64) ⌝ }
     ensures { λ r. ⌜ (length r ≡ 64) × Columns n (now (words .entry)) r ⌝ }

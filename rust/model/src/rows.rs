@@ -121,7 +121,7 @@ pub fn rows_of_board(board: &Board) -> Rows<'_> {
     rows_of_receivers(board).then(rows_of_level_and_gate(board.network))
 }
 
-/// Rows 5, 6, 17 and 20, which begin the calls on a test set that take no receivers.
+/// Rows 5, 6, 17 and 20, which begin the calls on a test set and a class that take no receivers.
 pub fn rows_before_vectors<'a>(net: Network, k: u64) -> Rows<'a> {
     row_of_net_count(net.nets).then(rows_of_class(net, k))
 }

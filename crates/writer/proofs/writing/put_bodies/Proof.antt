@@ -1,7 +1,6 @@
 use native.Mathlib.Omega.{arith}
 use Prim.Native.Nat.{_+_}
 use mathlib.Core.List.{_++_}
-use lib.ListN.{length, length-append}
 use Rattle.words.proofs.Writing.{written-next}
 use Rattle.jobfile.specs.Bytes.{word-bytes}
 use Rattle.jobfile.specs.VectorsBody.{vectors-bytes}
