@@ -1,7 +1,7 @@
 -- Laws of the vectors' body: how long it is, that its words and the vectors are each other's, and that the rows asked
 -- of its words are those of the vectors.
 use mathlib.Core.Path.{_≡_, refl, sym, ap, _∙_, subst}
-use mathlib.Core.Bool.{true, false, cond}
+use mathlib.Core.Bool.{true, false}
 use mathlib.Core.Logic.{_⊎_, inl, inr, ⊎-elim}
 use mathlib.Core.List.{List, [], _∷_}
 use Prim.Native.Nat.{ℕ, _+_, _*_, _^_, _≤_, _<_}
@@ -66,11 +66,6 @@ module _ (kind : ℕ) (plain : net-by-net kind ≡ false) where
   size-plain nets vectors = ap length (bytes-plain nets vectors) ∙ word-bytes-count vectors
 
 module _ (kind : ℕ) where
-  pub words-count : (nets : ℕ) (vectors : List ℕ) → length (words-of kind nets vectors) ≡ cond (net-by-net kind) nets (length vectors)
-  words-count nets vectors =
-      ⊎-elim (λ e. rw e (ap length (words-turned kind e nets vectors) ∙ transpose-size nets vectors))
-      (λ e. rw e (ap length (words-plain kind e nets vectors))) (cases (net-by-net kind))
-
   pub vectors-count : (count : ℕ) (words : List ℕ) → Counted kind count words → length (vectors-of kind count words) ≡ count
   vectors-count count words h =
       ⊎-elim (λ e. ap length (vectors-turned kind e count words) ∙ transpose-size count words)
