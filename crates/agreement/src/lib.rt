@@ -1,6 +1,9 @@
 // Each public call, held to the program that the demands are proved of: a thin function a call, whose contract cites
 // that program and whose body is the call. So no call's contract can say less than the demands rest on. Nothing calls
 // these.
+
+#![tactic(auto)]
+
 ghost use Rattle.std.specs.Prelude.{◌≡◌, ◌≤◌, length, replicate};
 ghost use Rattle.words.specs.Answers.{full, lent_after};
 ghost use Rattle.network.specs.Respond as Respond;

@@ -7,6 +7,9 @@
 // were; of a table of findings their number. `allowed` gives the checks that *shorten* may make; after the vectors that
 // it keeps, and the entries that it left, stand the checks that it made and the floor. On its lines too `kept` is of
 // the lent list.
+
+#![tactic(auto)]
+
 mod calls;
 mod checking;
 mod finding;

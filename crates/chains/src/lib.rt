@@ -3,6 +3,9 @@
 // last word before it in the same slot. A place is 1 more than an index, and 0 where there is none. The number of
 // slots, the length of `heads`, should be a power of 2: with another some slots are never used. Helpers between crates:
 // the lists are in this order; where a word is added there is room for it, and fewer than 65,535 words stand there.
+
+#![tactic(auto)]
+
 ghost use Rattle.std.specs.Prelude.{◌≡◌, ◌+◌, ◌<◌, length, set, take};
 ghost use Rattle.words.specs.Searching.{position};
 ghost use Rattle.chains.specs.Chains.{slot, Chains};

@@ -1,4 +1,7 @@
 // The checker: whether a test set tells the wiring states of a class apart.
+
+#![tactic(auto)]
+
 ghost use Rattle.std.specs.Prelude.{◌≡◌};
 ghost use Rattle.words.specs.Answers.{NoneHolds};
 ghost use Rattle.network.specs.Rows.{SetRows};

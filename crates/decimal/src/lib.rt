@@ -1,4 +1,7 @@
 // Numbers as text in base ten. Helpers between crates: each asks that the text has room.
+
+#![tactic(auto)]
+
 ghost use Rattle.std.specs.Prelude.{◌≡◌, ◌++◌, ◌+◌, ◌*◌, ◌≤◌, length, drop};
 ghost use Rattle.words.specs.Writing.{written};
 ghost use Rattle.decimal.specs.Decimal.{decimal, spaced, numbers_end};

@@ -1,4 +1,7 @@
 // Reading back: the wiring state that gave a response.
+
+#![tactic(auto)]
+
 ghost use Rattle.std.specs.Prelude.{◌≡◌, ℕ, ◌<◌, ◌≤◌, length};
 ghost use Rattle.words.specs.Bits.{at};
 ghost use Rattle.words.specs.Answers.{count_of, lent_after};

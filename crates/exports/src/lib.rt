@@ -1,6 +1,9 @@
 // The calls for C and Rust, where a list is a pointer and a length, and a list of a fixed length a pointer. Each but
 // `fontarelga_to_drive`, which returns a count, returns 0 if it is accepted, or the number of the refusal. What else it
 // answers goes into lent lists; after a refusal they are as they were.
+
+#![tactic(auto)]
+
 ghost use Rattle.std.specs.Prelude.{◌≡◌, length};
 ghost use Rattle.words.specs.Answers.{lent_after};
 ghost use Rattle.network.specs.Reading.{network_with};

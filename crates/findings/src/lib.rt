@@ -1,5 +1,8 @@
 // What is found at the receivers of a wiring state. `partners_of` and `finding_of` ask that the board is admitted and
 // that the state is one of its own.
+
+#![tactic(auto)]
+
 ghost use Rattle.std.specs.Prelude.{◌≡◌, ℕ, ◌<◌, not, eqb, length};
 ghost use Rattle.words.specs.Answers.{count_of, lent_after};
 ghost use Rattle.words.specs.Bits.{has};

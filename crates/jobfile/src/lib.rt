@@ -1,5 +1,8 @@
 // The mark of a job file, compared for the reader and written for the writer, and the size of its nets body;
 // specs/Layout.antt has the whole layout. `put_mark` is a helper between crates that asks for room.
+
+#![tactic(auto)]
+
 ghost use Rattle.std.specs.Prelude.{◌≡◌, ◌≤◌, length};
 ghost use Rattle.words.specs.Writing.{written};
 ghost use Rattle.jobfile.specs.Layout.{mark, same_bytes, bad_mark};

@@ -1,4 +1,7 @@
 // The report on a job file, as text.
+
+#![tactic(auto)]
+
 ghost use Rattle.std.specs.Prelude.{◌≡◌, ◌+◌, ◌≤◌, length, replicate};
 ghost use Rattle.words.specs.Answers.{full, NoneHolds, lent_after};
 ghost use Rattle.words.specs.Writing.{written};

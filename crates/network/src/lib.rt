@@ -1,5 +1,8 @@
 // A network of nets, what its receivers read, and the calls that list own receivers and work out the response of a
 // wiring state.
+
+#![tactic(auto)]
+
 ghost use Rattle.std.specs.Prelude.{◌≡◌, length};
 ghost use Rattle.words.specs.Answers.{count_of, lent_after};
 ghost use Rattle.network.specs.Respond.{response_answer, meaning};

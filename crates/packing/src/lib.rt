@@ -1,4 +1,7 @@
 // Results as words in lent lists.
+
+#![tactic(auto)]
+
 pub mod lists;
 pub mod record;
 pub mod table;

@@ -1,4 +1,7 @@
 // Reading job files.
+
+#![tactic(auto)]
+
 ghost use Rattle.std.specs.Prelude.{◌≡◌, false, length};
 ghost use Rattle.words.specs.Answers.{lent_after};
 ghost use Rattle.jobfile.specs.Layout.{bad_mark, bad_layout, bad_bodies};

@@ -1,4 +1,7 @@
 // The report on the job file that standard input holds.
+
+#![tactic(auto)]
+
 ghost use Rattle.std.specs.Prelude.{◌≡◌, length};
 ghost use Rattle.listing.specs.Report.{deciding_bytes};
 ghost use Rattle.report.specs.Input.{Within};

@@ -1,5 +1,8 @@
 // Clocks for a boundary-scan chain by IEEE 1149.1: the calls *write clocks*, a test set as TMS and TDI bits, and *read
 // clocks*, its responses from TDO bits. EXTEST is loaded already, and a pod starts and ends in Run-Test/Idle.
+
+#![tactic(auto)]
+
 ghost use Rattle.std.specs.Prelude.{◌≡◌, length};
 ghost use Rattle.words.specs.Answers.{count_of, lent_after};
 ghost use Rattle.scan_chain.specs.Calls.{nets_refusal, write_answer, read_answer, meaning};

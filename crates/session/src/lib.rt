@@ -1,4 +1,7 @@
 // The two-step session: a record that each accepted call advances.
+
+#![tactic(auto)]
+
 ghost use Rattle.std.specs.Prelude.{◌≡◌, length};
 ghost use Rattle.words.specs.Answers.{lent_after};
 ghost use Rattle.session.specs.Calls.{begin_answer, begun, first_answer, first_answered, second_answered};

@@ -7,6 +7,9 @@
 // form as unreadable. The receivers of a call or of a record are shown unless they are one a net. `lent` gives the
 // length of the list lent, and after `kept` stand its entries that the call left as they were; after an accepted call
 // stand what the record then says, and the vectors to drive next.
+
+#![tactic(auto)]
+
 mod calls;
 
 use session::Session;

@@ -1,4 +1,7 @@
 // Shorter sets: vectors dropped from a passed set within a budget of checks, as long as it stays passed.
+
+#![tactic(auto)]
+
 ghost use Rattle.std.specs.Prelude.{◌≡◌, length};
 ghost use Rattle.words.specs.Answers.{lent_after};
 ghost use Rattle.network.specs.Rows.{admission};

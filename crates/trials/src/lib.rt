@@ -1,5 +1,8 @@
 // What the programs that try tables of calls share: the input, the lines of a table, what they say of the networks and
 // the receivers of the calls, the numbers in a line, and what is shown of a call.
+
+#![tactic(auto)]
+
 ghost use Rattle.io.specs.Counts.{IsPrefixLen};
 
 pub mod lent;

@@ -1,6 +1,9 @@
 // Turning: the calls *turn*, parallel words into sequential ones, and *turn back*. Both exchange rows and columns, as a
 // matrix is transposed. `fill_sequential` and `fill_parallel` are helpers between crates: each asks for at most 64 rows
 // and columns, and for room.
+
+#![tactic(auto)]
+
 ghost use Rattle.std.specs.Prelude.{◌≡◌, ◌≤◌, length};
 ghost use Rattle.words.specs.Answers.{full, count_of, lent_after};
 ghost use Rattle.words.specs.Turning.{transpose};

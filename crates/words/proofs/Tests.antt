@@ -83,17 +83,17 @@ pub decides_itself : (b : Bool) → Decides b (b ≡ true)
 decides_itself b = (λ e. e, λ e f. contrary f e)
 
 pub decides_off : (b : Bool) → Decides (not b) (b ≡ false)
-decides_off b = (borrow.Author.Tests.not_true b, λ e f. contrary (ap not f) e)
+decides_off b = (borrow.Author.Tests.not-true b, λ e f. contrary (ap not f) e)
 
 -- the same said otherwise
 pub decides_same : {a : Bool} {A B : Type 0} → (A → B) → (B → A) → Decides a A → Decides a B
 decides_same there back d = (λ e. there (d.0 e), λ e h. d.1 e (back h))
 
 pub decides_less : (a b : ℕ) → Decides (ltb a b) (a < b)
-decides_less a b = (ltb-true a b, λ e l. contrary (borrow.Author.Tests.lt_ltb a b l) e)
+decides_less a b = (ltb-true a b, λ e l. contrary (borrow.Author.Tests.lt-ltb a b l) e)
 
 pub decides_at_most : (a b : ℕ) → Decides (leb a b) (a ≤ b)
-decides_at_most a b = (leb-true a b, λ e l. contrary (borrow.Author.Tests.le_leb a b l) e)
+decides_at_most a b = (leb-true a b, λ e l. contrary (borrow.Author.Tests.le-leb a b l) e)
 
 pub decides_equal : (a b : ℕ) → Decides (eqb a b) (a ≡ b)
 decides_equal a b = (eqb-true a b, eqb-false a b)
@@ -106,7 +106,7 @@ decides_or {a} {b} f g = (
 )
 
 pub decides_not : {a : Bool} {A : Type 0} → Decides a A → Decides (not a) (¬ A)
-decides_not {a} f = (λ e. f.1 (borrow.Author.Tests.not_true a e), λ e n. n (f.0 (borrow.Author.Tests.not_false a e)))
+decides_not {a} f = (λ e. f.1 (borrow.Author.Tests.not-true a e), λ e n. n (f.0 (borrow.Author.Tests.not-false a e)))
 
 -- a test passes where what it decides holds
 pub test_passes : {a : Bool} {A : Type 0} → Decides a A → A → a ≡ true

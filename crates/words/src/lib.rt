@@ -1,4 +1,7 @@
 // Words of bits: parallel words across the nets, sequential words along the vectors.
+
+#![tactic(auto)]
+
 pub mod lists;
 pub mod ranks;
 pub mod sets;

@@ -1,4 +1,7 @@
 // Writing job files.
+
+#![tactic(auto)]
+
 ghost use Rattle.std.specs.Prelude.{◌≡◌, length};
 ghost use Rattle.words.specs.Answers.{count_of, lent_after};
 ghost use Rattle.writer.specs.Writer.{write_answer, meaning};
