@@ -9,7 +9,7 @@ use crate::{checking, finding, own, responding, shortening, turned};
 use trials::setting::Setting;
 use trials::{Line, setting, show};
 
-#[derive(Drop)]
+#[derive(Clone, Copy)]
 enum Call {
     Unknown,
     Check,

@@ -16,14 +16,14 @@ mod unbounded;
 use network::{Admission, Network};
 
 // What the checker's rule gives: pass, or the pair of driver sets that it shows.
-#[derive(Drop)]
+#[derive(Clone, Copy)]
 pub enum Verdict {
     Pass,
     Pair(u64, u64),
 }
 
 // What the call answers.
-#[derive(Drop)]
+#[derive(Clone, Copy)]
 pub enum Checked {
     Pass,
     Pair(u64, u64),

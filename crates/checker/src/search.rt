@@ -11,7 +11,7 @@ use words::{Search, Stv};
 
 // What a visit of some sets comes to: a set that reads as a smaller one does, after the index of that, or how many sets
 // there are by now.
-#[derive(Drop)]
+#[derive(Clone, Copy)]
 pub enum Visited {
     Confused(u64, u64),
     Count(usize),

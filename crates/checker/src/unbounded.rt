@@ -9,7 +9,7 @@ use crate::Verdict;
 use network::Network;
 
 // Whether the extra vector is there, and the drivers whose walking vectors are.
-#[derive(Drop)]
+#[derive(Clone, Copy)]
 struct Walked {
     extra: bool,
     drivers: u64,

@@ -19,7 +19,7 @@ use checker::Verdict;
 use network::{Admission, Network};
 
 // What the call *diagnosis* answers: how many words it wrote, or the refusal.
-#[derive(Drop)]
+#[derive(Clone, Copy)]
 pub enum Diagnosed {
     Wrote(u64),
     Refused(u64),

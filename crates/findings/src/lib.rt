@@ -14,7 +14,7 @@ ghost use Rattle.findings.specs.FindingsTable.{findings_answer, table_meaning, b
 use network::Network;
 
 // What is found at one receiver: kind 0 sound, 1 open, 2 short, 3 both. The partners are nets.
-#[derive(Drop)]
+#[derive(Clone, Copy)]
 pub struct Finding {
     pub kind: u64,
     pub reach: u64,
@@ -22,7 +22,7 @@ pub struct Finding {
 }
 
 // What the call *findings* answers: 0 if it is accepted, or the refusal's number; and the table after it.
-#[derive(Drop)]
+#[derive(Clone, Copy)]
 pub struct Tabled {
     pub code: u64,
     pub table: [Finding; 64],

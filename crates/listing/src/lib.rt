@@ -18,7 +18,7 @@ use reader::ReadJob;
 
 // A text: its bytes from the first on, this many. 4,142 bytes hold the longest report: 110 for line one, and 84 for
 // each of 48 nets.
-#[derive(Drop)]
+#[derive(Clone, Copy)]
 pub struct Text {
     pub count: usize,
     pub bytes: [u8; 4142],

@@ -15,7 +15,7 @@ pub mod refusals;
 // The nets of a network, n in document 01: each has one driver. The soft level is what a receiver reads that floats, 0
 // or 1. The gate joins what several drivers drive: OR, 0, or AND, 1. A call that asks for the receivers takes a list of
 // its own, with the net of each; a net has one or more.
-#[derive(Drop)]
+#[derive(Clone, Copy)]
 pub struct Network {
     pub nets: u64,
     pub level: u64,
@@ -23,14 +23,14 @@ pub struct Network {
 }
 
 // What the rows of a network, its receivers if the call takes them, a class and a test set say.
-#[derive(Drop)]
+#[derive(Clone, Copy)]
 pub enum Admission {
     Admitted,
     Refused(u64),
 }
 
 // What the calls *response from a state* and *own receivers* answer: how many words they wrote, or the refusal.
-#[derive(Drop)]
+#[derive(Clone, Copy)]
 pub enum Responded {
     Wrote(u64),
     Refused(u64),

@@ -13,7 +13,7 @@ use network::{Admission, Network};
 
 // What the reader answers besides the words: the network, the class, the kind of the vectors' body, and how many
 // vectors and responses were read.
-#[derive(Drop)]
+#[derive(Clone, Copy)]
 pub struct Job {
     pub network: Network,
     pub class: u64,
@@ -23,7 +23,7 @@ pub struct Job {
 }
 
 // What the call *read a job file* answers.
-#[derive(Drop)]
+#[derive(Clone, Copy)]
 pub enum ReadJob {
     Content(Job),
     Refused(u64),

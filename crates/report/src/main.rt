@@ -7,7 +7,7 @@ ghost use Rattle.listing.specs.Report.{deciding_bytes};
 ghost use Rattle.report.specs.Input.{Within};
 
 // How many bytes were read: to the end of standard input, or to the end of the buffer; or that a read failed.
-#[derive(Drop)]
+#[derive(Clone, Copy)]
 enum Input {
     Ended(usize),
     Full(usize),

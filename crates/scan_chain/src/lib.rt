@@ -14,7 +14,7 @@ pub mod clocks;
 pub mod tdo;
 
 // What the calls *write clocks* and *read clocks* answer: how many bytes or words they wrote, or the refusal.
-#[derive(Drop)]
+#[derive(Clone, Copy)]
 pub enum Clocked {
     Wrote(u64),
     Refused(u64),

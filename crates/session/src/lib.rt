@@ -15,7 +15,7 @@ use network::Network;
 
 // A session's record. Step 1 waits for first answers, 2 for second answers, 3 is finished; what a step does not use is
 // 0. `owners` begins with the net of each of the receivers.
-#[derive(Drop)]
+#[derive(Clone, Copy)]
 pub struct Session {
     pub step: u64,
     pub network: Network,
@@ -27,7 +27,7 @@ pub struct Session {
 }
 
 // What a call on a session does: 0 if it is accepted, or the refusal's number; and the record after it.
-#[derive(Drop)]
+#[derive(Clone, Copy)]
 pub struct Stepped {
     pub code: u64,
     pub session: Session,

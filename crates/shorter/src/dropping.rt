@@ -11,7 +11,7 @@ use checker::Verdict;
 use network::Network;
 
 // What is left of a set: the vectors kept, how many they are, and the checks made.
-#[derive(Drop)]
+#[derive(Clone, Copy)]
 pub struct Left {
     pub words: [u64; 64],
     pub count: usize,

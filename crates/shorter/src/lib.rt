@@ -13,7 +13,7 @@ mod floors;
 use network::{Admission, Network};
 
 // What the call *shorten* answers besides the vectors: how many are kept, the checks made, and the floor.
-#[derive(Drop)]
+#[derive(Clone, Copy)]
 pub struct Shortened {
     pub kept: u64,
     pub checks: u64,
@@ -21,7 +21,7 @@ pub struct Shortened {
 }
 
 // What the call answers.
-#[derive(Drop)]
+#[derive(Clone, Copy)]
 pub enum Shortening {
     Kept(Shortened),
     Refused(u64),

@@ -12,7 +12,7 @@ pub mod setting;
 pub mod show;
 
 // What a line of a table is.
-#[derive(Drop)]
+#[derive(Clone, Copy)]
 pub enum Line {
     Skipped,
     Setting,

@@ -11,7 +11,7 @@ pub const END: u8 = b'\n';
 const TOO_MUCH: u8 = b'?';
 
 // How many words a list has, the byte that ended it, and the index past that byte in the text.
-#[derive(Drop)]
+#[derive(Clone, Copy)]
 pub struct List {
     pub count: usize,
     pub mark: u8,

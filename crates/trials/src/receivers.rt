@@ -6,7 +6,7 @@ use crate::show;
 use network::Responded;
 
 // One receiver a net, whatever the nets are; or a list with the net of each receiver, the first `count` of `owners`.
-#[derive(Drop)]
+#[derive(Clone, Copy)]
 pub struct Receivers {
     pub own: bool,
     pub count: usize,

@@ -7,7 +7,7 @@ use crate::{Line, read, receivers, show};
 use network::Network;
 
 // All that a call takes of a board but the number of its nets: the soft level, the gate and the receivers.
-#[derive(Drop)]
+#[derive(Clone, Copy)]
 pub struct Setting {
     pub level: u64,
     pub gate: u64,

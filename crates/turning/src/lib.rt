@@ -12,7 +12,7 @@ ghost use Rattle.turning.specs.Turn.{bad_nets, wrong_words, turn_answer, turn_ba
 use network::Network;
 
 // What the calls *turn* and *turn back* answer: how many words they wrote, or the refusal.
-#[derive(Drop)]
+#[derive(Clone, Copy)]
 pub enum Turned {
     Wrote(u64),
     Refused(u64),

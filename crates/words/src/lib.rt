@@ -8,15 +8,15 @@ pub mod sets;
 pub mod turning;
 
 // A parallel word, one bit a net: the source's PTV (parallel test vector).
-#[derive(Drop)]
+#[derive(Clone, Copy)]
 pub struct Ptv(pub u64);
 
 // A sequential word, one bit a vector: the source's STV (sequential test vector), and SRV for a response.
-#[derive(Drop)]
+#[derive(Clone, Copy)]
 pub struct Stv(pub u64);
 
 // What a search finds.
-#[derive(Drop)]
+#[derive(Clone, Copy)]
 pub enum Search {
     Found(u64),
     Missing,

@@ -11,7 +11,7 @@ mod writing;
 use network::{Admission, Network};
 
 // What the call *write a job file* answers: how many bytes it wrote, or the refusal.
-#[derive(Drop)]
+#[derive(Clone, Copy)]
 pub enum Wrote {
     Bytes(u64),
     Refused(u64),

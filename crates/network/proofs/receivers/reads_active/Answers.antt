@@ -1,0 +1,15 @@
+use borrow.Author.Rules.{rules}
+use Prim.Native.Nat.{◌<◌, ◌^◌}
+use mathlib.Core.Path.{sym, ap₂, ◌∙◌}
+use mathlib.Core.Bool.{Bool, ◌&&◌, ◌||◌}
+use lib.Dec.{eqb}
+use Rattle.network.proofs.Reading.{active_reads}
+use Rattle.network.proofs.receivers.reads_active.Goals as goal
+
+pub returns : goal.returns
+returns c vector shown =
+    let s = c in
+    let a = c.args in
+    let inside : a.reach < 2 ^ 64 = search rules in
+    ap₂ (λ (extra some : Bool). (eqb a.reach 0 && extra) || some) c.requires.1 c.meets-some.ensures
+    ∙ sym (active_reads a.net a.reach vector a.bits shown inside)

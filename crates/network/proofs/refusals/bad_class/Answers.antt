@@ -1,0 +1,5 @@
+use mathlib.Core.Path.{refl}
+use Rattle.network.proofs.refusals.bad_class.Goals as goal
+
+pub returns : goal.returns
+returns c = refl
