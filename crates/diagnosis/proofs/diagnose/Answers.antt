@@ -331,4 +331,7 @@ pub returns : goal.returns
 returns c =
     let p = c in
     let e = c in
-    let owed = rw (reads_back_3 c (passed_2 c)) c.read_back.ensures in record { answer = owed.0; list = owed.1 }
+    record {
+      answer = rw (reads_back_3 c (passed_2 c)) c.read_back.ensures.answer;
+      list = rw (reads_back_3 c (passed_2 c)) c.read_back.ensures.list;
+    }

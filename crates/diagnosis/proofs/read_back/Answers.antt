@@ -1,4 +1,3 @@
-use borrow.Author.Tests.{not-true, not-false}
 use Prim.Native.Nat.{ℕ, ◌≤◌, ◌<◌}
 use native.Mathlib.Omega.{arith}
 use mathlib.Core.Path.{◌≡◌, sym, ap, ◌∙◌}
@@ -323,7 +322,7 @@ pub returns-then-not-gives_response : goal.returns-then-not-gives_response
 returns-then-not-gives_response c =
     let d = c in
     let a = c.args in
-    let owed = owed_refused _ 14 a.out.now (refuses_6 c (λ h. c.gives_response.ensures.1 (not-true _ c.if-not-gives_response.true) h.gives)) in record { answer = owed.0; list = owed.1 }
+    let owed = owed_refused _ 14 a.out.now (refuses_6 c (λ h. c.gives_response.ensures.1 c.if-not-gives_response.true h.gives)) in record { answer = owed.0; list = owed.1 }
 
 -- the candidate's reaches_7, as many as receivers
 module _ (c : goal.Else-not-gives_response) where
@@ -512,6 +511,6 @@ returns c =
     let owed = owed_full _ a.receivers (reaches_10 c) a.out.now _
     (accepts_10 c (record {
       of_class = is_state_2 c;
-      gives = c.gives_response.ensures.0 (not-false _ c.if-not-gives_response.false);
+      gives = c.gives_response.ensures.0 c.if-not-gives_response.false;
     }))
     (sym (reaches_size_10 c)) c.copy_words.ensures in record { answer = owed.0; list = owed.1 }

@@ -1,5 +1,5 @@
 use borrow.Author.Tests.{eq-eqb, ne_eqb}
-use Prim.Native.Nat.{ℕ, ◌+◌, ◌<◌, ◌-◌}
+use Prim.Native.Nat.{ℕ, ◌+◌, ◌<◌}
 use native.Mathlib.Nat.{not-suc-le-zero, le_refl}
 use native.Mathlib.Omega.{arith}
 use mathlib.Core.Path.{◌≡◌, refl, sym, ap, ◌∙◌}
@@ -48,10 +48,10 @@ loop-i-preserved c =
     let a = c.args in
     let room : l.i < length l.reaches = omega (arith, c.loop-i-test.true, l.invariant.0, c.requires) in
     elim c.if-answers-i.branch [
-      then-answers-i w ↦ stored_at a.set a.word a.answers.now a.reaches.now l.reaches l.i c.if-answers-i.reaches l.invariant room w.1
-    w.if-answers-i.true
-      | else-answers-i w ↦ kept_at a.set a.word a.answers.now a.reaches.now l.reaches l.i c.if-answers-i.reaches l.invariant w.1
-    w.if-answers-i.false
+      | then-answers-i w ↦ stored_at a.set a.word a.answers.now a.reaches.now l.reaches l.i c.if-answers-i.reaches l.invariant room w.reaches-is
+          w.if-answers-i.true
+      | else-answers-i w ↦ kept_at a.set a.word a.answers.now a.reaches.now l.reaches l.i c.if-answers-i.reaches l.invariant w.reaches-is
+          w.if-answers-i.false
     ]
 
 pub returns : goal.returns

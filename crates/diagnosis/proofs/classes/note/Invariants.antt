@@ -4,7 +4,6 @@ use mathlib.Core.Bool.{cond}
 use mathlib.Core.List.{List}
 use lib.Dec.{eqb}
 use lib.ListN.{length}
-use lib.ListN as ListN
 use Rattle.words.specs.Bits.{at}
 use Rattle.diagnosis.proofs.classes.note.Given as goal
 

@@ -1,5 +1,4 @@
-use borrow.Author.Rules.{rules}
-use Prim.Native.Nat.{ℕ, ◌≤◌, ◌<◌, ◌-◌, ◌^◌}
+use Prim.Native.Nat.{ℕ, ◌≤◌, ◌<◌, ◌^◌}
 use native.Mathlib.Omega.{arith}
 use mathlib.Core.Path.{◌≡◌, refl, sym, ap, ◌∙◌}
 use mathlib.Core.Bool.{cond}
@@ -81,19 +80,19 @@ loop-set-preserved c =
     let s = c in
     let a = c.args in
     elim c.if-few_drivers.branch [
-      then-few_drivers w ↦ (
-      let same : length w.3.last.1.1.1.0 ≡ length l.reaches = search rules in ap length w.6 ∙ same ∙ l.invariant.0,
-      noted_next a.net a.class a.vectors.now a.answers.now l.reaches c.if-few_drivers.reaches l.set l.invariant.1
-          (passed_sets_apart a.net a.class a.vectors.now c.requires.2) (inside_3 c)
-          (sym c.few_drivers.ensures ∙ w.if-few_drivers.true)
-          (λ i m. ap (λ (ws : List ℕ). at ws i) w.6 ∙ w.3.ensures i m
-          ∙ ap (λ (x : ℕ). cond (eqb (at a.answers.now i) x) l.set (at l.reaches i)) w.1.ensures),
-    )
+      | then-few_drivers w ↦ (
+        let same : length w.note.new.reaches ≡ length l.reaches = w.note.auto.reaches in ap length w.reaches-is ∙ same ∙ l.invariant.0,
+        noted_next a.net a.class a.vectors.now a.answers.now l.reaches c.if-few_drivers.reaches l.set l.invariant.1
+            (passed_sets_apart a.net a.class a.vectors.now c.requires.2) (inside_3 c)
+            (sym c.few_drivers.ensures ∙ w.if-few_drivers.true)
+            (λ i m. ap (λ (ws : List ℕ). at ws i) w.reaches-is ∙ w.note.ensures i m
+            ∙ ap (λ (x : ℕ). cond (eqb (at a.answers.now i) x) l.set (at l.reaches i)) w.sequential_response-response.ensures),
+      )
       | else-few_drivers w ↦ (
-      ap length w.1 ∙ l.invariant.0,
-      noted_none a.net a.class a.vectors.now a.answers.now l.reaches c.if-few_drivers.reaches l.set l.invariant.1
-          (sym c.few_drivers.ensures ∙ w.if-few_drivers.false) w.1,
-    )
+        ap length w.reaches-is ∙ l.invariant.0,
+        noted_none a.net a.class a.vectors.now a.answers.now l.reaches c.if-few_drivers.reaches l.set l.invariant.1
+            (sym c.few_drivers.ensures ∙ w.if-few_drivers.false) w.reaches-is,
+      )
     ]
 
 pub returns : goal.returns

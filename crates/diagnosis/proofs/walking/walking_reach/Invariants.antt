@@ -1,4 +1,3 @@
-use Prim.Native.Nat.{◌-◌}
 use mathlib.Core.Path.{◌≡◌}
 use lib.Count.{count_trailing_zeros}
 use Rattle.diagnosis.proofs.Gathering.{Gathering}
