@@ -1,4 +1,3 @@
-use borrow.Author.Rules.{rules}
 use Prim.Native.Nat.{ℕ, zero, suc}
 use mathlib.Core.Path.{◌≡◌, refl, sym, ap, ◌∙◌}
 use mathlib.Core.Bool.{Bool, true, false}
@@ -13,8 +12,7 @@ use Rattle.network.proofs.States.{test→state}
 use Rattle.network.proofs.Rows.{board_refuses, board_admits, board_admitted, nets_admitted}
 use Rattle.findings.specs.FindingsTable.{table_tests, findings, findings_answer, table_meaning}
 use Rattle.findings.proofs.FindingsLaws.{findings_size}
-use Rattle.findings.proofs.table_refusal.Statement.{statement}
-use Rattle.findings.proofs.table_refusal.Tie as tie
+use Rattle.findings.proofs.table_refusal.Goals as goal
 
 -- the answer by the rows
 module _ (net : Network) (owners state : List ℕ) (room : ℕ) where
@@ -58,67 +56,34 @@ module _ (net : Network) (owners state : List ℕ) (room : ℕ) where
           (ap full (sym (findings_size net owners state
           ∙ (test→state net (length owners) net.nets state eleven).size)))
 
-board_refusal_requires : tie.Need-board-refusal-requires
-board_refusal_requires c κs = search rules
+pub returns-then-code-ne0 : goal.returns-then-code-ne0
+returns-then-code-ne0 c =
+    let a = c.args in
+    by_board a.net a.receivers.now a.state.now a.room _ c.board_refusal-code.ensures
+    c.if-code-ne0.true
 
-returns : tie.Need-returns
+pub not_a_state-requires : goal.not_a_state-requires
+not_a_state-requires c =
+    let a = c.args in
+    let good = sym c.board_refusal-code.ensures ∙ c.if-code-ne0.false in
+    (nets_admitted a.net (board_admitted a.net a.receivers.now good).0).1
+
+pub returns-then-not_a_state : goal.returns-then-not_a_state
+returns-then-not_a_state c =
+    let a = c.args in
+    let good = sym c.board_refusal-code.ensures ∙ c.if-code-ne0.false in
+    by_row_11 a.net a.receivers.now a.state.now a.room good _ c.not_a_state.ensures c.if-not_a_state.true
+
+pub returns-then-no_room : goal.returns-then-no_room
+returns-then-no_room c =
+    let a = c.args in
+    let good = sym c.board_refusal-code.ensures ∙ c.if-code-ne0.false in
+    let eleven = sym c.not_a_state.ensures ∙ c.if-not_a_state.false in
+    by_row_12 a.net a.receivers.now a.state.now a.room good eleven (sym c.no_room.ensures ∙ c.if-no_room.true)
+
+pub returns : goal.returns
 returns c =
-    let a = c.before.before.before.before.args in
-    by_board a.net a.receivers.now a.state.now a.room _ c.before.board_refusal.ensures
-    c.if1.true
-
-module _ (c : tie.Else1) where
-  abbrev start : tie.Start
-  start = c.before.before.before.before
-
-  good : board_refusal start.args.net start.args.receivers.now ≡ 0
-  good = sym c.before.board_refusal.ensures ∙ c.if1.false
-
-not_a_state_requires : tie.Need-not-a-state-requires
-not_a_state_requires c κs =
-    let a = (start c).args in
-    (nets_admitted a.net (board_admitted a.net a.receivers.now (good c)).0).1
-
-returns_2 : tie.Need-returns-2
-returns_2 c =
-    let d = c.before.before in
-    let a = (start d).args in
-    by_row_11 a.net a.receivers.now a.state.now a.room (good d) _ c.before.not_a_state.ensures
-    c.if2.true
-
-no_room_requires : tie.Need-no-room-requires
-no_room_requires c κs = search rules
-
-module _ (c : tie.Else2) where
-  abbrev admitted : tie.Else1
-  admitted = c.before.before
-
-  eleven : let a = (start admitted).args in
-      not_a_state a.net (length a.receivers.now) a.net.nets a.state.now ≡ false
-  eleven = sym c.before.not_a_state.ensures ∙ c.if2.false
-
-returns_3 : tie.Need-returns-3
-returns_3 c =
-    let d = c.before.before in
-    let a = (start (admitted d)).args in
-    by_row_12 a.net a.receivers.now a.state.now a.room (good (admitted d)) (eleven d)
-    (sym c.before.no_room.ensures ∙ c.if3.true)
-
-returns_4 : tie.Need-returns-4
-returns_4 c =
-    let d = c.before.before in
-    let a = (start (admitted d)).args in
-    by_none a.net a.receivers.now a.state.now a.room (good (admitted d)) (eleven d)
-    (sym c.before.no_room.ensures ∙ c.if3.false)
-
-pub table_refusal_spec : {M : Type 1} → statement M
-table_refusal_spec =
-    tie.close
-    (tie.spec
-    board_refusal_requires
-    returns
-    not_a_state_requires
-    returns_2
-    no_room_requires
-    returns_3
-    returns_4)
+    let a = c.args in
+    let good = sym c.board_refusal-code.ensures ∙ c.if-code-ne0.false in
+    let eleven = sym c.not_a_state.ensures ∙ c.if-not_a_state.false in
+    by_none a.net a.receivers.now a.state.now a.room good eleven (sym c.no_room.ensures ∙ c.if-no_room.false)

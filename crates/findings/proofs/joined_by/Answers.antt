@@ -1,4 +1,3 @@
-use borrow.Author.Rules.{rules}
 use borrow.Author.Tests.{eq-eqb, ne_eqb}
 use mathlib.Core.Path.{◌≡◌, refl, sym, ap, ◌∙◌}
 use mathlib.Core.Bool.{Bool, true, false, not, ◌&&◌, ◌||◌}
@@ -7,8 +6,7 @@ use lib.Dec.{eqb}
 use Rattle.words.specs.Bits.{has}
 use Rattle.words.proofs.Bits.{has_zero, has_power, has_or}
 use Rattle.findings.specs.Findings.{joins}
-use Rattle.findings.proofs.joined_by.Statement.{statement}
-use Rattle.findings.proofs.joined_by.Tie as tie
+use Rattle.findings.proofs.joined_by.Goals as goal
 
 -- what the receiver joins if net i's driver reaches it; if it does not, and the reaches are the same; if neither is so
 module _ (i reach j owner other : ℕ) where
@@ -45,35 +43,24 @@ module _ (i reach j owner other : ℕ) where
 its_net : (owner j word : ℕ) → word ≡ 2 ^ owner → has word j ≡ eqb owner j
 its_net owner j word e = ap (λ (w : ℕ). has w j) e ∙ has_power owner j
 
-bit_word_requires : tie.Need-bit-word-requires
-bit_word_requires c κs = search rules
+pub returns-then-other-i-eq1 : goal.returns-then-other-i-eq1
+unfolding has
+returns-then-other-i-eq1 c j =
+    let a = c.args in
+    has_or c.bit_word-its_net.result a.other j
+    ∙ ap (λ (t : Bool). t || has a.other j) (its_net a.owner j c.bit_word-its_net.result c.bit_word-its_net.ensures)
+    ∙ sym (driver_reaches a.i a.reach j a.owner a.other (eq-eqb _ _ c.if-other-i-eq1.true))
 
-shr_if1 : tie.Need-overflow-shr-if1
-shr_if1 c = search rules
+pub returns-then-reach-other : goal.returns-then-reach-other
+unfolding has
+returns-then-reach-other c j =
+    let a = c.args in
+    its_net a.owner j c.bit_word-its_net.result c.bit_word-its_net.ensures
+    ∙ sym (same_reaches a.i a.reach j a.owner a.other (ne_eqb _ _ c.if-other-i-eq1.false) c.if-reach-other.true)
 
-returns : tie.Need-returns
+pub returns : goal.returns
 unfolding has
 returns c j =
-    let b = c.before in
-    let a = b.before.args in
-    has_or b.bit_word.result a.other j
-    ∙ ap (λ (t : Bool). t || has a.other j) (its_net a.owner j b.bit_word.result b.bit_word.ensures)
-    ∙ sym (driver_reaches a.i a.reach j a.owner a.other (eq-eqb _ _ c.if1.true))
-
-returns_2 : tie.Need-returns-2
-unfolding has
-returns_2 c j =
-    let b = c.before.before in
-    let a = b.before.args in
-    its_net a.owner j b.bit_word.result b.bit_word.ensures
-    ∙ sym (same_reaches a.i a.reach j a.owner a.other (ne_eqb _ _ c.before.if1.false) c.if2.true)
-
-returns_3 : tie.Need-returns-3
-unfolding has
-returns_3 c j =
-    let a = c.before.before.before.args in
+    let a = c.args in
     has_zero j
-    ∙ sym (joins_nothing a.i a.reach j a.owner a.other (ne_eqb _ _ c.before.if1.false) c.if2.false)
-
-pub joined_by_spec : {M : Type 1} → statement M
-joined_by_spec = tie.close (tie.spec bit_word_requires shr_if1 returns returns_2 returns_3)
+    ∙ sym (joins_nothing a.i a.reach j a.owner a.other (ne_eqb _ _ c.if-other-i-eq1.false) c.if-reach-other.false)

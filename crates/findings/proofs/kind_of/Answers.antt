@@ -1,4 +1,3 @@
-use borrow.Author.Rules.{rules}
 use native.Mathlib.Omega.{arith}
 use mathlib.Core.Path.{◌≡◌, refl, ap₂, ◌∙◌}
 use mathlib.Core.Bool.{true}
@@ -8,9 +7,8 @@ use Rattle.words.specs.Bits.{has}
 use Rattle.words.proofs.Bits.{cast_value, cast_below_two}
 use Rattle.findings.specs.OneWay.{one_way, is_number, numbers_alone}
 use Rattle.findings.proofs.KindSum.{sum_is_kind}
-use Rattle.findings.proofs.kind_of.Statement.{statement}
-use Rattle.findings.proofs.kind_of.Tie as tie
 use Rattle.findings.proofs.kind_of.Code as code
+use Rattle.findings.proofs.kind_of.Goals as goal
 
 -- bools as numbers, once or twice each, and their sum
 once : (x : ℕ) → x < 2 → x < 4
@@ -25,27 +23,6 @@ fits x l = omega arith
 added : (x y : ℕ) → x < 4 → y < 4 → x + y < 2 ^ 64
 added x y l m = omega arith
 
-shr_open : tie.Need-overflow-shr-open
-shr_open c = search rules
-
-cast_open : tie.Need-overflow-cast-open
-cast_open c = search rules
-
-cast_short : tie.Need-overflow-cast-short
-cast_short c = search rules
-
-mul_result : tie.Need-overflow-mul-result
-mul_result c = search (fits, twice, cast_below_two)
-
-add_result : tie.Need-overflow-add-result
-add_result c = search (added, once, twice, cast_below_two)
-
-returns : tie.Need-returns
-unfolding has
-returns c =
-    ap₂ (λ (opened shorted : ℕ). opened + 2 * shorted) (cast_value _) (cast_value _)
-    ∙ sum_is_kind c.args.reach c.args.i c.args.partners
-
 -- of the function as it is compiled
 pub without_branch : one_way [] (code.function).body ≡ true
 unfolding one_way
@@ -55,5 +32,14 @@ pub without_array : numbers_alone (code.function).locals ≡ true
 unfolding numbers_alone is_number
 without_array = refl
 
-pub kind_of_spec : {M : Type 1} → statement M
-kind_of_spec = tie.close (tie.spec shr_open cast_open cast_short mul_result add_result returns)
+pub overflow_mul-result : goal.overflow_mul-result
+overflow_mul-result c = search (fits, twice, cast_below_two)
+
+pub overflow_add-result : goal.overflow_add-result
+overflow_add-result c = search (added, once, twice, cast_below_two)
+
+pub returns : goal.returns
+unfolding has
+returns c =
+    ap₂ (λ (opened shorted : ℕ). opened + 2 * shorted) (cast_value _) (cast_value _)
+    ∙ sum_is_kind c.args.reach c.args.i c.args.partners
