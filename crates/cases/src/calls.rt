@@ -6,6 +6,7 @@
 // or begins with `level` or `gate` and does not go on with a space and one number, or with `receivers` and goes on with
 // no list, is shown as unreadable.
 use crate::{checking, finding, own, responding, shortening, turned};
+use std::io;
 use trials::setting::Setting;
 use trials::{Line, setting, show};
 
@@ -22,73 +23,62 @@ enum Call {
     TurningBack,
 }
 
-fn named(line: &[u8]) -> Call {
-    if check::same(line, b"check") {
-        return Call::Check;
+fn named(rt: &impl Print, line: &[u8]) -> io::Result<Call> {
+    match line {
+        b"check" => Ok(Call::Check),
+        b"own receivers" => Ok(Call::OwnReceivers),
+        b"respond" => Ok(Call::Response),
+        b"diagnose" => Ok(Call::Diagnosis),
+        b"findings" => Ok(Call::Findings),
+        b"shorten" => Ok(Call::Shortening),
+        b"turn" => Ok(Call::Turning),
+        b"turn back" => Ok(Call::TurningBack),
+        _ => {
+            show::unreadable(rt)?;
+            show::end_line(rt)?;
+            Ok(Call::Unknown)
+        }
     }
-    if check::same(line, b"own receivers") {
-        return Call::OwnReceivers;
-    }
-    if check::same(line, b"respond") {
-        return Call::Response;
-    }
-    if check::same(line, b"diagnose") {
-        return Call::Diagnosis;
-    }
-    if check::same(line, b"findings") {
-        return Call::Findings;
-    }
-    if check::same(line, b"shorten") {
-        return Call::Shortening;
-    }
-    if check::same(line, b"turn") {
-        return Call::Turning;
-    }
-    if check::same(line, b"turn back") {
-        return Call::TurningBack;
-    }
-    show::unreadable();
-    show::end_line();
-    Call::Unknown
 }
 
 // Makes the call that a line gives.
-fn called(call: Call, setting: Setting, line: &[u8]) {
+fn called(rt: &impl Print, call: Call, setting: Setting, line: &[u8]) -> io::Result<()> {
     match call {
-        Call::Check => checking::try_line(setting, line),
-        Call::OwnReceivers => own::try_line(line),
-        Call::Response => responding::try_line(false, setting, line),
-        Call::Diagnosis => responding::try_line(true, setting, line),
-        Call::Findings => finding::try_line(setting, line),
-        Call::Shortening => shortening::try_line(setting, line),
-        Call::Turning => turned::try_line(line),
-        Call::TurningBack => turned::try_line_back(line),
-        Call::Unknown => show::unreadable(),
+        Call::Check => checking::try_line(rt, setting, line)?,
+        Call::OwnReceivers => own::try_line(rt, line)?,
+        Call::Response => responding::try_line(rt, false, setting, line)?,
+        Call::Diagnosis => responding::try_line(rt, true, setting, line)?,
+        Call::Findings => finding::try_line(rt, setting, line)?,
+        Call::Shortening => shortening::try_line(rt, setting, line)?,
+        Call::Turning => turned::try_line(rt, line)?,
+        Call::TurningBack => turned::try_line_back(rt, line)?,
+        Call::Unknown => show::unreadable(rt)?,
     }
-    show::end_line();
+    show::end_line(rt)
 }
 
 // Tries a line, and returns the call that the next one makes.
-fn try_line(call: Call, setting: Setting, line: &[u8]) -> Call {
+fn try_line(rt: &impl Print, call: Call, setting: Setting, line: &[u8]) -> io::Result<Call> {
     match trials::kind_of(line) {
         Line::Skipped => {}
         Line::Setting => {}
-        Line::Name => return named(line),
-        Line::Call => called(call, setting, line),
+        Line::Name => return named(rt, line),
+        Line::Call => called(rt, call, setting, line)?,
     }
-    call
+    Ok(call)
 }
 
 // Tries the lines one by one.
-pub fn try_each(text: &[u8]) {
+pub fn try_each(rt: &impl Print, text: &[u8]) -> io::Result<()> {
     let mut call = Call::Unknown;
     let mut setting = setting::usual();
     let mut at: usize = 0;
     while at < text.len() {
-        let end = bytes::scan::find(text, at, text.len(), b'\n');
+        let end = trials::line_end(text, at);
         let line = &text[at..end];
-        setting = setting::after(setting, line);
-        call = try_line(call, setting, line);
+        setting = setting::after(rt, setting, line)?;
+        call = try_line(rt, call, setting, line)?;
         at = end + 1;
     }
+    Ok(())
 }

@@ -4,6 +4,7 @@ ghost use Rattle.std.specs.Prelude.{◌≤◌};
 
 use findings::Finding;
 use network::Network;
+use std::io;
 use trials::read::{END, MOST};
 use trials::setting::Setting;
 use trials::{lent, read, receivers, setting, show};
@@ -29,31 +30,33 @@ fn all_blank(table: [Finding; ROOM], from: usize) -> bool {
 }
 
 // How many records of a table from index `from` on are left as they were.
-fn rest(table: [Finding; ROOM], from: usize)
+fn rest(rt: &impl Print, table: [Finding; ROOM], from: usize) -> io::Result<()>
     requires { from ≤ 64 }
 {
     if all_blank(table, from) {
-        show::entry(b", kept", (ROOM - from) as u64);
+        show::entry(rt, b", kept", (ROOM - from) as u64)?;
     } else {
-        show::text(b", changed");
+        show::text(rt, b", changed")?;
     }
+    Ok(())
 }
 
 // Kind, reach and partners in each of the first records.
-fn records(table: [Finding; ROOM], count: usize)
+fn records(rt: &impl Print, table: [Finding; ROOM], count: usize) -> io::Result<()>
     requires { count ≤ 64 }
 {
     let mut i: usize = 0;
     while i < count {
         let finding = table[i];
         if 0 < i {
-            show::text(b",");
+            show::text(rt, b",")?;
         }
-        show::number(finding.kind);
-        show::number(finding.reach);
-        show::number(finding.partners);
+        show::number(rt, finding.kind)?;
+        show::number(rt, finding.reach)?;
+        show::number(rt, finding.partners)?;
         i += 1;
     }
+    Ok(())
 }
 
 // How many records a call on so many receivers fills: one a receiver, and no more than there are.
@@ -67,75 +70,85 @@ fn filled(receivers: usize) -> usize
 }
 
 // The refusal, or a record a receiver; then how many records are left as they were.
-fn whole_table(net: Network, receivers: &[u64], state: &[u64]) {
+fn whole_table(rt: &impl Print, net: Network, receivers: &[u64], state: &[u64]) -> io::Result<()> {
     let done = findings::by_value(net, receivers, state);
     let table = done.table;
     if done.code != 0 {
-        show::refusal(done.code);
-        rest(table, 0);
-        return;
+        show::refusal(rt, done.code)?;
+        return rest(rt, table, 0);
     }
     let count = filled(receivers.len());
-    records(table, count);
-    rest(table, count);
+    records(rt, table, count)?;
+    rest(rt, table, count)
 }
 
 // Receiver r's record, or the refusal.
-fn one_record(net: Network, receivers: &[u64], r: u64, state: &[u64]) {
+fn one_record(
+    rt: &impl Print,
+    net: Network,
+    receivers: &[u64],
+    r: u64,
+    state: &[u64],
+) -> io::Result<()> {
     let done = findings::by_value(net, receivers, state);
     if done.code != 0 {
-        show::refusal(done.code);
-        return;
+        return show::refusal(rt, done.code);
     }
     if filled(receivers.len()) as u64 <= r {
-        show::text(b" no such receiver");
-        return;
+        return show::text(rt, b" no such receiver");
     }
     let table = done.table;
     let finding = table[r as usize];
-    show::entry(b" kind", finding.kind);
-    show::entry(b", reach", finding.reach);
-    show::entry(b", partners", finding.partners);
+    show::entry(rt, b" kind", finding.kind)?;
+    show::entry(rt, b", reach", finding.reach)?;
+    show::entry(rt, b", partners", finding.partners)
 }
 
 // Shows the call and its result.
-fn try_findings(setting: Setting, nets: u64, state: &[u64]) {
+fn try_findings(rt: &impl Print, setting: Setting, nets: u64, state: &[u64]) -> io::Result<()> {
     let net = setting::network_in(setting, nets);
     let mut owners = [0u64; MOST];
     let count = receivers::fill(setting.receivers, nets, &mut owners);
-    show::entry(b"findings", nets);
-    show::text(b":");
-    show::reaches(state);
-    receivers::shown(setting.receivers, &owners[0..count]);
-    lent::room(ROOM);
-    whole_table(net, &owners[0..count], state);
+    show::entry(rt, b"findings", nets)?;
+    show::text(rt, b":")?;
+    show::reaches(rt, state)?;
+    receivers::shown(rt, setting.receivers, &owners[0..count])?;
+    lent::room(rt, ROOM)?;
+    whole_table(rt, net, &owners[0..count], state)
 }
 
 // What a record is of: a receiver, or its net where each net has one.
-fn record_of(own: bool, r: u64) {
+fn record_of(rt: &impl Print, own: bool, r: u64) -> io::Result<()> {
     if own {
-        show::entry(b" net", r);
+        show::entry(rt, b" net", r)?;
     } else {
-        show::entry(b" receiver", r);
+        show::entry(rt, b" receiver", r)?;
     }
+    Ok(())
 }
 
 // Shows the call and receiver r's record of its result.
-fn try_finding(setting: Setting, nets: u64, r: u64, state: &[u64]) {
+fn try_finding(
+    rt: &impl Print,
+    setting: Setting,
+    nets: u64,
+    r: u64,
+    state: &[u64],
+) -> io::Result<()> {
     let net = setting::network_in(setting, nets);
     let mut owners = [0u64; MOST];
     let count = receivers::fill(setting.receivers, nets, &mut owners);
-    show::entry(b"finding", nets);
-    record_of(setting.receivers.own, r);
-    show::text(b":");
-    show::reaches(state);
-    receivers::shown(setting.receivers, &owners[0..count]);
-    show::arrow();
-    one_record(net, &owners[0..count], r, state);
+    show::entry(rt, b"finding", nets)?;
+    record_of(rt, setting.receivers.own, r)?;
+    show::text(rt, b":")?;
+    show::reaches(rt, state)?;
+    receivers::shown(rt, setting.receivers, &owners[0..count])?;
+    show::arrow(rt)?;
+    one_record(rt, net, &owners[0..count], r, state)
 }
 
 // Tries a line: n, or n and a receiver, and after the colon the reaches.
-pub fn try_line(setting: Setting, line: &[u8]) {
+pub fn try_line(rt: &impl Print, setting: Setting, line: &[u8]) -> io::Result<()> {
     let mut head = [0u64; MOST];
     let mut words = [0u64; MOST];
     let start = read::list_at(line, 0, &mut head);
@@ -143,12 +156,10 @@ pub fn try_line(setting: Setting, line: &[u8]) {
     let count = reaches.count;
     let marked = (start.mark == b':') & (reaches.mark == END);
     if marked & (start.count == 1) {
-        try_findings(setting, head[0], &words[0..count]);
-        return;
+        return try_findings(rt, setting, head[0], &words[0..count]);
     }
     if marked & (start.count == 2) {
-        try_finding(setting, head[0], head[1], &words[0..count]);
-        return;
+        return try_finding(rt, setting, head[0], head[1], &words[0..count]);
     }
-    show::unreadable();
+    show::unreadable(rt)
 }

@@ -18,8 +18,10 @@ mod responding;
 mod shortening;
 mod turned;
 
-fn main() {
-    let mut buffer = io::large_buffer();
-    let count = trials::input(&mut buffer);
-    calls::try_each(&buffer[..count]);
+use std::io;
+
+fn main(rt: HostRuntime) -> io::Result<()> {
+    let mut buffer = [0u8; 65536];
+    let count = trials::input(&rt, &mut buffer);
+    calls::try_each(&rt, &buffer[..count])
 }

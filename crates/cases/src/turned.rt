@@ -1,57 +1,70 @@
 // The calls *turn* and *turn back*, which fill a lent list.
 ghost use Rattle.std.specs.Prelude.{◌≤◌};
 
+use std::io;
 use trials::lent::MARKER;
 use trials::read::{END, MOST};
 use trials::{lent, read, show};
 use turning::Turned;
 
 // What a call answered, and the lent list.
-fn answered(answer: Turned, list: &[u64]) {
+fn answered(rt: &impl Print, answer: Turned, list: &[u64]) -> io::Result<()> {
     match answer {
-        Turned::Wrote(count) => lent::wrote(count, list),
-        Turned::Refused(number) => lent::refused(number, list),
+        Turned::Wrote(count) => lent::wrote(rt, count, list),
+        Turned::Refused(number) => lent::refused(rt, number, list),
     }
 }
 
 // Makes the call and shows its answer and the lent list.
-fn turn(nets: u64, vectors: &[u64], list: &mut [u64]) {
+fn turn(rt: &impl Print, nets: u64, vectors: &[u64], list: &mut [u64]) -> io::Result<()> {
     let answer = turning::turn(nets, vectors, list);
-    answered(answer, list);
+    answered(rt, answer, list)
 }
 
-fn turn_back(nets: u64, count: u64, words: &[u64], list: &mut [u64]) {
+fn turn_back(
+    rt: &impl Print,
+    nets: u64,
+    count: u64,
+    words: &[u64],
+    list: &mut [u64],
+) -> io::Result<()> {
     let answer = turning::turn_back(nets, count, words, list);
-    answered(answer, list);
+    answered(rt, answer, list)
 }
 
 // `room` is the length of the list that the call is lent.
-fn try_turn(nets: u64, vectors: &[u64], room: usize)
+fn try_turn(rt: &impl Print, nets: u64, vectors: &[u64], room: usize) -> io::Result<()>
     requires { room ≤ 64 }
 {
     let mut list = [MARKER; 64];
-    show::entry(b"turn", nets);
-    show::text(b":");
-    show::words(vectors, b" vectors");
-    lent::room(room);
-    turn(nets, vectors, &mut list[0..room]);
+    show::entry(rt, b"turn", nets)?;
+    show::text(rt, b":")?;
+    show::words(rt, vectors, b" vectors")?;
+    lent::room(rt, room)?;
+    turn(rt, nets, vectors, &mut list[0..room])
 }
 
 // `count` is the number of vectors.
-fn try_turn_back(nets: u64, count: u64, words: &[u64], room: usize)
+fn try_turn_back(
+    rt: &impl Print,
+    nets: u64,
+    count: u64,
+    words: &[u64],
+    room: usize,
+) -> io::Result<()>
     requires { room ≤ 64 }
 {
     let mut list = [MARKER; 64];
-    show::entry(b"turn back", nets);
-    show::number(count);
-    show::text(b":");
-    show::words(words, b" words");
-    lent::room(room);
-    turn_back(nets, count, words, &mut list[0..room]);
+    show::entry(rt, b"turn back", nets)?;
+    show::number(rt, count)?;
+    show::text(rt, b":")?;
+    show::words(rt, words, b" words")?;
+    lent::room(rt, room)?;
+    turn_back(rt, nets, count, words, &mut list[0..room])
 }
 
 // Tries a line: n and the length of the lent list, at most 64; after the colon the vectors.
-pub fn try_line(line: &[u8]) {
+pub fn try_line(rt: &impl Print, line: &[u8]) -> io::Result<()> {
     let mut head = [0u64; MOST];
     let mut words = [0u64; MOST];
     let start = read::list_at(line, 0, &mut head);
@@ -59,15 +72,14 @@ pub fn try_line(line: &[u8]) {
     let marked = (start.mark == b':') & (vectors.mark == END);
     let room = head[1];
     if (start.count != 2) | !marked || 64 < room {
-        show::unreadable();
-        return;
+        return show::unreadable(rt);
     }
     let count = vectors.count;
-    try_turn(head[0], &words[0..count], room as usize);
+    try_turn(rt, head[0], &words[0..count], room as usize)
 }
 
 // Tries a line: n, the number of vectors and the length of the lent list, at most 64; after the colon the words.
-pub fn try_line_back(line: &[u8]) {
+pub fn try_line_back(rt: &impl Print, line: &[u8]) -> io::Result<()> {
     let mut head = [0u64; MOST];
     let mut words = [0u64; MOST];
     let start = read::list_at(line, 0, &mut head);
@@ -75,9 +87,8 @@ pub fn try_line_back(line: &[u8]) {
     let marked = (start.mark == b':') & (given.mark == END);
     let room = head[2];
     if (start.count != 3) | !marked || 64 < room {
-        show::unreadable();
-        return;
+        return show::unreadable(rt);
     }
     let count = given.count;
-    try_turn_back(head[0], head[1], &words[0..count], room as usize);
+    try_turn_back(rt, head[0], head[1], &words[0..count], room as usize)
 }

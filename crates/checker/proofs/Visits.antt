@@ -1,7 +1,7 @@
 -- The sets of the class seen so far, what each reads kept: what one set more adds, and what it finds.
 use mathlib.Core.Path.{◌≡◌, refl, sym, ap, ◌∙◌, subst}
 use mathlib.Core.Bool.{Bool, true, false, ◌&&◌}
-use mathlib.Core.Logic.{◌⊎◌, ⊎_elim}
+use mathlib.Core.Logic.{⊎_elim}
 use mathlib.Core.List.{List, [], ◌∷◌, ◌++◌, map}
 use Prim.Native.Nat.{ℕ, ◌+◌, ◌^◌, ◌≤◌, ◌<◌, zero-le}
 use native.Mathlib.Nat.{not-suc-le-zero}
@@ -81,7 +81,7 @@ module _ (net : Network) (k : ℕ) (vectors : List ℕ) where
             let same : x ≡ m = cc in
             let inside : m < length (sets_of_class k next) = rw same at (rw length_read at b) in (
               inside,
-              sym (read_at m inside) ∙ borrow.Author.Tests.eqb_true _ _ (rw same at c),
+              sym (read_at m inside) ∙ borrow.Author.Tests.eqb-true _ _ (rw same at c),
               λ j n. ap (λ (w : ℕ). eqb w answered) (sym (read_at j (omega arith))) ∙ g j zero-le (omega arith),
             )
         go Missing r q = let z : ◌≡◌ {A = ℕ} 0 1 = cc in absurd (omega arith)
@@ -110,7 +110,7 @@ module _ (net : Network) (k : ℕ) (vectors : List ℕ) where
           let up : next ≤ 2 ^ 48 = let h = pow_mono {i = net.nets} {j = 48} most in omega arith in
           let found : smaller_alike net k vectors next ≡ Found (at (sets_of_class k (2 ^ 48)) m) =
           by_class ∙ least_in_class k next (λ z. eqb (reads_as z) (reads_as next)) m r.0
-          (borrow.Author.Tests.eq_eqb _ _ r.1) r.2 ∙ ap Found (sets_front k next (2 ^ 48) m up r.0) in
+          (borrow.Author.Tests.eq-eqb _ _ r.1) r.2 ∙ ap Found (sets_front k next (2 ^ 48) m up r.0) in
           let of_class : few_drivers net k next ≡ true = few_by_ones net k next inside ∙ le-leb (ones next) k few in (
             omega (arith, r.0, sets_grow k next (2 ^ 48) up),
             first_pair net k vectors _ next inside (λ z n. seen.none_confused z n (omega arith)) of_class found,

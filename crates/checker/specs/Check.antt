@@ -4,7 +4,6 @@ use Rattle.words.specs.Answers.{Answer, refused, full, by_tests}
 use Rattle.network.specs.declared.Network.{Network}
 use Rattle.network.specs.Rows.{set_tests}
 use Rattle.checker.specs.declared.Verdict.{Verdict}
-use Rattle.checker.specs.declared.Verdict.TheVariants as Verdict
 use Rattle.checker.specs.declared.Checked.{Checked}
 use Rattle.checker.specs.declared.Checked.TheVariants.{Pass, Pair, Refused}
 use Rattle.checker.specs.Rule.{verdict}

@@ -12,7 +12,6 @@ use Rattle.network.specs.Joint.{joint_word}
 use Rattle.network.specs.States.{DriverSet, few_drivers}
 use Rattle.chains.specs.Chains.{Chains}
 use Rattle.checker.specs.declared.Verdict.{Verdict}
-use Rattle.checker.specs.declared.Verdict.TheVariants as Verdict
 use Rattle.checker.specs.declared.search.Visited.{Visited}
 use Rattle.checker.specs.declared.search.Visited.TheVariants.{Confused, Count}
 use Rattle.checker.specs.Rule.{smaller_alike, bounded_verdict}

@@ -6,6 +6,8 @@ ghost use Rattle.std.specs.Prelude.{◌≡◌, length};
 ghost use Rattle.listing.specs.Report.{deciding_bytes};
 ghost use Rattle.report.specs.Input.{Within};
 
+use std::io::Read;
+
 // How many bytes were read: to the end of standard input, or to the end of the buffer; or that a read failed.
 #[derive(Clone, Copy)]
 enum Input {
@@ -16,44 +18,40 @@ enum Input {
 
 // Reads to the end of standard input, or until the buffer is full, in as many reads as it takes. A helper: the buffer
 // has just as many bytes as decide the report.
-fn read_input(buffer: &mut [u8]) -> Input
+fn read_input(reader: &mut impl Read, buffer: &mut [u8]) -> Input
     requires { length buffer.old ≡ deciding_bytes }
     ensures { Within result (length buffer.old) }
 {
     let mut count: usize = 0;
     while count < buffer.len() {
-        let got = libc::read(0, &mut buffer[count..]);
-        if got < 0 {
-            return Input::Failed;
+        match reader.read(&mut buffer[count..]) {
+            Ok(0) => return Input::Ended(count),
+            Ok(more) => count += more,
+            Err(_) => return Input::Failed,
         }
-        let more = io::count(got, &buffer[count..]);
-        if more == 0 {
-            return Input::Ended(count);
-        }
-        count += more;
     }
     Input::Full(count)
 }
 
 // Writes the report on a file.
-fn write_report(file: &[u8]) {
+fn write_report(rt: &(impl Print + Eprint), file: &[u8]) {
     let text = listing::report(file);
     let count = text.count;
     let bytes = text.bytes;
-    if !io::write_all(1, &bytes[..count]) {
-        io::write_all(2, b"report: standard output cannot be written\n");
+    if rt.write_all(&bytes[..count]).is_err() {
+        let _ = eprintln!(rt; "report: standard output cannot be written");
     }
 }
 
 // A job file has at most 2,048 bytes: one more is enough to tell that a file has too many.
-fn main() {
+fn main(rt: HostRuntime) {
     let mut file = [0u8; 2049];
-    let input = read_input(&mut file);
+    let input = read_input(&mut rt.stdin(), &mut file);
     match input {
-        Input::Ended(size) => write_report(&file[..size]),
-        Input::Full(size) => write_report(&file[..size]),
+        Input::Ended(size) => write_report(&rt, &file[..size]),
+        Input::Full(size) => write_report(&rt, &file[..size]),
         Input::Failed => {
-            io::write_all(2, b"report: standard input cannot be read\n");
+            let _ = eprintln!(rt; "report: standard input cannot be read");
         }
     }
 }

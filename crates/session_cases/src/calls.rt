@@ -11,6 +11,7 @@ ghost use Rattle.std.specs.Prelude.{◌≡◌, ◌≤◌, length};
 
 use network::Network;
 use session::Session;
+use std::io;
 use trials::lent::MARKER;
 use trials::read::{END, MOST};
 use trials::setting::Setting;
@@ -50,14 +51,20 @@ pub fn junk() -> Session {
 }
 
 // The number of receivers of a record, if its line gives one.
-fn shown_count(is_given: bool, count: u64) {
+fn shown_count(rt: &impl Print, is_given: bool, count: u64) -> io::Result<()> {
     if is_given {
-        show::entry(b", m", count);
+        show::entry(rt, b", m", count)?;
     }
+    Ok(())
 }
 
 // The record of a line, shown and filled; each entry of its first answers and of its reaches is the same.
-fn try_record(setting: Setting, numbers: &[u64; MOST], has_count: bool) -> Session
+fn try_record(
+    rt: &impl Print,
+    setting: Setting,
+    numbers: &[u64; MOST],
+    has_count: bool,
+) -> io::Result<Session>
     requires { length numbers.now ≡ 65 }
 {
     let net = setting::network_in(setting, numbers[2]);
@@ -67,14 +74,14 @@ fn try_record(setting: Setting, numbers: &[u64; MOST], has_count: bool) -> Sessi
     if has_count {
         count = numbers[6];
     }
-    show::entry(b"record: step", numbers[1]);
-    show::entry(b", nets", net.nets);
-    shown_count(has_count, count);
-    show::entry(b", first answers all", numbers[3]);
-    show::entry(b", reaches all", numbers[4]);
-    show::entry(b", spent", numbers[5]);
-    receivers::shown(setting.receivers, &list[0..listed]);
-    Session {
+    show::entry(rt, b"record: step", numbers[1])?;
+    show::entry(rt, b", nets", net.nets)?;
+    shown_count(rt, has_count, count)?;
+    show::entry(rt, b", first answers all", numbers[3])?;
+    show::entry(rt, b", reaches all", numbers[4])?;
+    show::entry(rt, b", spent", numbers[5])?;
+    receivers::shown(rt, setting.receivers, &list[0..listed])?;
+    Ok(Session {
         step: numbers[1],
         network: net,
         receivers: count,
@@ -82,162 +89,196 @@ fn try_record(setting: Setting, numbers: &[u64; MOST], has_count: bool) -> Sessi
         first: [numbers[3]; 8],
         reaches: [numbers[4]; MOST_RECEIVERS],
         spent: numbers[5],
-    }
+    })
 }
 
-fn answer_words(words: &[u64]) {
-    show::words(words, b" words");
+fn answer_words(rt: &impl Print, words: &[u64]) -> io::Result<()> {
+    show::words(rt, words, b" words")
 }
 
 // What an accepted call left: what the record waits for, or its reaches and the count spent.
-fn standing(after: Session) {
+fn standing(rt: &impl Print, after: Session) -> io::Result<()> {
     if after.step == 1 {
-        show::text(b" waits for first answers");
-        return;
+        return show::text(rt, b" waits for first answers");
     }
     if after.step == 2 {
-        show::text(b" waits for second answers");
-        return;
+        return show::text(rt, b" waits for second answers");
     }
     let reaches = after.reaches;
-    show::text(b" finished");
-    show::part(&reaches, 0, after.receivers as usize);
-    show::entry(b", spent", after.spent);
+    show::text(rt, b" finished")?;
+    show::part(rt, &reaches, 0, after.receivers as usize)?;
+    show::entry(rt, b", spent", after.spent)
 }
 
 // The vectors to drive next.
-fn next(vectors: &[u64]) {
+fn next(rt: &impl Print, vectors: &[u64]) -> io::Result<()> {
     if vectors.len() == 0 {
-        show::text(b" nothing to drive");
-        return;
+        return show::text(rt, b" nothing to drive");
     }
-    show::text(b" drive");
-    show::part(vectors, 0, vectors.len());
+    show::text(rt, b" drive")?;
+    show::part(rt, vectors, 0, vectors.len())
 }
 
 // An accepted call with a lent list: the words written, as many as are to be driven, and the entries left; then the
 // record.
-fn accepted(after: Session, vectors: &[u64], list: &[u64]) {
+fn accepted(rt: &impl Print, after: Session, vectors: &[u64], list: &[u64]) -> io::Result<()> {
     if vectors.len() == 0 {
-        show::text(b" no words");
+        show::text(rt, b" no words")?;
     }
-    lent::wrote(vectors.len() as u64, list);
-    show::semicolon();
-    standing(after);
-    show::semicolon();
-    next(vectors);
+    lent::wrote(rt, vectors.len() as u64, list)?;
+    show::semicolon(rt)?;
+    standing(rt, after)?;
+    show::semicolon(rt)?;
+    next(rt, vectors)
 }
 
 // An accepted *begin*: the list written is the first one.
-fn begun(after: Session, list: &[u64]) {
+fn begun(rt: &impl Print, after: Session, list: &[u64]) -> io::Result<()> {
     accepted(
+        rt,
         after,
         session::drive::to_drive(after, list, &list[..0]),
         list,
-    );
+    )
 }
 
 // Accepted first answers: the list written is the second one.
-fn answered(after: Session, list: &[u64]) {
+fn answered(rt: &impl Print, after: Session, list: &[u64]) -> io::Result<()> {
     accepted(
+        rt,
         after,
         session::drive::to_drive(after, &list[..0], list),
         list,
-    );
+    )
 }
 
 // Makes the call *begin* and shows its answer and the lent list.
-fn begin_into(before: Session, net: Network, receivers: &[u64], list: &mut [u64]) -> Session {
+fn begin_into(
+    rt: &impl Print,
+    before: Session,
+    net: Network,
+    receivers: &[u64],
+    list: &mut [u64],
+) -> io::Result<Session> {
     let done = session::by_value::begin(before, net, receivers, list);
     if done.code != 0 {
-        lent::refused(done.code, list);
+        lent::refused(rt, done.code, list)?;
     } else {
-        begun(done.session, list);
+        begun(rt, done.session, list)?;
     }
-    done.session
+    Ok(done.session)
 }
 
 // Makes the call *first answers* and shows its answer and the lent list.
-fn first_into(before: Session, answers: &[u64], list: &mut [u64]) -> Session {
+fn first_into(
+    rt: &impl Print,
+    before: Session,
+    answers: &[u64],
+    list: &mut [u64],
+) -> io::Result<Session> {
     let done = session::by_value::first_answers(before, answers, list);
     if done.code != 0 {
-        lent::refused(done.code, list);
+        lent::refused(rt, done.code, list)?;
     } else {
-        answered(done.session, list);
+        answered(rt, done.session, list)?;
     }
-    done.session
+    Ok(done.session)
 }
 
 // The call *begin*, with `room` entries lent.
-fn try_begin(before: Session, setting: Setting, nets: u64, room: usize) -> Session
+fn try_begin(
+    rt: &impl Print,
+    before: Session,
+    setting: Setting,
+    nets: u64,
+    room: usize,
+) -> io::Result<Session>
     requires { room ≤ 64 }
 {
     let mut list = [MARKER; 64];
     let net = setting::network_in(setting, nets);
     let mut owners = [0u64; MOST];
     let count = receivers::fill(setting.receivers, nets, &mut owners);
-    show::entry(b"begin", nets);
-    receivers::shown(setting.receivers, &owners[0..count]);
-    lent::room(room);
-    begin_into(before, net, &owners[0..count], &mut list[0..room])
+    show::entry(rt, b"begin", nets)?;
+    receivers::shown(rt, setting.receivers, &owners[0..count])?;
+    lent::room(rt, room)?;
+    begin_into(rt, before, net, &owners[0..count], &mut list[0..room])
 }
 
 // The call *first answers*, with `room` entries lent.
-fn try_first(before: Session, answers: &[u64], room: usize) -> Session
+fn try_first(rt: &impl Print, before: Session, answers: &[u64], room: usize) -> io::Result<Session>
     requires { room ≤ 64 }
 {
     let mut list = [MARKER; 64];
-    show::text(b"first answers:");
-    answer_words(answers);
-    lent::room(room);
-    first_into(before, answers, &mut list[0..room])
+    show::text(rt, b"first answers:")?;
+    answer_words(rt, answers)?;
+    lent::room(rt, room)?;
+    first_into(rt, before, answers, &mut list[0..room])
 }
 
 // The call *second answers*.
-fn try_second(before: Session, answers: &[u64]) -> Session {
-    show::text(b"second answers:");
-    answer_words(answers);
-    show::arrow();
+fn try_second(rt: &impl Print, before: Session, answers: &[u64]) -> io::Result<Session> {
+    show::text(rt, b"second answers:")?;
+    answer_words(rt, answers)?;
+    show::arrow(rt)?;
     let done = session::by_value::second_answers(before, answers);
     let after = done.session;
     if done.code != 0 {
-        show::refusal(done.code);
-        return after;
+        show::refusal(rt, done.code)?;
+        return Ok(after);
     }
-    standing(after);
-    show::semicolon();
-    next(session::drive::to_drive(after, answers, answers));
-    after
+    standing(rt, after)?;
+    show::semicolon(rt)?;
+    next(rt, session::drive::to_drive(after, answers, answers))?;
+    Ok(after)
 }
 
 // The vectors to drive next, of these two lists.
-fn try_drive<'a>(before: Session, first: &'a [u64], second: &'a [u64]) {
-    show::text(b"lists:");
-    answer_words(first);
-    show::semicolon();
-    answer_words(second);
-    show::arrow();
-    next(session::drive::to_drive(before, first, second));
+fn try_drive<'a>(
+    rt: &impl Print,
+    before: Session,
+    first: &'a [u64],
+    second: &'a [u64],
+) -> io::Result<()> {
+    show::text(rt, b"lists:")?;
+    answer_words(rt, first)?;
+    show::semicolon(rt)?;
+    answer_words(rt, second)?;
+    show::arrow(rt)?;
+    next(rt, session::drive::to_drive(before, first, second))
 }
 
 // A line with no colon: *begin*, or a record that is filled.
-fn try_numbers(before: Session, setting: Setting, head: &[u64; MOST], count: usize) -> Session
+fn try_numbers(
+    rt: &impl Print,
+    before: Session,
+    setting: Setting,
+    head: &[u64; MOST],
+    count: usize,
+) -> io::Result<Session>
     requires { length head.now ≡ 65 }
 {
     let room = head[2];
     if (count == 3) & (head[0] == 1) && room <= 64 {
-        return try_begin(before, setting, head[1], room as usize);
+        return try_begin(rt, before, setting, head[1], room as usize);
     }
     if ((count == 6) | (count == 7)) & (head[0] == 5) {
-        return try_record(setting, head, count == 7);
+        return try_record(rt, setting, head, count == 7);
     }
-    show::unreadable();
-    before
+    show::unreadable(rt)?;
+    Ok(before)
 }
 
 // A line with a colon, from the index past it on: first answers, second answers, or two lists to drive of. `count` is
 // that of the numbers before it.
-fn try_lists(before: Session, head: &[u64; MOST], count: usize, line: &[u8], at: usize) -> Session
+fn try_lists(
+    rt: &impl Print,
+    before: Session,
+    head: &[u64; MOST],
+    count: usize,
+    line: &[u8],
+    at: usize,
+) -> io::Result<Session>
     requires { (length head.now ≡ 65) × (at ≤ length line.now) }
 {
     let mut words = [0u64; MOST];
@@ -249,29 +290,34 @@ fn try_lists(before: Session, head: &[u64; MOST], count: usize, line: &[u8], at:
     let room = head[1];
     let single = list.mark == END;
     if single & (count == 2) & (head[0] == 2) && room <= 64 {
-        return try_first(before, &words[0..most], room as usize);
+        return try_first(rt, before, &words[0..most], room as usize);
     }
     if single & (count == 1) & (head[0] == 3) {
-        return try_second(before, &words[0..most]);
+        return try_second(rt, before, &words[0..most]);
     }
     if (list.mark == b';') & (second.mark == END) & (count == 1) & (head[0] == 4) {
-        try_drive(before, &words[0..most], &others[0..more]);
-        return before;
+        try_drive(rt, before, &words[0..most], &others[0..more])?;
+        return Ok(before);
     }
-    show::unreadable();
-    before
+    show::unreadable(rt)?;
+    Ok(before)
 }
 
 // Tries a line, and returns the record after it.
-pub fn try_line(before: Session, setting: Setting, line: &[u8]) -> Session {
+pub fn try_line(
+    rt: &impl Print,
+    before: Session,
+    setting: Setting,
+    line: &[u8],
+) -> io::Result<Session> {
     let mut head = [0u64; MOST];
     let start = read::list_at(line, 0, &mut head);
     if start.mark == b':' {
-        return try_lists(before, &head, start.count, line, start.end);
+        return try_lists(rt, before, &head, start.count, line, start.end);
     }
     if start.mark == END {
-        return try_numbers(before, setting, &head, start.count);
+        return try_numbers(rt, before, setting, &head, start.count);
     }
-    show::unreadable();
-    before
+    show::unreadable(rt)?;
+    Ok(before)
 }

@@ -13,53 +13,60 @@
 mod calls;
 
 use session::Session;
+use std::io;
 use trials::setting::Setting;
 use trials::{Line, setting, show};
 
 // A line `session` starts a record of junk.
-fn begun(line: &[u8]) -> Session {
-    if check::same(line, b"session") {
-        show::text(b"session\n");
+fn begun(rt: &impl Print, line: &[u8]) -> io::Result<Session> {
+    if line == b"session".as_slice() {
+        show::text(rt, b"session\n")?;
     } else {
-        show::unreadable();
-        show::end_line();
+        show::unreadable(rt)?;
+        show::end_line(rt)?;
     }
-    calls::junk()
+    Ok(calls::junk())
 }
 
 // Makes the call that a line gives, and returns the record after it.
-fn called(before: Session, setting: Setting, line: &[u8]) -> Session {
-    let after = calls::try_line(before, setting, line);
-    show::end_line();
-    after
+fn called(rt: &impl Print, before: Session, setting: Setting, line: &[u8]) -> io::Result<Session> {
+    let after = calls::try_line(rt, before, setting, line)?;
+    show::end_line(rt)?;
+    Ok(after)
 }
 
 // Tries a line, and returns the record after it.
-fn try_line(before: Session, setting: Setting, line: &[u8]) -> Session {
+fn try_line(
+    rt: &impl Print,
+    before: Session,
+    setting: Setting,
+    line: &[u8],
+) -> io::Result<Session> {
     match trials::kind_of(line) {
-        Line::Skipped => before,
-        Line::Setting => before,
-        Line::Name => begun(line),
-        Line::Call => called(before, setting, line),
+        Line::Skipped => Ok(before),
+        Line::Setting => Ok(before),
+        Line::Name => begun(rt, line),
+        Line::Call => called(rt, before, setting, line),
     }
 }
 
 // Tries the lines of a text one by one.
-fn try_each(text: &[u8]) {
+fn try_each(rt: &impl Print, text: &[u8]) -> io::Result<()> {
     let mut record = calls::junk();
     let mut setting = setting::usual();
     let mut at: usize = 0;
     while at < text.len() {
-        let end = bytes::scan::find(text, at, text.len(), b'\n');
+        let end = trials::line_end(text, at);
         let line = &text[at..end];
-        setting = setting::after(setting, line);
-        record = try_line(record, setting, line);
+        setting = setting::after(rt, setting, line)?;
+        record = try_line(rt, record, setting, line)?;
         at = end + 1;
     }
+    Ok(())
 }
 
-fn main() {
-    let mut buffer = io::large_buffer();
-    let count = trials::input(&mut buffer);
-    try_each(&buffer[..count]);
+fn main(rt: HostRuntime) -> io::Result<()> {
+    let mut buffer = [0u8; 65536];
+    let count = trials::input(&rt, &mut buffer);
+    try_each(&rt, &buffer[..count])
 }

@@ -3,7 +3,10 @@
 
 #![tactic(auto)]
 
-ghost use Rattle.io.specs.Counts.{IsPrefixLen};
+ghost use Rattle.std.specs.Counts.{IsPrefixLen};
+ghost use Rattle.std.specs.Prelude.{◌≡◌, ◌≢◌, ℕ, ◌<◌, ◌≤◌, length, slice_index};
+
+use std::io::{Input, Read};
 
 pub mod lent;
 pub mod read;
@@ -39,16 +42,49 @@ pub fn kind_of(line: &[u8]) -> Line {
     Line::Call
 }
 
+// Where the first line end of a text stands from index `from` on; the length of the text if it has none there.
+pub fn line_end(text: &[u8], from: usize) -> usize
+    requires { from ≤ length text.now }
+    ensures start { from ≤ result }
+    ensures within { result ≤ length text.now }
+    ensures before { (k : ℕ) → from ≤ k → k < result → slice_index text.now k ≢ 10 }
+    ensures found { result < length text.now → slice_index text.now result ≡ 10 }
+{
+    let mut i = from;
+    while i < text.len() {
+        if text[i] == b'\n' {
+            return i;
+        }
+        i += 1;
+    }
+    i
+}
+
+// Says that the input was not read, and how many bytes it has then.
+fn unread(rt: &impl Eprint) -> usize
+    ensures { result ≡ 0 }
+{
+    let _ = eprintln!(rt; "standard input cannot be read to its end");
+    0
+}
+
 // Reads standard input to its end, and returns how many bytes it has; none where the buffer is too short for it or a
 // read fails. A read after the end answers 0.
-pub fn input(buffer: &mut [u8]) -> usize
+pub fn input(rt: &(impl Input + Eprint), buffer: &mut [u8]) -> usize
     ensures { IsPrefixLen result buffer.new }
 {
-    let mut past = [0u8; 1];
-    let count = io::read_full(0, buffer);
-    if libc::read(0, &mut past) != 0 {
-        io::write_all(2, b"standard input cannot be read to its end\n");
-        return 0;
+    let mut reader = rt.reader();
+    let mut count: usize = 0;
+    while count < buffer.len() {
+        match reader.read(&mut buffer[count..]) {
+            Ok(0) => return count,
+            Ok(more) => count += more,
+            Err(_) => return unread(rt),
+        }
     }
-    count
+    let mut past = [0u8; 1];
+    match reader.read(&mut past) {
+        Ok(0) => count,
+        _ => unread(rt),
+    }
 }

@@ -4,6 +4,7 @@ ghost use Rattle.std.specs.Prelude.{◌≡◌, ◌≤◌, length};
 use crate::read::MOST;
 use crate::show;
 use network::Responded;
+use std::io;
 
 // One receiver a net, whatever the nets are; or a list with the net of each receiver, the first `count` of `owners`.
 #[derive(Clone, Copy)]
@@ -79,8 +80,9 @@ pub fn fill(receivers: Receivers, nets: u64, owners: &mut [u64; MOST]) -> usize
 }
 
 // Shows the list that a call is given, unless it is one receiver a net.
-pub fn shown(receivers: Receivers, list: &[u64]) {
+pub fn shown(rt: &impl Print, receivers: Receivers, list: &[u64]) -> io::Result<()> {
     if !receivers.own {
-        show::receivers(list);
+        show::receivers(rt, list)?;
     }
+    Ok(())
 }

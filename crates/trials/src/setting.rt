@@ -5,6 +5,7 @@ use crate::read::{END, MOST};
 use crate::receivers::Receivers;
 use crate::{Line, read, receivers, show};
 use network::Network;
+use std::io;
 
 // All that a call takes of a board but the number of its nets: the soft level, the gate and the receivers.
 #[derive(Clone, Copy)]
@@ -69,72 +70,72 @@ fn has_space(line: &[u8], at: usize) -> bool {
 
 // What a line makes of the part of a setting that has this name. A line that begins with the name is shown, and gives
 // the part if after the name stand a space and one number; if not, it is shown as unreadable and changes nothing.
-fn changed(before: u64, line: &[u8], name: &[u8]) -> u64 {
+fn changed(rt: &impl Print, before: u64, line: &[u8], name: &[u8]) -> io::Result<u64> {
     let from = past(line, name);
     if from == 0 {
-        return before;
+        return Ok(before);
     }
     let mut words = [0u64; MOST];
     let list = read::list_at(line, from, &mut words);
     if has_space(line, from) & (list.count == 1) & (list.mark == END) {
-        show::entry(name, words[0]);
-        show::end_line();
-        return words[0];
+        show::entry(rt, name, words[0])?;
+        show::end_line(rt)?;
+        return Ok(words[0]);
     }
-    show::unreadable();
-    show::end_line();
-    before
+    show::unreadable(rt)?;
+    show::end_line(rt)?;
+    Ok(before)
 }
 
 // The list of receivers that a line gives from the index past its name on: a space and the net of each receiver, or
 // nothing. A line that has another form is shown as unreadable and changes nothing.
-fn listed(before: Receivers, line: &[u8], from: usize) -> Receivers
+fn listed(rt: &impl Print, before: Receivers, line: &[u8], from: usize) -> io::Result<Receivers>
     requires { from ≤ length line.now }
 {
     let mut words = [0u64; MOST];
     let list = read::list_at(line, from, &mut words);
     let apart = (line.len() == from) | has_space(line, from);
     if apart & (list.mark == END) {
-        show::text(b"receivers");
-        show::part(&words, 0, list.count);
-        show::end_line();
-        return receivers::given(list.count, words);
+        show::text(rt, b"receivers")?;
+        show::part(rt, &words, 0, list.count)?;
+        show::end_line(rt)?;
+        return Ok(receivers::given(list.count, words));
     }
-    show::unreadable();
-    show::end_line();
-    before
+    show::unreadable(rt)?;
+    show::end_line(rt)?;
+    Ok(before)
 }
 
 // What a line makes of the receivers. A line that begins with their name gives a list of them, or goes back to one
 // receiver a net; it is shown.
-fn changed_receivers(before: Receivers, line: &[u8]) -> Receivers {
+fn changed_receivers(rt: &impl Print, before: Receivers, line: &[u8]) -> io::Result<Receivers> {
     let from = past(line, b"receivers");
     if from == 0 {
-        return before;
+        return Ok(before);
     }
     if is_text(line, b"receivers own") {
-        show::text(b"receivers own\n");
-        return receivers::own();
+        show::text(rt, b"receivers own\n")?;
+        return Ok(receivers::own());
     }
-    listed(before, line, from)
+    listed(rt, before, line, from)
 }
 
 // The setting after a line that is of those that this file reads. It gives one part, and the others stay.
-fn changed_by(before: Setting, line: &[u8]) -> Setting {
+fn changed_by(rt: &impl Print, before: Setting, line: &[u8]) -> io::Result<Setting> {
     let receivers = before.receivers;
-    Setting {
-        level: changed(before.level, line, b"level"),
-        gate: changed(before.gate, line, b"gate"),
-        receivers: changed_receivers(receivers, line),
-    }
+    Ok(Setting {
+        level: changed(rt, before.level, line, b"level")?,
+        gate: changed(rt, before.gate, line, b"gate")?,
+        receivers: changed_receivers(rt, receivers, line)?,
+    })
 }
 
 // The setting of the calls after a line: one that names them, or starts a record for them, goes back to the usual one.
-pub fn after(before: Setting, line: &[u8]) -> Setting {
+pub fn after(rt: &impl Print, before: Setting, line: &[u8]) -> io::Result<Setting> {
     match crate::kind_of(line) {
-        Line::Skipped => before,
-        Line::Setting => changed_by(before, line),
-        Line::Name => usual(),
-        Line::Call => before,
+        Line::Skipped => Ok(before),
+        Line::Setting => changed_by(rt, before, line),
+        Line::Name => Ok(usual()),
+        Line::Call => Ok(before),
     }
 }

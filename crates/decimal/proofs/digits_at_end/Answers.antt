@@ -1,0 +1,50 @@
+use borrow.Author.Rules.{rules}
+use Prim.Native.Nat.{◌-◌, ◌/◌, ◌%◌, ◌<◌, ◌≤◌, ◌^◌}
+use native.Mathlib.Omega.{arith}
+use mathlib.Core.Path.{◌≡◌, sym, ◌∙◌}
+use mathlib.Core.List.{◌++◌}
+use lib.ListN.{length, drop, set, length-set}
+use Rattle.decimal.specs.Decimal.{digit_byte, decimal}
+use Rattle.decimal.proofs.Numerals.{higher, first_digit, next_digit}
+use Rattle.decimal.proofs.digits_at_end.Goals as goal
+
+pub loop-rest-init : goal.loop-rest-init
+loop-rest-init c =
+    let a = c.args in
+    let fits : a.n < 2 ^ 64 = search rules in
+    let size : length a.buffer.now ≡ 20 = c.requires in
+    (length-set a.buffer.now 19 _ ∙ size, search rules, omega (arith, fits), first_digit a.n a.buffer.now size)
+
+-- what a turn finds
+turn : (c : goal.In-loop-rest)
+    → let l = c.loop-rest in
+    (1 ≤ l.start) × (l.rest / 10 < 10 ^ (l.start - 1))
+    × (decimal c.args.n ≡ higher (l.start - 1) (l.rest / 10)
+    ++ drop (l.start - 1) (set l.buffer (l.start - 1) (digit_byte (l.rest % 10))))
+turn c =
+    let l = c.loop-rest in
+    next_digit (decimal c.args.n) l.buffer l.invariant.0 l.start l.rest l.invariant.1
+    l.invariant.2 c.loop-rest-test.true l.invariant.3
+
+pub overflow_sub-start : goal.overflow_sub-start
+overflow_sub-start c = (turn c).0
+
+pub bounds-buffer-start : goal.bounds-buffer-start
+bounds-buffer-start c = let l = c.loop-rest in omega (arith, l.invariant.0, l.invariant.1, (turn c).0)
+
+pub loop-rest-smaller : goal.loop-rest-smaller
+loop-rest-smaller c = let some = c.loop-rest-test.true in omega (arith, some)
+
+pub loop-rest-preserved : goal.loop-rest-preserved
+loop-rest-preserved c =
+    let l = c.loop-rest in
+    (length-set l.buffer _ _ ∙ l.invariant.0, omega (arith, l.invariant.1), (turn c).1, (turn c).2)
+
+pub shape_of-buffer : goal.shape_of-buffer
+shape_of-buffer c = c.loop-rest.invariant.0 ∙ sym c.requires
+
+pub returns : goal.returns
+returns c =
+    let l = c.loop-rest in
+    let ended : l.rest ≡ 0 = c.loop-rest-test.false in
+    (l.invariant.1, l.invariant.0, sym (l.invariant.3 ∙ rw ended))
