@@ -5,7 +5,7 @@ use std::path::{Path, PathBuf};
 
 const ARCHIVE: &str = "libexports.a";
 
-/// The folder that FONTARELGA_LIB names, else the one that `rt staticlib exports` writes to.
+/// The folder that FONTARELGA_LIB names, else the one that `tools/archive` writes to.
 fn archive_folder() -> PathBuf {
     match env::var_os("FONTARELGA_LIB") {
         Some(folder) => PathBuf::from(folder),
@@ -20,9 +20,7 @@ fn main() {
     println!("cargo:rerun-if-changed={}", archive.display());
     if !archive.is_file() {
         eprintln!("There is no {ARCHIVE} in {}.", folder.display());
-        eprintln!(
-            "Run `rt staticlib exports` at the repository's root, or set FONTARELGA_LIB to the folder that holds it."
-        );
+        eprintln!("Run `tools/archive` at the repository's root, or set FONTARELGA_LIB to the folder that holds it.");
         std::process::exit(1);
     }
     println!("cargo:rustc-link-search=native={}", folder.display());

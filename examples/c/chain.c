@@ -16,7 +16,7 @@
  *             cell 3    8    idle
  *             cell 4    9    drives net 2
  *
- * At the repository's root, after `rt staticlib exports`:
+ * At the repository's root, after `tools/archive`:
  *
  *     cc examples/c/chain.c target/staticlib/libexports.a -o target/chain && target/chain
  */

@@ -1,6 +1,6 @@
 /* Checks a test set for four nets, soft level 1, gate OR and class 4, and prints the verdict.
  *
- * At the repository's root, after `rt staticlib exports`:
+ * At the repository's root, after `tools/archive`:
  *
  *     cc examples/c/check.c target/staticlib/libexports.a -o target/check && target/check
  */

@@ -1,7 +1,7 @@
 /* Diagnoses a board with a clock net of three receivers and a net of one, soft level 1 and gate OR, for class 2, and
  * prints what is found, a line a receiver: receiver, its net, kind, reach, partners.
  *
- * At the repository's root, after `rt staticlib exports`:
+ * At the repository's root, after `tools/archive`:
  *
  *     cc examples/c/clock.c target/staticlib/libexports.a -o target/clock && target/clock
  */

@@ -1,7 +1,7 @@
 /* Diagnoses a board of four nets with one receiver each, soft level 1 and gate OR, for class 4, and prints what is
  * found, a line a net: net, kind, reach, partners.
  *
- * At the repository's root, after `rt staticlib exports`:
+ * At the repository's root, after `tools/archive`:
  *
  *     cc examples/c/diagnose.c target/staticlib/libexports.a -o target/diagnose && target/diagnose
  */

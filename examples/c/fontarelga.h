@@ -1,6 +1,6 @@
 /* The C interface of the library: opens and shorts of a circuit board, read from boundary-scan responses.
  *
- * Link with libexports.a, which `rt staticlib exports` writes to target/staticlib. It wants memcpy and memset.
+ * Link with libexports.a, which `tools/archive` writes to target/staticlib. It wants memcpy and memset.
  *
  * A call returns 0 if it is accepted, else the number of the first row of the table of refusals that holds; beside each
  * call stand its rows, in the table's order. After a refusal every list is as it was. A result goes to the front of a

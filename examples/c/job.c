@@ -3,7 +3,7 @@
  * by net, as sequential words. Prints the response, the file's size, and what was read: nets, level, gate, class, kind
  * and counts, then the vectors and the responses.
  *
- * At the repository's root, after `rt staticlib exports`:
+ * At the repository's root, after `tools/archive`:
  *
  *     cc examples/c/job.c target/staticlib/libexports.a -o target/job && target/job
  */

@@ -2,7 +2,7 @@
  * driven and read, the reaches found, and the number of vectors spent. Its soft level is 1; with -DLEVEL=0 it is 0. Its
  * gate is OR; with -DGATE=1 it is AND.
  *
- * At the repository's root, after `rt staticlib exports`:
+ * At the repository's root, after `tools/archive`:
  *
  *     cc examples/c/session.c target/staticlib/libexports.a -o target/session && target/session
  */

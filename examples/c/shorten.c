@@ -1,7 +1,7 @@
 /* Shortens a test set for four nets, soft level 1, gate OR and class 2, with seven checks allowed, and prints the
  * vectors kept, their number, the checks made, and the floor: no set that is passed for the class has fewer vectors.
  *
- * At the repository's root, after `rt staticlib exports`:
+ * At the repository's root, after `tools/archive`:
  *
  *     cc examples/c/shorten.c target/staticlib/libexports.a -o target/shorten && target/shorten
  */

@@ -1,7 +1,7 @@
 /* Turns a test set for four nets, a parallel word a vector, into sequential words, one a net, and back. Prints the
  * sequential words, and the vectors that they give.
  *
- * At the repository's root, after `rt staticlib exports`:
+ * At the repository's root, after `tools/archive`:
  *
  *     cc examples/c/turn.c target/staticlib/libexports.a -o target/turn && target/turn
  */

@@ -1,6 +1,6 @@
-// The calls for C and Rust, where a list is a pointer and a length, and a list of a fixed length a pointer. Each but
-// `fontarelga_to_drive`, which returns a count, returns 0 if it is accepted, or the number of the refusal. What else it
-// answers goes into lent lists; after a refusal they are as they were.
+// The calls for C and Rust, over numbers and lists alone: `exports_c` gives them to C. Each but `fontarelga_to_drive`,
+// which returns a count, returns 0 if it is accepted, or the number of the refusal. What else it answers goes into lent
+// lists; after a refusal they are as they were.
 
 #![tactic(auto)]
 
@@ -32,8 +32,7 @@ use turning::Turned;
 use writer::Wrote;
 
 // The call *check*. The verdict's 3 words: 0 0 0 for pass, or 1 and the pair. Rows 5, 6, 17, 20, 7, 8.
-#[unsafe(no_mangle)]
-pub extern "C" fn fontarelga_check(
+pub fn fontarelga_check(
     nets: u64,
     level: u64,
     gate: u64,
@@ -67,8 +66,7 @@ pub extern "C" fn fontarelga_check(
 // The call *shorten*: the vectors kept of a passed set into the front of `kept`, with at most `allowed` checks. The 3
 // words of `shortened`: how many are kept, the checks made, the floor. Rows 5, 6 (also for k above 3), 17, 20, 7, 8, 12
 // (room for all vectors given), 13.
-#[unsafe(no_mangle)]
-pub extern "C" fn fontarelga_shorten(
+pub fn fontarelga_shorten(
     nets: u64,
     level: u64,
     gate: u64,
@@ -104,8 +102,7 @@ pub extern "C" fn fontarelga_shorten(
 
 // The call *own receivers*: the list of receivers where each net has one, of its own number, into the front of
 // `receivers`. Rows 5 and 12.
-#[unsafe(no_mangle)]
-pub extern "C" fn fontarelga_own_receivers(nets: u64, receivers: &mut [u64]) -> u64
+pub fn fontarelga_own_receivers(nets: u64, receivers: &mut [u64]) -> u64
     ensures answer { result ≡ code (own_receivers_answer nets (length receivers.old)) }
     ensures receivers { receivers.new
         ≡ lent_after (own_receivers_answer nets (length receivers.old)) receivers.old }
@@ -118,8 +115,7 @@ pub extern "C" fn fontarelga_own_receivers(nets: u64, receivers: &mut [u64]) -> 
 
 // The call *response from a state*: one response word a vector into the front of `response`. Here and below `receivers`
 // has the net of each receiver. Rows 5, 21, 6, 17, 20, 7, 8, 11, 12.
-#[unsafe(no_mangle)]
-pub extern "C" fn fontarelga_respond(
+pub fn fontarelga_respond(
     nets: u64,
     level: u64,
     gate: u64,
@@ -149,8 +145,7 @@ pub extern "C" fn fontarelga_respond(
 
 // The call *diagnosis*: the state that gave the responses, into the front of `state`. Rows 5, 21, 6, 17, 20, 7, 8, 9,
 // 10, 12, 13, 14.
-#[unsafe(no_mangle)]
-pub extern "C" fn fontarelga_diagnose(
+pub fn fontarelga_diagnose(
     nets: u64,
     level: u64,
     gate: u64,
@@ -180,8 +175,7 @@ pub extern "C" fn fontarelga_diagnose(
 
 // The call *findings*: kind, reach and partners of each receiver into the front of `table`. Rows 5, 21, 17, 20, 11 with
 // k = n, and 12.
-#[unsafe(no_mangle)]
-pub extern "C" fn fontarelga_findings(
+pub fn fontarelga_findings(
     nets: u64,
     level: u64,
     gate: u64,
@@ -216,8 +210,7 @@ pub extern "C" fn fontarelga_findings(
 }
 
 // The call *begin*: the vectors of step one into the front of `first`. Rows 5, 21, 17, 20 and 12.
-#[unsafe(no_mangle)]
-pub extern "C" fn fontarelga_begin(
+pub fn fontarelga_begin(
     session: &mut [u64; 142],
     nets: u64,
     level: u64,
@@ -248,8 +241,7 @@ pub extern "C" fn fontarelga_begin(
 
 // The call *first answers*: the vectors of step two into the front of `second`, if a net is unclear. Rows 4, 9, 10 and
 // 12.
-#[unsafe(no_mangle)]
-pub extern "C" fn fontarelga_first_answers(
+pub fn fontarelga_first_answers(
     session: &mut [u64; 142],
     answers: &[u64],
     second: &mut [u64],
@@ -272,8 +264,7 @@ pub extern "C" fn fontarelga_first_answers(
 }
 
 // The call *second answers*: the only state that fits both steps, into the session. Rows 4, 9, 10 and 14.
-#[unsafe(no_mangle)]
-pub extern "C" fn fontarelga_second_answers(session: &mut [u64; 142], answers: &[u64]) -> u64
+pub fn fontarelga_second_answers(session: &mut [u64; 142], answers: &[u64]) -> u64
     ensures answer { result ≡ code (second_answer (session_of session.old) answers.now) }
     ensures session { session.new
         ≡ fixed_after (session_second session.old answers.now) session.old }
@@ -286,12 +277,7 @@ pub extern "C" fn fontarelga_second_answers(session: &mut [u64; 142], answers: &
 }
 
 // How many words to drive next, from the start of `first` in step 1 or of `second` in step 2; 0 if none.
-#[unsafe(no_mangle)]
-pub extern "C" fn fontarelga_to_drive<'a>(
-    session: &[u64; 142],
-    first: &'a [u64],
-    second: &'a [u64],
-) -> u64
+pub fn fontarelga_to_drive<'a>(session: &[u64; 142], first: &'a [u64], second: &'a [u64]) -> u64
     ensures { result ≡ drive_count session.now first.now second.now }
 {
     let held = packing::record::session_of(session);
@@ -300,8 +286,7 @@ pub extern "C" fn fontarelga_to_drive<'a>(
 }
 
 // The call *turn*: the sequential words of the vectors, one for each net, into the front of `words`. Rows 5, 7, 8, 12.
-#[unsafe(no_mangle)]
-pub extern "C" fn fontarelga_turn(nets: u64, vectors: &[u64], words: &mut [u64]) -> u64
+pub fn fontarelga_turn(nets: u64, vectors: &[u64], words: &mut [u64]) -> u64
     ensures answer { result ≡ code (turn_answer nets vectors.now (length words.old)) }
     ensures words { words.new
         ≡ lent_after (turn_answer nets vectors.now (length words.old)) words.old }
@@ -314,13 +299,7 @@ pub extern "C" fn fontarelga_turn(nets: u64, vectors: &[u64], words: &mut [u64])
 
 // The call *turn back*: from sequential words, one for each net, the vectors, as many as `count` says, into the front
 // of `vectors`. Rows 5, 7, 8, 12.
-#[unsafe(no_mangle)]
-pub extern "C" fn fontarelga_turn_back(
-    nets: u64,
-    count: u64,
-    words: &[u64],
-    vectors: &mut [u64],
-) -> u64
+pub fn fontarelga_turn_back(nets: u64, count: u64, words: &[u64], vectors: &mut [u64]) -> u64
     ensures answer { result
         ≡ code (turn_back_answer nets count words.now (length vectors.old)) }
     ensures vectors { vectors.new
@@ -336,8 +315,7 @@ pub extern "C" fn fontarelga_turn_back(
 // The call *write clocks*: the clocks for a test set on a boundary-scan chain, one byte each, TMS in bit 0 and TDI in bit
 // 1, into the front of `clocks`. `cells` is the number of cells, cell 0 nearest TDO; `driver_cells` has the cell of each
 // net's driver, `receiver_cells` that of each receiver. Rows 5, 21, 7, 8, 18, 12.
-#[unsafe(no_mangle)]
-pub extern "C" fn fontarelga_write_clocks(
+pub fn fontarelga_write_clocks(
     nets: u64,
     receivers: &[u64],
     vectors: &[u64],
@@ -369,8 +347,7 @@ pub extern "C" fn fontarelga_write_clocks(
 
 // The call *read clocks*: the responses to as many vectors as `count` says, from the TDO bits of their clocks, a byte 0
 // or 1 for each clock, into the front of `responses`. Rows 5, 21, 7, 18, 19, 12.
-#[unsafe(no_mangle)]
-pub extern "C" fn fontarelga_read_clocks(
+pub fn fontarelga_read_clocks(
     nets: u64,
     receivers: &[u64],
     count: u64,
@@ -404,8 +381,7 @@ pub extern "C" fn fontarelga_read_clocks(
 
 // The call *read a job file*. The job's 7 words: nets, level, gate, class, kind, number of vectors, number of
 // responses. Rows 1, 2, 3, 5, 6, 17, 20, 7, 8, 9, 10, 12.
-#[unsafe(no_mangle)]
-pub extern "C" fn fontarelga_read_job(
+pub fn fontarelga_read_job(
     file: &[u8],
     vectors: &mut [u64],
     responses: &mut [u64],
@@ -445,8 +421,7 @@ pub extern "C" fn fontarelga_read_job(
 
 // The call *write a job file*. The size's only word: how many bytes were written. Rows 2, 5, 6, 17, 20, 7, 8, 9, 10
 // and 12; 9 and 10 only if there are responses.
-#[unsafe(no_mangle)]
-pub extern "C" fn fontarelga_write_job(
+pub fn fontarelga_write_job(
     kind: u64,
     nets: u64,
     level: u64,

@@ -1,4 +1,3 @@
 pub mod Padding
 pub mod Stepping
 pub mod Records
-pub mod Lending
