@@ -96,210 +96,82 @@ returns-in-Refused c =
     sym c.admit_set-admission.ensures ∙ ap admission c.in-Refused.is in
     let owed = owed_refused _ number a.file.now (by_set a.kind right_kind a.net a.class a.vectors.now a.responses.now a.file.now number e) in record { answer = owed.0; list = owed.1 }
 
--- the rows of the test set have admitted it
-admitted : (c : goal.Then-given-bad_response_count)
-    → set_admission c.args.net
-    c.args.class
-    c.args.vectors.now ≡ full tt
-admitted c = sym c.admit_set-admission.ensures ∙ ap admission c.in_default.is
-
 pub returns-then-given-bad_response_count : goal.returns-then-given-bad_response_count
 returns-then-given-bad_response_count c =
-    let right_kind : bad_kind c.args.kind ≡ false = sym c.bad_kind.ensures ∙ c.if-bad_kind.false in
     let a = c.args in
+    let admitted : set_admission a.net a.class a.vectors.now ≡ full tt = sym c.admit_set-admission.ensures ∙ ap admission c.in_default.is in
+    let right_kind : bad_kind a.kind ≡ false = sym c.bad_kind.ensures ∙ c.if-bad_kind.false in
     let owed = owed_refused _ 9 a.file.now
-    (by_row_9 a.kind right_kind a.net a.class a.vectors.now a.responses.now a.file.now (admitted c)
+    (by_row_9 a.kind right_kind a.net a.class a.vectors.now a.responses.now a.file.now admitted
     (asked a.responses.now _ _ c.bad_response_count.ensures ∙ c.if-given-bad_response_count.true)) in record { answer = owed.0; list = owed.1 }
 
--- the rows of the test set have admitted_2 it
-admitted_2 : (c : goal.Else-given-bad_response_count)
-    → set_admission c.args.net
-    c.args.class
-    c.args.vectors.now ≡ full tt
-admitted_2 c = sym c.admit_set-admission.ensures ∙ ap admission c.in_default.is
-
-set_of : (c : goal.Else-given-bad_response_count)
-    → AdmittedSet c.args.net
-    c.args.class
-    c.args.vectors.now
-set_of c = let a = c.args in
-    set_admitted a.net a.class a.vectors.now (admitted_2 c)
-
 pub has_high_bit-requires : goal.has_high_bit-requires
-has_high_bit-requires c = let s = set_of c in omega (arith, s.most)
-
--- the rows of the test set have admitted_3 it
-admitted_3 : (c : goal.Then-given-has_high_bit)
-    → set_admission c.args.net
-    c.args.class
-    c.args.vectors.now ≡ full tt
-admitted_3 c = sym c.admit_set-admission.ensures ∙ ap admission c.in_default.is
-
--- row 9 does not hold
-same_count : (c : goal.Then-given-has_high_bit)
-    → given c.args.responses.now
-    && bad_response_count (length
-    c.args.vectors.now)
-    (length c.args.responses.now) ≡ false
-same_count c = let a = c.args in
-    asked a.responses.now _ _ c.bad_response_count.ensures ∙ c.if-given-bad_response_count.false
+has_high_bit-requires c =
+    let a = c.args in
+    let admitted : set_admission a.net a.class a.vectors.now ≡ full tt = sym c.admit_set-admission.ensures ∙ ap admission c.in_default.is in
+    let set_of : AdmittedSet a.net a.class a.vectors.now = set_admitted a.net a.class a.vectors.now admitted in
+    let s = set_of in omega (arith, s.most)
 
 pub returns-then-given-has_high_bit : goal.returns-then-given-has_high_bit
 returns-then-given-has_high_bit c =
-    let right_kind : bad_kind c.args.kind ≡ false = sym c.bad_kind.ensures ∙ c.if-bad_kind.false in
     let a = c.args in
+    let admitted : set_admission a.net a.class a.vectors.now ≡ full tt = sym c.admit_set-admission.ensures ∙ ap admission c.in_default.is in
+    let same_count : given a.responses.now && bad_response_count (length a.vectors.now) (length a.responses.now) ≡ false = asked a.responses.now _ _ c.bad_response_count.ensures ∙ c.if-given-bad_response_count.false in
+    let right_kind : bad_kind a.kind ≡ false = sym c.bad_kind.ensures ∙ c.if-bad_kind.false in
     let owed = owed_refused _ 10 a.file.now
-    (by_row_10 a.kind right_kind a.net a.class a.vectors.now a.responses.now a.file.now (admitted_3 c)
-    (same_count c) (asked a.responses.now _ _ c.has_high_bit.ensures ∙ c.if-given-has_high_bit.true)) in record { answer = owed.0; list = owed.1 }
-
--- the rows of the test set have admitted_4 it
-admitted_4 : (c : goal.Else-given-has_high_bit)
-    → set_admission c.args.net
-    c.args.class
-    c.args.vectors.now ≡ full tt
-admitted_4 c = sym c.admit_set-admission.ensures ∙ ap admission c.in_default.is
-
-set_of_2 : (c : goal.Else-given-has_high_bit)
-    → AdmittedSet c.args.net
-    c.args.class
-    c.args.vectors.now
-set_of_2 c = let a = c.args in
-    set_admitted a.net a.class a.vectors.now (admitted_4 c)
-
--- row 9 does not hold
-same_count_2 : (c : goal.Else-given-has_high_bit)
-    → given c.args.responses.now
-    && bad_response_count (length
-    c.args.vectors.now)
-    (length c.args.responses.now) ≡ false
-same_count_2 c = let a = c.args in
-    asked a.responses.now _ _ c.bad_response_count.ensures ∙ c.if-given-bad_response_count.false
+    (by_row_10 a.kind right_kind a.net a.class a.vectors.now a.responses.now a.file.now admitted
+    same_count (asked a.responses.now _ _ c.has_high_bit.ensures ∙ c.if-given-has_high_bit.true)) in record { answer = owed.0; list = owed.1 }
 
 pub file_size-size-requires : goal.file_size-size-requires
 file_size-size-requires c =
-    let s = set_of_2 c in
     let a = c.args in
-    let most = responses_most a.vectors.now a.responses.now (same_count_2 c) in
+    let admitted : set_admission a.net a.class a.vectors.now ≡ full tt = sym c.admit_set-admission.ensures ∙ ap admission c.in_default.is in
+    let set_of : AdmittedSet a.net a.class a.vectors.now = set_admitted a.net a.class a.vectors.now admitted in
+    let same_count : given a.responses.now && bad_response_count (length a.vectors.now) (length a.responses.now) ≡ false = asked a.responses.now _ _ c.bad_response_count.ensures ∙ c.if-given-bad_response_count.false in
+    let s = set_of in
+    let most = responses_most a.vectors.now a.responses.now same_count in
     let vectors = s.vectors_most in
     (s.most, vectors, omega arith)
 
--- the rows of the test set have admitted_5 it
-admitted_5 : (c : goal.Then-no_room)
-    → set_admission c.args.net
-    c.args.class
-    c.args.vectors.now ≡ full tt
-admitted_5 c = sym c.admit_set-admission.ensures ∙ ap admission c.in_default.is
-
--- row 9 does not hold
-same_count_3 : (c : goal.Then-no_room)
-    → given c.args.responses.now
-    && bad_response_count (length
-    c.args.vectors.now)
-    (length c.args.responses.now) ≡ false
-same_count_3 c = let a = c.args in
-    asked a.responses.now _ _ c.bad_response_count.ensures ∙ c.if-given-bad_response_count.false
-
--- the test of row 12
-room : (c : goal.Then-no_room)
-    → no_room (length (file_of
-    c.args.kind
-    c.args.net
-    c.args.class
-    c.args.vectors.now
-    c.args.responses.now))
-    (length c.args.file.now)
-    ≡ c.no_room.result
-room c =
-    let a = c.args in
-    ap (λ (n : ℕ). no_room n (length a.file.now)) (sym (c.file_size-size.ensures a.class)) ∙ sym c.no_room.ensures
-
 pub returns-then-no_room : goal.returns-then-no_room
 returns-then-no_room c =
-    let right_kind : bad_kind c.args.kind ≡ false = sym c.bad_kind.ensures ∙ c.if-bad_kind.false in
-    let narrow : given c.args.responses.now && has_high_bit c.args.net.nets c.args.responses.now ≡ false = let a = c.args in
-    asked a.responses.now _ _ c.has_high_bit.ensures ∙ c.if-given-has_high_bit.false in
     let a = c.args in
+    let admitted : set_admission a.net a.class a.vectors.now ≡ full tt = sym c.admit_set-admission.ensures ∙ ap admission c.in_default.is in
+    let same_count : given a.responses.now && bad_response_count (length a.vectors.now) (length a.responses.now) ≡ false = asked a.responses.now _ _ c.bad_response_count.ensures ∙ c.if-given-bad_response_count.false in
+    let room : no_room (length (file_of a.kind a.net a.class a.vectors.now a.responses.now)) (length a.file.now) ≡ c.no_room.result =
+    ap (λ (n : ℕ). no_room n (length a.file.now)) (sym (c.file_size-size.ensures a.class)) ∙ sym c.no_room.ensures in
+    let right_kind : bad_kind a.kind ≡ false = sym c.bad_kind.ensures ∙ c.if-bad_kind.false in
+    let narrow : given a.responses.now && has_high_bit a.net.nets a.responses.now ≡ false = asked a.responses.now _ _ c.has_high_bit.ensures ∙ c.if-given-has_high_bit.false in
     let owed = owed_refused _ 12 a.file.now
-    (by_row_12 a.kind right_kind a.net a.class a.vectors.now a.responses.now a.file.now (admitted_5 c)
-    (same_count_3 c) narrow (room c ∙ c.if-no_room.true)) in record { answer = owed.0; list = owed.1 }
-
--- the rows of the test set have admitted_6 it
-admitted_6 : (c : goal.After-put_file-arg-1)
-    → set_admission c.args.net
-    c.args.class
-    c.args.vectors.now ≡ full tt
-admitted_6 c = sym c.admit_set-admission.ensures ∙ ap admission c.in_default.is
-
-set_of_3 : (c : goal.After-put_file-arg-1)
-    → AdmittedSet c.args.net
-    c.args.class
-    c.args.vectors.now
-set_of_3 c = let a = c.args in
-    set_admitted a.net a.class a.vectors.now (admitted_6 c)
-
--- the test of row 12
-room_2 : (c : goal.After-put_file-arg-1)
-    → no_room (length (file_of
-    c.args.kind
-    c.args.net
-    c.args.class
-    c.args.vectors.now
-    c.args.responses.now))
-    (length c.args.file.now)
-    ≡ c.no_room.result
-room_2 c =
-    let a = c.args in
-    ap (λ (n : ℕ). no_room n (length a.file.now)) (sym (c.file_size-size.ensures a.class)) ∙ sym c.no_room.ensures
+    (by_row_12 a.kind right_kind a.net a.class a.vectors.now a.responses.now a.file.now admitted
+    same_count narrow (room ∙ c.if-no_room.true)) in record { answer = owed.0; list = owed.1 }
 
 pub put_file-requires : goal.put_file-requires
 put_file-requires c =
-    let right_kind : bad_kind c.args.kind ≡ false = sym c.bad_kind.ensures ∙ c.if-bad_kind.false in
     let a = c.args in
-    let s = set_of_3 c in
+    let admitted : set_admission a.net a.class a.vectors.now ≡ full tt = sym c.admit_set-admission.ensures ∙ ap admission c.in_default.is in
+    let set_of : AdmittedSet a.net a.class a.vectors.now = set_admitted a.net a.class a.vectors.now admitted in
+    let room : no_room (length (file_of a.kind a.net a.class a.vectors.now a.responses.now)) (length a.file.now) ≡ c.no_room.result =
+    ap (λ (n : ℕ). no_room n (length a.file.now)) (sym (c.file_size-size.ensures a.class)) ∙ sym c.no_room.ensures in
+    let right_kind : bad_kind a.kind ≡ false = sym c.bad_kind.ensures ∙ c.if-bad_kind.false in
+    let s = set_of in
     let fits = fit_bytes a.net a.class a.vectors.now s in
     let space = ltb-false (length a.file.now)
     (length (file_of a.kind a.net a.class a.vectors.now a.responses.now))
-    (room_2 c ∙ c.if-no_room.false) in
+    (room ∙ c.if-no_room.false) in
     let kind = (decides_vectors_kind a.kind).0 (not-false _ right_kind) in
     (⊎_elim (λ q. omega (arith, q)) (λ q. omega (arith, q)) kind, fits, s.most, s.vectors_most, space)
 
--- the rows of the test set have admitted_7 it
-admitted_7 : (c : goal.After-slice_known-2-1)
-    → set_admission c.args.net
-    c.args.class
-    c.args.vectors.now ≡ full tt
-admitted_7 c = sym c.admit_set-admission.ensures ∙ ap admission c.in_default.is
-
--- row 9 does not hold
-same_count_4 : (c : goal.After-slice_known-2-1)
-    → given c.args.responses.now
-    && bad_response_count (length
-    c.args.vectors.now)
-    (length c.args.responses.now) ≡ false
-same_count_4 c = let a = c.args in
-    asked a.responses.now _ _ c.bad_response_count.ensures ∙ c.if-given-bad_response_count.false
-
--- the test of row 12
-room_3 : (c : goal.After-slice_known-2-1)
-    → no_room (length (file_of
-    c.args.kind
-    c.args.net
-    c.args.class
-    c.args.vectors.now
-    c.args.responses.now))
-    (length c.args.file.now)
-    ≡ c.no_room.result
-room_3 c =
-    let a = c.args in
-    ap (λ (n : ℕ). no_room n (length a.file.now)) (sym (c.file_size-size.ensures a.class)) ∙ sym c.no_room.ensures
-
 pub returns : goal.returns
 returns c =
-    let right_kind : bad_kind c.args.kind ≡ false = sym c.bad_kind.ensures ∙ c.if-bad_kind.false in
-    let narrow : given c.args.responses.now && has_high_bit c.args.net.nets c.args.responses.now ≡ false = let a = c.args in
-    asked a.responses.now _ _ c.has_high_bit.ensures ∙ c.if-given-has_high_bit.false in
     let a = c.args in
+    let admitted : set_admission a.net a.class a.vectors.now ≡ full tt = sym c.admit_set-admission.ensures ∙ ap admission c.in_default.is in
+    let same_count : given a.responses.now && bad_response_count (length a.vectors.now) (length a.responses.now) ≡ false = asked a.responses.now _ _ c.bad_response_count.ensures ∙ c.if-given-bad_response_count.false in
+    let room : no_room (length (file_of a.kind a.net a.class a.vectors.now a.responses.now)) (length a.file.now) ≡ c.no_room.result =
+    ap (λ (n : ℕ). no_room n (length a.file.now)) (sym (c.file_size-size.ensures a.class)) ∙ sym c.no_room.ensures in
+    let right_kind : bad_kind a.kind ≡ false = sym c.bad_kind.ensures ∙ c.if-bad_kind.false in
+    let narrow : given a.responses.now && has_high_bit a.net.nets a.responses.now ≡ false = asked a.responses.now _ _ c.has_high_bit.ensures ∙ c.if-given-has_high_bit.false in
     let owed = owed_full _ c.file_size-size.result (file_of a.kind a.net a.class a.vectors.now a.responses.now) a.file.now _
-    (by_none a.kind right_kind a.net a.class a.vectors.now a.responses.now a.file.now (admitted_7 c)
-    (same_count_4 c) narrow (room_3 c ∙ c.if-no_room.false))
+    (by_none a.kind right_kind a.net a.class a.vectors.now a.responses.now a.file.now admitted
+    same_count narrow (room ∙ c.if-no_room.false))
     (c.file_size-size.ensures a.class) c.put_file.ensures in record { answer = owed.0; list = owed.1 }
