@@ -15,30 +15,33 @@ loop-rest-init c =
     let size : length a.buffer.now ≡ 20 = c.requires in
     (length-set a.buffer.now 19 _ ∙ size, search rules, omega (arith, fits), first_digit a.n a.buffer.now size)
 
--- what a turn finds
-turn : (c : goal.In-loop-rest)
-    → let l = c.loop-rest in
-    (1 ≤ l.start) × (l.rest / 10 < 10 ^ (l.start - 1))
-    × (decimal c.args.n ≡ higher (l.start - 1) (l.rest / 10)
-    ++ drop (l.start - 1) (set l.buffer (l.start - 1) (digit_byte (l.rest % 10))))
-turn c =
+pub overflow_sub-start : goal.overflow_sub-start
+overflow_sub-start c =
+    let turn : let l = c.loop-rest in (1 ≤ l.start) × (l.rest / 10 < 10 ^ (l.start - 1)) × (decimal c.args.n ≡ higher (l.start - 1) (l.rest / 10) ++ drop (l.start - 1) (set l.buffer (l.start - 1) (digit_byte (l.rest % 10)))) =
     let l = c.loop-rest in
     next_digit (decimal c.args.n) l.buffer l.invariant.0 l.start l.rest l.invariant.1
-    l.invariant.2 c.loop-rest-test.true l.invariant.3
-
-pub overflow_sub-start : goal.overflow_sub-start
-overflow_sub-start c = (turn c).0
+    l.invariant.2 c.loop-rest-test.true l.invariant.3 in
+    turn.0
 
 pub bounds-buffer-start : goal.bounds-buffer-start
-bounds-buffer-start c = let l = c.loop-rest in omega (arith, l.invariant.0, l.invariant.1, (turn c).0)
+bounds-buffer-start c =
+    let turn : let l = c.loop-rest in (1 ≤ l.start) × (l.rest / 10 < 10 ^ (l.start - 1)) × (decimal c.args.n ≡ higher (l.start - 1) (l.rest / 10) ++ drop (l.start - 1) (set l.buffer (l.start - 1) (digit_byte (l.rest % 10)))) =
+    let l = c.loop-rest in
+    next_digit (decimal c.args.n) l.buffer l.invariant.0 l.start l.rest l.invariant.1
+    l.invariant.2 c.loop-rest-test.true l.invariant.3 in
+    let l = c.loop-rest in omega (arith, l.invariant.0, l.invariant.1, turn.0)
 
 pub loop-rest-smaller : goal.loop-rest-smaller
 loop-rest-smaller c = let some = c.loop-rest-test.true in omega (arith, some)
 
 pub loop-rest-preserved : goal.loop-rest-preserved
 loop-rest-preserved c =
+    let turn : let l = c.loop-rest in (1 ≤ l.start) × (l.rest / 10 < 10 ^ (l.start - 1)) × (decimal c.args.n ≡ higher (l.start - 1) (l.rest / 10) ++ drop (l.start - 1) (set l.buffer (l.start - 1) (digit_byte (l.rest % 10)))) =
     let l = c.loop-rest in
-    (length-set l.buffer _ _ ∙ l.invariant.0, omega (arith, l.invariant.1), (turn c).1, (turn c).2)
+    next_digit (decimal c.args.n) l.buffer l.invariant.0 l.start l.rest l.invariant.1
+    l.invariant.2 c.loop-rest-test.true l.invariant.3 in
+    let l = c.loop-rest in
+    (length-set l.buffer _ _ ∙ l.invariant.0, omega (arith, l.invariant.1), turn.1, turn.2)
 
 pub shape_of-buffer : goal.shape_of-buffer
 shape_of-buffer c = c.loop-rest.invariant.0 ∙ sym c.requires

@@ -11,8 +11,7 @@ use Rattle.jobfile.specs.VectorsBody.{vectors_bytes}
 use Rattle.writer.specs.Writer.{head_of, bodies_of, file_of}
 use Rattle.writer.proofs.WriterLaws.{head_size, file_size}
 use borrow.Author.Rules.{rules}
-use Rattle.writer.proofs.writing.put_file.Statement.{statement}
-use Rattle.writer.proofs.writing.put_file.Tie as tie
+use Rattle.writer.proofs.writing.put_file.Goals as goal
 
 -- the head, then the bodies, are the file
 file_written : (kind : ℕ) (net : Network) (k : ℕ) (vectors responses lent headed all : List ℕ) (start size : ℕ)
@@ -31,52 +30,22 @@ file_written kind net k vectors responses lent headed all start size q s e f =
     (omega arith) (omega arith)
     ∙ written_front lent (file_of kind net k vectors responses)
 
-bodies_at_requires : tie.Need-bodies-at-requires
-bodies_at_requires c κs = search rules
-
-vectors_size_requires : tie.Need-vectors-size-requires
-vectors_size_requires c κs = search rules
-
-cast_put_head : tie.Need-overflow-cast-put-head
-cast_put_head c = search rules
-
-put_head_requires : tie.Need-put-head-requires
-put_head_requires c κs =
-    let a = c.before.before.before.before.before.before.args in
+pub put_head-requires : goal.put_head-requires
+put_head-requires c =
+    let a = c.args in
     let size = file_size a.kind a.vectors.now a.responses.now a.net a.class in
-    (c.before.vectors_size.ensures.1, omega arith)
+    (c.vectors_size-size.ensures.1, omega arith)
 
-put_bodies_requires : tie.Need-put-bodies-requires
-put_bodies_requires c κs =
-    let z = c.before.before.before.before.before in
-    let b = z.before in
-    let a = b.before.before.before.before.args in
+pub put_bodies-requires : goal.put_bodies-requires
+put_bodies-requires c =
+    let a = c.args in
     let size = file_size a.kind a.vectors.now a.responses.now a.net a.class in
-    let is = b.bodies_at.ensures in
+    let is = c.bodies_at-start.ensures in
     (search rules, search rules, search rules, omega arith)
 
-same_length : tie.Need-same-length
-same_length c = search rules
-
-returns : tie.Need-returns
+pub returns : goal.returns
 returns c =
-    let p2 = c.before.before in
-    let p1 = p2.before.before.before.before in
-    let z = p1.before.before in
-    let b = z.before in
-    let a = b.before.before.before.before.args in
-    file_written a.kind a.net a.class a.vectors.now a.responses.now a.file.now _ _ _ _ z.vectors_size.ensures.0
-    (b.bodies_at.ensures ∙ sym (head_size a.kind z.vectors_size.result a.responses.now))
-    p1.put_head.ensures p2.put_bodies.ensures
-
-pub put_file_spec : {M : Type 1} → statement M
-put_file_spec =
-    tie.close
-    (tie.spec
-    bodies_at_requires
-    vectors_size_requires
-    cast_put_head
-    put_head_requires
-    put_bodies_requires
-    same_length
-    returns)
+    let a = c.args in
+    file_written a.kind a.net a.class a.vectors.now a.responses.now a.file.now _ _ _ _ c.vectors_size-size.ensures.0
+    (c.bodies_at-start.ensures ∙ sym (head_size a.kind c.vectors_size-size.result a.responses.now))
+    c.put_head.ensures c.put_bodies.ensures
