@@ -1,0 +1,23 @@
+use Prim.Native.Nat.{ℕ}
+use mathlib.Core.Path.{◌≡◌, refl}
+use mathlib.Core.List.{List}
+use Rattle.words.specs.Answers.{Answer}
+use Rattle.session.specs.declared.Session.{Session}
+use Rattle.session.specs.declared.Stepped.{Stepped}
+use Rattle.session.specs.Calls.{stepped, second_answer, second_answered}
+use Rattle.exports.proofs.CallLaws.{step_code, step_words}
+use Rattle.exports.proofs.fontarelga_second_answers.Goals as goal
+
+pub returns : goal.returns
+returns c =
+    let a = c.args in
+    let answer : Session → Answer (List ℕ) = λ session. second_answer session a.answers.now in
+    let done : Session → Stepped = λ session. second_answered session a.answers.now in
+    let by : (session : Session) → (new : Session) × (done session ≡ stepped (answer session) new session) =
+    λ session. (_, refl) in
+    let held = c.session_of-held.ensures in
+    let said = c.second_answers-done.ensures in
+    record {
+      answer = step_code answer done by a.session.now _ held.«record» _ said.code;
+      session = step_words answer done by a.session.now _ held.«record» _ _ held.size said.session c.words_of-words.ensures;
+    }
