@@ -11,7 +11,8 @@ use prog.Routine.{Routine}
 use types.Logic.{Logic}
 use contract.Lifetimes.{Lfts}
 use contract.Monad.{Fun, fact, fact_mono}
-use denote.Ref.{Bor}
+use denote.Bor.{Bor}
+use denote.MutBor.{MutBor}
 use denote.Triple.Clauses.{at_exit}
 use Rattle.words.specs.Answers.{lent_after}
 use Rattle.words.proofs.Clauses.{facts, All, as_one}
@@ -27,16 +28,16 @@ use Rattle.agreement.specs.LentCalls.{AdvancesAsProgram, WritesAsProgram}
 
 -- what each call takes
 abbrev BeginTaken : Type 0
-BeginTaken = Bor Session × (Network × (Bor (List ℕ) × (Bor (List ℕ) × Unit {0})))
+BeginTaken = MutBor Session × (Network × (Bor (List ℕ) × (MutBor (List ℕ) × Unit {0})))
 
 abbrev FirstTaken : Type 0
-FirstTaken = Bor Session × (Bor (List ℕ) × (Bor (List ℕ) × Unit {0}))
+FirstTaken = MutBor Session × (Bor (List ℕ) × (MutBor (List ℕ) × Unit {0}))
 
 abbrev SecondTaken : Type 0
-SecondTaken = Bor Session × (Bor (List ℕ) × Unit {0})
+SecondTaken = MutBor Session × (Bor (List ℕ) × Unit {0})
 
 module _ {M : Type 1} {𝓤 : Ura M} (𝓛 : Logic 𝓤) (at_mem : Memory → SProp 𝓤) (run : Routine → Fun 𝓤)
-    (session : Bor Session) (after : Session) (number : ℕ) where
+    (session : MutBor Session) (after : Session) (number : ℕ) where
   -- what the clauses ensure, taken as one, tells this
   tells : (φs : List (Type 0)) (said : Type 0) → (All φs → said) → ent 𝓤 (facts 𝓤 φs) (fact 𝓤 said)
   tells φs said f = via 𝓤 (fact 𝓤 (All φs)) (as_one 𝓤 φs) (fact_mono 𝓤 (All φs) said f)
@@ -45,7 +46,7 @@ module _ {M : Type 1} {𝓤 : Ura M} (𝓛 : Logic 𝓤) (at_mem : Memory → SP
   abbrev Says : (asked ensured : SProp 𝓤) → Type 0 → Type 1
   Says asked ensured said = ent 𝓤 (emp 𝓤) asked × ent 𝓤 ensured (fact 𝓤 said)
 
-  pub begin_does : (κs : Lfts 3) (net : Network) (receivers list : Bor (List ℕ)) (filled : List ℕ)
+  pub begin_does : (κs : Lfts 3) (net : Network) (receivers : Bor (List ℕ)) (list : MutBor (List ℕ)) (filled : List ℕ)
       → let taken : BeginTaken = (session, (net, (receivers, (list, tt)))) in
       let contract = Begin.clauses 𝓛 at_mem run κs taken in
       Says (contract.requires tt)
@@ -60,7 +61,7 @@ module _ {M : Type 1} {𝓤 : Ura M} (𝓛 : Logic 𝓤) (at_mem : Memory → SP
       ∷ (filled ≡ lent_after (begin_answer net receivers.now room) list.now) ∷ [] in
       (id⊢ 𝓤 _, tells clauses _ (λ said. ((said.1.0 ∙ stepped_code _ _ _, said.0), said.1.1)))
 
-  pub first_answers_does : (κs : Lfts 3) (answers list : Bor (List ℕ)) (filled : List ℕ)
+  pub first_answers_does : (κs : Lfts 3) (answers : Bor (List ℕ)) (list : MutBor (List ℕ)) (filled : List ℕ)
       → let taken : FirstTaken = (session, (answers, (list, tt))) in
       let contract = First.clauses 𝓛 at_mem run κs taken in
       Says (contract.requires tt) (contract.ensures tt number (at_exit First.ended κs taken (after, (tt, (filled, tt)))))

@@ -1,0 +1,10 @@
+use mathlib.Core.Path.{◌∙◌}
+use Rattle.exports.proofs.CallLaws.{stepped_code}
+use Rattle.agreement.proofs.second_answers.Goals as goal
+
+pub returns : goal.returns
+returns c = let done = c.second_answers in
+    record {
+      returned = done.ensures.code ∙ stepped_code _ _ _;
+      session = done.ensures.session;
+    }

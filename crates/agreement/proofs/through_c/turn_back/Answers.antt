@@ -1,0 +1,11 @@
+use mathlib.Core.Path.{refl, sym, ◌∙◌}
+use Rattle.exports.proofs.CallLaws.{code_counted}
+use Rattle.agreement.proofs.through_c.turn_back.Goals as goal
+
+pub returns : goal.returns
+returns c =
+    let done = c.fontarelga_turn_back in
+    record {
+      returned = done.ensures.answer ∙ sym (code_counted _ _ refl);
+      vectors = done.ensures.vectors;
+    }
