@@ -21,7 +21,7 @@
  *     cc examples/c/chain.c target/staticlib/libexports.a -o target/chain && target/chain
  */
 
-#include "fontarelga.h"
+#include "fontarelga_chain.h"
 
 #include <inttypes.h>
 #include <stdio.h>

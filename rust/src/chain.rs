@@ -1,7 +1,7 @@
 //! Clocks for a chain of boundary-scan cells: test sets as TMS and TDI bits, and responses from TDO bits.
 
 use crate::board::Board;
-use crate::interface as raw;
+use crate::chain_interface as raw;
 use crate::refusal::Refusal;
 use crate::sizes::{MOST_CLOCKS, MOST_VECTORS};
 

@@ -25,6 +25,7 @@
 mod board;
 mod calls;
 mod chain;
+mod chain_interface;
 mod interface;
 mod job;
 mod network;
@@ -63,8 +64,9 @@ pub use turning::{turn, turn_back};
 /// assert_eq!(receivers, [0, 1, 9]);
 /// ```
 pub mod raw {
+    pub use crate::chain_interface::{read_clocks, write_clocks};
     pub use crate::interface::{
-        begin, check, diagnose, findings, first_answers, own_receivers, read_clocks, read_job, respond, second_answers,
-        shorten, to_drive, turn, turn_back, write_clocks, write_job,
+        begin, check, diagnose, findings, first_answers, own_receivers, read_job, respond, second_answers, shorten,
+        to_drive, turn, turn_back, write_job,
     };
 }

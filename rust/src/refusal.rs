@@ -14,7 +14,7 @@ pub struct Refusal(pub u64);
 
 impl Refusal {
     /// The table's words on the row: its place, and when it holds. There are n nets and m receivers, in a job file as
-    /// many as nets, and a chain has L cells.
+    /// many as nets.
     pub fn words(self) -> &'static str {
         match self.0 {
             1 => "file mark: first 4 bytes missing or different",
@@ -37,11 +37,6 @@ impl Refusal {
             20 => "gate: neither OR (0) nor AND (1)",
             7 => "vectors: fewer than 1 or more than 64, or sequential words that are not n",
             8 => "vectors: a bit at or above n, or in a sequential word at or above the number of vectors",
-            18 => {
-                "chain: L below 2 or above 200, driver cells that are not n, receiver cells that are not m, \
-                 or a cell outside the chain or used for two purposes"
-            }
-            19 => "TDO: not as many bytes as clocks, or one above 1",
             9 => "responses: not as many as vectors",
             10 => "responses: a bit at or above m",
             11 => {

@@ -433,9 +433,10 @@ fn job_of_the_listing() {
 
 #[test]
 fn every_refusal_has_words() {
-    let words: std::collections::HashSet<_> = (1..=14).chain(17..=21).map(|number| Refusal(number).words()).collect();
-    assert_eq!(words.len(), 19);
-    for number in [0, 15, 16, 22, 99, u64::MAX] {
+    let words: std::collections::HashSet<_> =
+        (1..=14).chain([17, 20, 21]).map(|number| Refusal(number).words()).collect();
+    assert_eq!(words.len(), 17);
+    for number in [0, 15, 16, 18, 19, 22, 99, u64::MAX] {
         assert_eq!(Refusal(number).words(), "no row of the table");
         assert!(!words.contains(Refusal(number).words()));
     }

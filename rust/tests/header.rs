@@ -45,7 +45,7 @@ fn functions() {
         of_interface.push((name, parameters.into_iter().map(String::from).collect::<Vec<_>>()));
     }
     assert_eq!(of_header, of_interface);
-    assert_eq!(of_header.len(), 16);
+    assert_eq!(of_header.len(), 14);
 }
 
 /// The number that the header gives to a name, which stands after `FONTARELGA_`.
@@ -62,8 +62,6 @@ fn sizes() {
         ("MOST_RECEIVERS", MOST_RECEIVERS),
         ("MOST_VECTORS", MOST_VECTORS),
         ("MOST_FILE_BYTES", MOST_FILE_BYTES),
-        ("MOST_CELLS", MOST_CELLS),
-        ("MOST_CLOCKS", MOST_CLOCKS),
         ("CHECK_STACK_BYTES", CHECK_STACK_BYTES),
         ("OTHER_STACK_BYTES", OTHER_STACK_BYTES),
         ("VERDICT_WORDS", VERDICT_WORDS),
@@ -150,16 +148,6 @@ fn session() {
     assert_eq!(record[stated("SESSION_SPENT")], 8);
     assert_eq!(stated("SESSION_SPENT") + 1, RECORD_WORDS);
     holds_board(&record);
-}
-
-/// The bits of a byte of clocks, by what the writer gives for 64 vectors on 200 cells: TMS is 1 on the first clock, and
-/// TDI at the driver of net 0.
-#[test]
-fn clocks() {
-    let chain = Chain { cells: MOST_CELLS as u64, driver_cells: vec![7, 8], receiver_cells: vec![0, 1] };
-    let clocks = write_clocks(2, &chain, &[1; MOST_VECTORS]).unwrap();
-    assert_eq!(clocks.len(), stated("MOST_CLOCKS"));
-    assert_eq!([clocks[0], clocks[3 + 7]].map(usize::from), [stated("CLOCK_TMS"), stated("CLOCK_TDI")]);
 }
 
 #[test]

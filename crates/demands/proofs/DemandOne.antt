@@ -16,8 +16,6 @@ use Rattle.network.specs.States.{Fits}
 use Rattle.network.specs.OwnReceivers.{OwnReceivers}
 use Rattle.network.specs.Rows.{Row9, Row12}
 use Rattle.turning.specs.Turn.{Exchanged}
-use Rattle.scan_chain.specs.Scans.{all_zero, clocks}
-use Rattle.scan_chain.specs.Responses.{responses as responses_of}
 use Rattle.checker.specs.Rule.{Rule}
 use Rattle.shorter.specs.Shorten.{Shorter, IsShorter, kept_of, counted as shorter_counted}
 use Rattle.findings.specs.FindingsTable.{Findings}
@@ -34,16 +32,13 @@ use Rattle.demands.specs.SessionCalls.{record_after, history_from, history, Left
 use Rattle.demands.specs.SessionRecords.{WaitsFor}
 use Rattle.demands.specs.Demand3.{BeginRows, Written, second_words}
 use Rattle.demands.specs.Demand1.{PublicCall, own, turn, turn_back, check, shorten, respond, diagnose, find}
-use Rattle.demands.specs.Demand1.{write_clocks, read_clocks}
 use Rattle.demands.specs.Demand1.{read, write, advance, drive}
 use Rattle.demands.specs.Demand1.{awaited_vectors, SessionHighBit, InSession, SessionRows, Rows, numbers}
 use Rattle.demands.specs.Demand1.{RefusedFill, FullFill, Before, RefusedWith, FullResult, FirstRow, RefusedOrFull}
 use Rattle.demands.specs.Demand1.{Demand1}
 use Rattle.demands.specs.Programs.{our_turn, our_turn_back, our_own_receivers, our_response, our_check, our_diagnosis, our_findings}
 use Rattle.demands.specs.Programs.{our_writer, our_answer, our_sessions, ours}
-use Rattle.demands.specs.Programs.{our_write_clocks, our_read_clocks}
 use Rattle.demands.proofs.TurnCalls.{turns, turns_back}
-use Rattle.demands.proofs.ClockCalls.{writes_clocks, reads_clocks}
 use Rattle.demands.proofs.OwnReceivers.{owns}
 use Rattle.demands.proofs.Responding.{responds}
 use Rattle.demands.proofs.Diagnosing.{diagnoses}
@@ -292,12 +287,6 @@ each_call (diagnose net owners k vectors responses list) =
 each_call (find net owners state table) =
     fills (Rows ours (find net owners state table)) (Findings net owners state) table (our_findings net owners state table)
     (finds net owners state table)
-each_call (write_clocks nets owners vectors cells drivers receivers bytes) =
-    fills (Rows ours (write_clocks nets owners vectors cells drivers receivers bytes)) (λ written. written ≡ clocks cells drivers all_zero vectors) bytes
-    (our_write_clocks nets owners vectors cells drivers receivers bytes) (writes_clocks nets owners vectors cells drivers receivers bytes)
-each_call (read_clocks nets owners count cells drivers receivers tdo list) =
-    fills (Rows ours (read_clocks nets owners count cells drivers receivers tdo list)) (λ words. words ≡ responses_of cells receivers count tdo) list
-    (our_read_clocks nets owners count cells drivers receivers tdo list) (reads_clocks nets owners count cells drivers receivers tdo list)
 each_call (read file vectors responses) = read_call file vectors responses
 each_call (write kind net k vectors responses file) =
     fills (Rows ours (write kind net k vectors responses file)) (λ bytes. bytes ≡ file_of kind net k vectors responses) file
@@ -314,8 +303,6 @@ by_its_rows (shorten net k vectors allowed list) = refl
 by_its_rows (respond net owners k vectors state list) = refl
 by_its_rows (diagnose net owners k vectors responses list) = refl
 by_its_rows (find net owners state table) = refl
-by_its_rows (write_clocks nets owners vectors cells drivers receivers bytes) = refl
-by_its_rows (read_clocks nets owners count cells drivers receivers tdo list) = refl
 by_its_rows (read file vectors responses) = refl
 by_its_rows (write kind net k vectors responses file) = refl
 by_its_rows (advance session (begin net owners list)) = refl

@@ -31,7 +31,6 @@ use Rattle.demands.proofs.RefutingSessions.{refuses_begins, uncounted, no_vector
 use Rattle.demands.proofs.RefutingCalls.{vectors_cleared, started_again}
 use Rattle.demands.proofs.RefutingShorter as Shorter
 use Rattle.demands.proofs.RefutingKinds as Kinds
-use Rattle.demands.proofs.RefutingClocks as Clocks
 
 -- walking ones with vector 0, and a set without it
 abbrev enough : List ℕ
@@ -188,14 +187,6 @@ refuted = record {
   longest_reported_otherwise = Kinds.longest_reported_otherwise;
   longer_accepted = Kinds.longer_accepted;
   longer_of_kind_4 = Kinds.longer_of_kind_4;
-  last_not_repeated = Clocks.last_not_repeated;
-  others_driven = Clocks.others_driven;
-  cells_reversed = Clocks.cells_reversed;
-  own_scan_read = Clocks.own_scan_read;
-  every_byte_read = Clocks.every_byte_read;
-  most_not_played = Clocks.most_not_played;
-  most_not_read = Clocks.most_not_read;
-  most_not_diagnosed = Clocks.most_not_diagnosed;
   vectors_cleared = vectors_cleared;
   started_again = started_again;
 }

@@ -18,7 +18,6 @@ use Rattle.demands.proofs.Sessions.{sessions}
 use Rattle.demands.proofs.Responding.{response_determined}
 use Rattle.demands.proofs.Diagnosing.{diagnosis_determined_program}
 use Rattle.demands.proofs.TurnCalls.{turn_determined_program, turn_back_determined_program}
-use Rattle.demands.proofs.ClockCalls.{write_clocks_determined, read_clocks_determined}
 use Rattle.demands.proofs.OwnReceivers.{own_determined_program}
 use Rattle.demands.proofs.Findings.{findings_determined_program}
 use Rattle.demands.proofs.Shortening.{shorten_determined_program}
@@ -164,8 +163,6 @@ pub determined : Determined
 determined = record {
   turn = turn_determined_program;
   turn_back = turn_back_determined_program;
-  write_clocks = write_clocks_determined;
-  read_clocks = read_clocks_determined;
   own_receivers = own_determined_program;
   response = response_determined;
   check = check_determined_program;

@@ -10,9 +10,6 @@ use Rattle.network.specs.Rows.{SetRows, Row9, HighBit, Row12}
 use Rattle.network.specs.Respond.{ResponseRows}
 use Rattle.network.specs.OwnReceivers.{OwnReceivers, OwnReceiversRows}
 use Rattle.turning.specs.Turn.{Exchanged, TurnRows, TurnBackRows}
-use Rattle.scan_chain.specs.Scans.{all_zero, clocks}
-use Rattle.scan_chain.specs.Responses.{responses}
-use Rattle.scan_chain.specs.Calls.{WriteRows, ReadRows}
 use Rattle.checker.specs.declared.Verdict.{Verdict}
 use Rattle.checker.specs.Rule.{Rule}
 use Rattle.diagnosis.specs.Diagnosis.{DiagnosisRows}
@@ -25,7 +22,6 @@ use Rattle.writer.specs.Writer.{WriterRows, file_of}
 use Rattle.demands.specs.Demand2.{ResponseProgram, DiagnosisProgram}
 use Rattle.demands.specs.FindingsCall.{FindingsProgram}
 use Rattle.demands.specs.TurnCalls.{TurnProgram, TurnBackProgram}
-use Rattle.demands.specs.ClockCalls.{WriteClocksProgram, ReadClocksProgram}
 use Rattle.demands.specs.OwnReceiversCall.{OwnReceiversProgram}
 use Rattle.demands.specs.JobFiles.{WriterProgram, ReadDone, ReaderProgram}
 use Rattle.demands.specs.SessionCalls.{Call, begin, first, second, lent, SessionProgram, History, none}
@@ -44,13 +40,10 @@ pub data PublicCall : Type 0 where
   turn_back : (nets count : ℕ) (words list : List ℕ) → PublicCall
   check : (net : Network) (k : ℕ) (vectors : List ℕ) → PublicCall
   shorten : (net : Network) (k : ℕ) (vectors : List ℕ) (allowed : ℕ) (list : List ℕ) → PublicCall
-  -- in the next five, and in begin, `owners` has the net of each receiver
+  -- in the next three, and in begin, `owners` has the net of each receiver
   respond : (net : Network) (owners : List ℕ) (k : ℕ) (vectors state list : List ℕ) → PublicCall
   diagnose : (net : Network) (owners : List ℕ) (k : ℕ) (vectors responses list : List ℕ) → PublicCall
   find : (net : Network) (owners state : List ℕ) (table : List Finding) → PublicCall
-  -- `cells` is the number of cells of a chain, `drivers` and `receivers` have those of the drivers and of the receivers
-  write_clocks : (nets : ℕ) (owners vectors : List ℕ) (cells : ℕ) (drivers receivers bytes : List ℕ) → PublicCall
-  read_clocks : (nets : ℕ) (owners : List ℕ) (count cells : ℕ) (drivers receivers tdo list : List ℕ) → PublicCall
   read : (file vectors responses : List ℕ) → PublicCall
   write : (kind : ℕ) (net : Network) (k : ℕ) (vectors responses file : List ℕ) → PublicCall
   -- begin, first answers, second answers
@@ -68,8 +61,6 @@ pub record Programs : Type 0 where
   pub responds : ResponseProgram
   pub diagnoses : DiagnosisProgram
   pub finds : FindingsProgram
-  pub writes_clocks : WriteClocksProgram
-  pub reads_clocks : ReadClocksProgram
   pub reads : ReaderProgram
   pub writes : WriterProgram
   pub advances : SessionProgram
@@ -124,8 +115,6 @@ Rows p (shorten net k vectors allowed list) = ShortenRows net k vectors (length 
 Rows p (respond net owners k vectors state list) = ResponseRows net owners k vectors state (length list)
 Rows p (diagnose net owners k vectors responses list) = DiagnosisRows net owners k vectors responses (length list)
 Rows p (find net owners state table) = FindingsRows net owners state (length table)
-Rows p (write_clocks nets owners vectors cells drivers receivers bytes) = WriteRows nets owners vectors cells drivers receivers (length bytes)
-Rows p (read_clocks nets owners count cells drivers receivers tdo list) = ReadRows nets owners count cells drivers receivers tdo (length list)
 Rows p (read file vectors responses) = ReaderRows file (length vectors) (length responses)
 Rows p (write kind net k vectors responses file) = WriterRows kind net k vectors responses (length file)
 Rows p (advance session call) = SessionRows p.advances session call
@@ -146,8 +135,6 @@ numbers (shorten net k vectors allowed list) = 5 ∷ 6 ∷ 17 ∷ 20 ∷ 7 ∷ 8
 numbers (respond net owners k vectors state list) = 5 ∷ 21 ∷ 6 ∷ 17 ∷ 20 ∷ 7 ∷ 8 ∷ 11 ∷ 12 ∷ []
 numbers (diagnose net owners k vectors responses list) = 5 ∷ 21 ∷ 6 ∷ 17 ∷ 20 ∷ 7 ∷ 8 ∷ 9 ∷ 10 ∷ 12 ∷ 13 ∷ 14 ∷ []
 numbers (find net owners state table) = 5 ∷ 21 ∷ 17 ∷ 20 ∷ 11 ∷ 12 ∷ []
-numbers (write_clocks nets owners vectors cells drivers receivers bytes) = 5 ∷ 21 ∷ 7 ∷ 8 ∷ 18 ∷ 12 ∷ []
-numbers (read_clocks nets owners count cells drivers receivers tdo list) = 5 ∷ 21 ∷ 7 ∷ 18 ∷ 19 ∷ 12 ∷ []
 numbers (read file vectors responses) = 1 ∷ 2 ∷ 3 ∷ 5 ∷ 6 ∷ 17 ∷ 20 ∷ 7 ∷ 8 ∷ 9 ∷ 10 ∷ 12 ∷ []
 numbers (write kind net k vectors responses file) = 2 ∷ 5 ∷ 6 ∷ 17 ∷ 20 ∷ 7 ∷ 8 ∷ 9 ∷ 10 ∷ 12 ∷ []
 numbers (advance session call) = session_numbers call
@@ -218,10 +205,6 @@ RefusedWith p (respond net owners k vectors state list) number = RefusedFill lis
 RefusedWith p (diagnose net owners k vectors responses list) number =
     RefusedFill list (p.diagnoses net owners k vectors responses list) number
 RefusedWith p (find net owners state table) number = RefusedFill table (p.finds net owners state table) number
-RefusedWith p (write_clocks nets owners vectors cells drivers receivers bytes) number =
-    RefusedFill bytes (p.writes_clocks nets owners vectors cells drivers receivers bytes) number
-RefusedWith p (read_clocks nets owners count cells drivers receivers tdo list) number =
-    RefusedFill list (p.reads_clocks nets owners count cells drivers receivers tdo list) number
 RefusedWith p (read file vectors responses) number =
     let did = p.reads file vectors responses in
     (did.returned ≡ refused number) × (did.vectors ≡ vectors) × (did.responses ≡ responses)
@@ -244,10 +227,6 @@ FullResult p (respond net owners k vectors state list) =
 FullResult p (diagnose net owners k vectors responses list) =
     FullFill (Fits net (length owners) k vectors responses) list (p.diagnoses net owners k vectors responses list)
 FullResult p (find net owners state table) = FullFill (Findings net owners state) table (p.finds net owners state table)
-FullResult p (write_clocks nets owners vectors cells drivers receivers bytes) =
-    FullFill (λ written. written ≡ clocks cells drivers all_zero vectors) bytes (p.writes_clocks nets owners vectors cells drivers receivers bytes)
-FullResult p (read_clocks nets owners count cells drivers receivers tdo list) =
-    FullFill (λ words. words ≡ responses cells receivers count tdo) list (p.reads_clocks nets owners count cells drivers receivers tdo list)
 FullResult p (read file vectors responses) = FullRead file vectors responses (p.reads file vectors responses)
 FullResult p (write kind net k vectors responses file) =
     FullFill (λ bytes. bytes ≡ file_of kind net k vectors responses) file (p.writes kind net k vectors responses file)

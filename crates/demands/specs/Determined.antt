@@ -10,7 +10,6 @@ use Rattle.session.specs.declared.Session.{Session}
 use Rattle.demands.specs.Demand2.{ResponseProgram, Responds, DiagnosisProgram, Diagnoses}
 use Rattle.demands.specs.FindingsCall.{FindingsProgram, Finds}
 use Rattle.demands.specs.TurnCalls.{TurnProgram, TurnBackProgram, Turns, TurnsBack}
-use Rattle.demands.specs.ClockCalls.{WriteClocksProgram, ReadClocksProgram, WritesClocks, ReadsClocks}
 use Rattle.demands.specs.OwnReceiversCall.{OwnReceiversProgram, Owns}
 use Rattle.demands.specs.JobFiles.{WriterProgram, Writes, ReaderProgram, Reads}
 use Rattle.demands.specs.SessionCalls.{Call, begin, SessionProgram, History, none, waits_first, waits_second}
@@ -50,11 +49,6 @@ pub record Determined : Type 0 where
   pub turn : (p q : TurnProgram) → Turns p → Turns q → (nets : ℕ) (vectors lent : List ℕ) → p nets vectors lent ≡ q nets vectors lent
   pub turn_back : (p q : TurnBackProgram) → TurnsBack p → TurnsBack q → (nets count : ℕ) (words lent : List ℕ)
       → p nets count words lent ≡ q nets count words lent
-  pub write_clocks : (p q : WriteClocksProgram) → WritesClocks p → WritesClocks q → (nets : ℕ) (owners vectors : List ℕ) (cells : ℕ)
-      (drivers receivers lent : List ℕ) → p nets owners vectors cells drivers receivers lent ≡ q nets owners vectors cells drivers receivers lent
-  pub read_clocks : (p q : ReadClocksProgram) → ReadsClocks p → ReadsClocks q → (nets : ℕ) (owners : List ℕ) (count cells : ℕ)
-      (drivers receivers tdo lent : List ℕ)
-      → p nets owners count cells drivers receivers tdo lent ≡ q nets owners count cells drivers receivers tdo lent
   pub own_receivers : (p q : OwnReceiversProgram) → Owns p → Owns q → (nets : ℕ) (lent : List ℕ) → p nets lent ≡ q nets lent
   pub response : (p q : ResponseProgram) → Responds p → Responds q → (net : Network) (owners : List ℕ) (k : ℕ)
       (vectors state lent : List ℕ) → p net owners k vectors state lent ≡ q net owners k vectors state lent

@@ -394,8 +394,6 @@ ours_but reader sessions = record {
   responds = ours.responds;
   diagnoses = ours.diagnoses;
   finds = ours.finds;
-  writes_clocks = ours.writes_clocks;
-  reads_clocks = ours.reads_clocks;
   reads = reader;
   writes = ours.writes;
   advances = sessions;
@@ -470,14 +468,5 @@ pub record Refuted : Type 0 where
   pub longest_reported_otherwise : ¬ (KindsReportAlike (reports_but 933) our_writer)
   pub longer_accepted : ¬ (SizeLimits (accepts_longer 1061 2))
   pub longer_of_kind_4 : ¬ (SizeLimits (accepts_longer 934 4))
-  pub last_not_repeated : ¬ (WritesClocks (writes_as no_last_scan))
-  pub others_driven : ¬ (WritesClocks (writes_as ones_elsewhere))
-  pub cells_reversed : ¬ (WritesClocks (writes_as last_cell_first))
-  pub own_scan_read : ¬ (ReadsClocks reads_own_scan)
-  pub every_byte_read : ¬ (ReadsClocks reads_every_byte)
-  pub most_not_played : ¬ (PlaysVectors writes_but_most)
-  pub most_not_read : ¬ (ReadsBoard writes_but_most reads_but_most)
-  pub most_not_diagnosed : (level gate : ℕ)
-      → ¬ (DiagnosesBoard passes_all_sets writes_but_most reads_but_most (diagnoses_but_most level gate))
   pub vectors_cleared : ¬ (Demand1 (ours_but clears_vectors our_sessions))
   pub started_again : ¬ (Demand1 (ours_but our_reader starts_again))
