@@ -15,11 +15,11 @@
  * - that what a call writes overlaps nothing else that it is given.
  *
  * A call allocates nothing: what it needs it takes from the stack. Shortening, and check and diagnosis for class 1, 2
- * or 3 below nets, take up to 270,000 bytes of it; all else takes up to 12,000. So check, shortening and diagnosis run
+ * or 3 below nets, take up to 270,000 bytes of it; all else takes up to 17,000. So check, shortening and diagnosis run
  * on a thread with a stack of at least FONTARELGA_CHECK_STACK_BYTES (320 KB), all else with
- * FONTARELGA_OTHER_STACK_BYTES (32 KB); either leaves at least 20 KB to the thread itself, and one that needs more adds
- * it. By default a thread has 8 MB on Linux with glibc, but 128 KB with musl. A program whose threads have less makes
- * the call on a thread to which it gives as much, with pthread_attr_setstacksize.
+ * FONTARELGA_OTHER_STACK_BYTES (32 KB); either leaves at least 16,000 bytes to the thread itself, and one that needs
+ * more adds it. By default a thread has 8 MB on Linux with glibc, but 128 KB with musl. A program whose threads have
+ * less makes the call on a thread to which it gives as much, with pthread_attr_setstacksize.
  *
  * nets is n, 2 to 48. level is the soft level, 0 or 1: what a receiver reads that no driver reaches. gate is
  * FONTARELGA_GATE_OR or FONTARELGA_GATE_AND. receivers has the net of each receiver, n to 64 of them, at least one on
