@@ -7,16 +7,16 @@ port.py respells the names of the library and a few of ours. This turns what is 
 `lent-after`, gets underscores, as `lent_after`, in every file of crates/ that port.py turns (.rt, .antt), in the
 clauses of must-fail edits, and between backticks in README.md, docs/ and rust/README.md. A name that a file imports
 from the library keeps its spelling there. Functions of src/, exported C names, strings, inputs and outputs are not
-touched. It prints names that would fall together, and names in text that it left. --check writes nothing.
+touched. It prints where two spellings of a name meet in one file: here only where an old proof names a step of the code
+beside the module of the function that it calls. --check writes nothing. A library's name that is written with its whole
+path, and a file's name in a page that is a lemma's too, are to be turned back by hand.
 """
 
 import os
 import re
 import sys
 
-CODE = r"[^\s(){}\[\],;.«»\"@`:]"
-NAME = re.compile(CODE + r"+")
-DASHED = re.compile(r"^[^\W\d_][^\s-]*(?:-[^\s-]+)+$|^[^\W\d_][^\s-]*(?:-[^\s-]*[\w'])+$")
+NAME = re.compile(r"[^\s(){}\[\],;.«»\"@`:]+")
 USE = re.compile(r"^(\s*(?:pub )?(?:ghost )?use )([^\s{;]+?)(?:\.\{([^{}]*)\})?(?: as (\S+?))?;?\s*$", re.M)
 # Heads of the names that the checker makes for a function's proof; proofs that cite them are turned by hand.
 MADE = ("Need", "After", "In", "At", "Then", "Else", "Joined", "Goes", "Arm", "Inv")
@@ -40,11 +40,8 @@ def read(path):
 
 def is_dashed(token):
     """A name with a dash inside: letters or digits on both sides of it, and no operator."""
-    if "-" not in token or token.startswith("-") or token.endswith("-"):
-        return False
-    if not re.search(r"[^\W_]", token):
-        return False
-    return all(part and re.search(r"[^\W_]", part) for part in re.split(r"-", token) if part not in ("",)) and "--" not in token
+    parts = token.split("-")
+    return len(parts) > 1 and all(re.search(r"[^\W_]", part) for part in parts)
 
 
 def is_ours(path, ours):
@@ -97,7 +94,10 @@ def turn_code(text, keep, aliases, declared, seen):
 
 def turn_words(text, declared):
     """Respells names of ours in a comment or a page: those between backticks or guillemets."""
-    return re.sub(r"`[^`\n]*`|«[^»\n]*»", lambda m: NAME.sub(lambda n: snake(n.group(0)) if n.group(0) in declared else n.group(0), m.group(0)), text)
+    def one(name):
+        return snake(name.group(0)) if name.group(0) in declared else name.group(0)
+
+    return re.sub(r"`[^`\n]*`|«[^»\n]*»", lambda m: NAME.sub(one, m.group(0)), text)
 
 
 def turn_antt(text, ours, declared, seen):
@@ -115,7 +115,10 @@ def turn_antt(text, ours, declared, seen):
 
 def turn_clause(text, keep, declared, seen):
     """A clause of source: names in guillemets lose them where snake case needs none."""
-    text = re.sub(r"«([^»\n]*)»", lambda m: snake(m.group(1)) if m.group(1) in declared and m.group(1) not in keep else m.group(0), text)
+    def one(name):
+        return snake(name.group(1)) if name.group(1) in declared and name.group(1) not in keep else name.group(0)
+
+    text = re.sub(r"«([^»\n]*)»", one, text)
     text = re.sub(r"«(\w*_\w*)»", r"\1", text)
     return turn_code(text, keep, set(), declared, seen)
 
@@ -142,14 +145,13 @@ def turn_edit(text, declared, seen):
 
 
 def declared_names(ours):
-    """Every name with a dash that stands in our antt as our own: not imported from the library, and not made by the checker."""
-    found, kept = {}, set()
+    """Every name with a dash that stands in our antt as our own: not imported, and not made by the checker."""
+    found = {}
     for path in files():
         if not path.endswith(".antt"):
             continue
         text = read(path)
         keep, aliases = foreign(text, ours)
-        kept |= keep
         walk = path.endswith("Proof.antt")
         for line in text.split("\n"):
             m = USE.match(line)
@@ -166,12 +168,12 @@ def declared_names(ours):
                 if walk and token.split("-")[0] in MADE:
                     continue
                 found.setdefault(token, set()).add(path)
-    return found, kept
+    return found
 
 
 def main(argv):
     ours = own_crates()
-    found, _ = declared_names(ours)
+    found = declared_names(ours)
     # names that fall together: two spellings of ours, or one of ours and a name that the file has already
     plain = {}
     for path in files():
@@ -191,9 +193,10 @@ def main(argv):
             turned[path] = turn_rt(read(path), ours, found, seen)
         elif path.endswith(".edit"):
             turned[path] = turn_edit(read(path), found, seen)
-    pages = ["README.md", "rust/README.md"] + [os.path.join(r, n) for r, _, ns in os.walk("docs") for n in ns if n.endswith(".md")]
+    pages = ["README.md", "rust/README.md"]
+    pages += [os.path.join(root, n) for root, _, names in os.walk("docs") for n in names if n.endswith(".md")]
     for path in pages:
-        if os.path.exists(path) and os.path.basename(path) not in ("PORT.md",):
+        if os.path.exists(path) and os.path.basename(path) != "PORT.md":
             turned[path] = turn_words(read(path), found)
     for path, text in turned.items():
         if text != read(path):
