@@ -4,7 +4,7 @@ use mathlib.Core.Bool.{true, false}
 use mathlib.Core.List.{[], ◌∷◌, map}
 use lib.Ieee.{binary64}
 use mir.Syntax.{ty_int, ty_bool, ty_float, ty_ptr, ty_ref, ty_array, ty_unit, ty_struct, ty_enum, ty_param, ty_const}
-use mir.Syntax.{ty_array_p, ty_named, tnil, ttnil, dnil, erased, imm, w64, local, given, detached, rattle_abi, c_bool}
+use mir.Syntax.{ty_array_p, ty_named, tnil, ttnil, tcons, dnil, dcons, erased, imm, w64, local, given, detached, rattle_abi, c_bool}
 use mir.Syntax.{Callee, fn, method, forked, awaited, prim, unreachable, call_v, lend_static}
 use mir.Syntax.{value_local, opd_true, Body, skip, seq, place, block, loop, cond, switch, no_default, exit, return, call}
 use Rattle.findings.specs.OneWay.{is_among, is_call_of, one_way, is_number, numbers_alone}
@@ -24,12 +24,14 @@ abbrev known : Callee
 known = fn "known" (tnil, dnil)
 
 -- a call of a trait's method, of a thread that runs the known function, of a thread's end or of an atomic step; a body
--- that is never reached, a call through a pointer, and a constant lent
+-- that is never reached, a call through a pointer, a constant lent, and another function's call at a type or a bound
 pub more_ways_still : map (one_way ("known" ∷ []))
     (call (method (given 0) 0 (tnil, dnil)) [] (place 0 []) ∷ call (forked tnil known) [] (place 0 [])
     ∷ call (awaited tnil) [] (place 0 []) ∷ call (prim detached) [] (place 0 []) ∷ unreachable
-    ∷ call_v opd_true (rattle_abi, tnil) [] (place 0 []) ∷ lend_static (place 0 []) ty_bool (c_bool true) ∷ [])
-    ≡ false ∷ false ∷ false ∷ false ∷ false ∷ false ∷ false ∷ []
+    ∷ call_v opd_true (rattle_abi, tnil) [] (place 0 []) ∷ lend_static (place 0 []) ty_bool (c_bool true)
+    ∷ call (fn "other" (tcons ty_bool tnil, dnil)) [] (place 0 [])
+    ∷ call (fn "other" (tnil, dcons (given 0) dnil)) [] (place 0 []) ∷ [])
+    ≡ false ∷ false ∷ false ∷ false ∷ false ∷ false ∷ false ∷ false ∷ false ∷ []
 unfolding one_way is_among is_call_of
 more_ways_still = refl
 

@@ -1,5 +1,4 @@
--- What the walks of functions with lent memory share: the facts of a contract's named clauses, as its `ensures` joins
--- them, and all as one.
+-- The facts of a contract's named clauses, as its `ensures` joins them, and all as one.
 use mathlib.Core.List.{List, [], ◌∷◌}
 use seplogic.Ra.Ura.{Ura}
 use base.Logic.{SProp, ent, sep, emp, id⊢, via, comm∗, emp∗, mono∗, mono_l, fst∗, snd∗}
