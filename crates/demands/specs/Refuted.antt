@@ -28,8 +28,7 @@ use Rattle.writer.specs.Writer.{head_of, bodies_of, file_of, writer_tests}
 use Rattle.demands.specs.Demand2.{ResponseProgram, Responds, DiagnosisProgram, Diagnoses}
 use Rattle.demands.specs.FindingsCall.{FindingsProgram, Finds}
 use Rattle.demands.specs.TurnCalls.{TurnProgram, TurnBackProgram, Turns, TurnsBack, ThereAndBack}
-use Rattle.demands.specs.ClockCalls.{WriteClocksProgram, ReadClocksProgram, WritesClocks, ReadsClocks}
-use Rattle.demands.specs.Played.{PlaysVectors, ReadsBoard, DiagnosesBoard}
+use Rattle.demands.specs.ClockCalls.{WriteClocksProgram, ReadClocksProgram}
 use Rattle.demands.specs.JobFiles.{WriterProgram, Writes, ReaderProgram, Reads, Exact, ReadsExchanged, of_kind}
 use Rattle.demands.specs.JobFiles.{KindsReadAlike, SizeLimits}
 use Rattle.demands.specs.Reports.{ReportProgram, KindsReportAlike}

@@ -1,7 +1,7 @@
 -- Words of bits. A parallel word (the source's PTV) has one bit a driver, in a response one bit a receiver; a
 -- sequential word (STV, and SRV for a response) one bit a vector. Every definition computes on numerals.
 use Rattle.std.specs.Prelude.{ℕ, ◌+◌, ◌*◌, ◌/◌, ◌%◌, ◌^◌, Bool, true, false, List, [], ◌∷◌, eqb, get_or}
-use Rattle.std.specs.Int.Count.{ones, ones_in}
+use Rattle.std.specs.Int.Count.{ones_in}
 
 -- bit i of a word, worth 2 ^ i: 0 or 1
 abbrev pub bit : ℕ → ℕ → ℕ

@@ -4,7 +4,6 @@ use Rattle.chains.proofs.add.Goals as goal
 
 pub returns : goal.returns
 returns c =
-    let start = c in
     let a = c.args in
     let p = c.requires in
     let s = c.slot_of-slot.ensures in

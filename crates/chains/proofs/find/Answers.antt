@@ -1,9 +1,8 @@
-use Prim.Native.Nat.{ℕ, suc, ◌-◌, ◌<◌}
+use Prim.Native.Nat.{ℕ, suc, ◌-◌, ◌≤◌, ◌<◌}
 use native.Mathlib.Omega.{arith}
 use mathlib.Core.Path.{◌≡◌, sym, ap, ◌∙◌, subst}
 use lib.ListN.{length}
-use Rattle.words.specs.Bits.{at}
-use Rattle.chains.specs.Chains.{slot, last, in_slot}
+use Rattle.chains.specs.Chains.{last, in_slot}
 use Rattle.chains.proofs.Following.{Following, following_first, following_hit, following_miss, following_end, falls}
 use Rattle.chains.proofs.find.Goals as goal
 use Rattle.chains.proofs.find.Goals.{else-words-at, then-words-at}
@@ -19,111 +18,60 @@ bounds-heads-chain c = c.slot_of-chain.ensures.1
 
 pub loop-place-init : goal.loop-place-init
 loop-place-init c =
-    let start = c in
     let k = c.requires in
     let s = c.slot_of-chain.ensures in
     let a = c.args in
     following_first (length a.heads.now) a.word a.words.now a.count _ k.words_room
     (k.headed _ s.1 ∙ ap (λ (x : ℕ). last a.count (in_slot (length a.heads.now) a.words.now x)) s.0)
 
-module _ (c : goal.In-loop-place) where
-  place_of : c.loop-place.place ≡ suc (c.loop-place.place - 1)
-  place_of = let h = c.loop-place-test.true in omega arith
+-- the place before this one
+before_is : (place : ℕ) → 0 < place → place ≡ suc (place - 1)
+before_is place some = omega arith
 
-  inside : c.loop-place.place - 1 < c.args.count
-  inside = omega (arith, place_of, c.loop-place.invariant.inside)
-
-  link : at c.args.links.now (c.loop-place.place - 1)
-      ≡ last (c.loop-place.place - 1) (in_slot (length c.args.heads.now) c.args.words.now
-      (slot (length c.args.heads.now) (at c.args.words.now (c.loop-place.place - 1))))
-  link = c.requires.linked (c.loop-place.place - 1) inside
+before_inside : (place count : ℕ) → 0 < place → place ≤ count → place - 1 < count
+before_inside place count some l = omega arith
 
 pub overflow_sub-at : goal.overflow_sub-at
-overflow_sub-at c = omega (arith, place_of c)
+overflow_sub-at c = omega arith
 
 pub overflow_cast-at : goal.overflow_cast-at
-overflow_cast-at c = omega (arith, inside c, c.well_formed)
+overflow_cast-at c =
+    omega (arith, before_inside c.loop-place.place _ (omega arith) c.loop-place.invariant.inside, c.well_formed)
 
 pub offset_bounds-words-at : goal.offset_bounds-words-at
-offset_bounds-words-at c = omega (arith, inside c, c.requires.words_room)
-
-module _ (c : goal.After-shared_slice_known-in-loop-place-1-unread) where
-  place_of_2 : c.loop-place.place ≡ suc (c.loop-place.place - 1)
-  place_of_2 = let h = c.loop-place-test.true in omega arith
-
-  inside_2 : c.loop-place.place - 1 < c.args.count
-  inside_2 = omega (arith, place_of_2, c.loop-place.invariant.inside)
-
-  link_2 : at c.args.links.now (c.loop-place.place - 1)
-      ≡ last (c.loop-place.place - 1) (in_slot (length c.args.heads.now) c.args.words.now
-      (slot (length c.args.heads.now) (at c.args.words.now (c.loop-place.place - 1))))
-  link_2 = c.requires.linked (c.loop-place.place - 1) inside_2
+offset_bounds-words-at c = omega (arith, c.loop-place.invariant.inside, c.requires.words_room)
 
 pub bounds-words-at : goal.bounds-words-at
-bounds-words-at c = omega (arith, inside_2 c, c.requires.words_room)
-
-module _ (c : goal.Joined-words-at) where
-  place_of_3 : c.loop-place.place ≡ suc (c.loop-place.place - 1)
-  place_of_3 = let h = c.loop-place-test.true in omega arith
-
-  inside_3 : c.loop-place.place - 1 < c.args.count
-  inside_3 = omega (arith, place_of_3, c.loop-place.invariant.inside)
-
-  link_3 : at c.args.links.now (c.loop-place.place - 1)
-      ≡ last (c.loop-place.place - 1) (in_slot (length c.args.heads.now) c.args.words.now
-      (slot (length c.args.heads.now) (at c.args.words.now (c.loop-place.place - 1))))
-  link_3 = c.requires.linked (c.loop-place.place - 1) inside_3
+bounds-words-at c = omega (arith, c.loop-place.invariant.inside, c.requires.words_room)
 
 pub offset_bounds-links-at : goal.offset_bounds-links-at
-offset_bounds-links-at c = omega (arith, inside_3 c, c.requires.words_room)
-
-module _ (c : goal.After-shared_slice_known-in-loop-place-2-1-unread) where
-  place_of_4 : c.loop-place.place ≡ suc (c.loop-place.place - 1)
-  place_of_4 = let h = c.loop-place-test.true in omega arith
-
-  inside_4 : c.loop-place.place - 1 < c.args.count
-  inside_4 = omega (arith, place_of_4, c.loop-place.invariant.inside)
-
-  link_4 : at c.args.links.now (c.loop-place.place - 1)
-      ≡ last (c.loop-place.place - 1) (in_slot (length c.args.heads.now) c.args.words.now
-      (slot (length c.args.heads.now) (at c.args.words.now (c.loop-place.place - 1))))
-  link_4 = c.requires.linked (c.loop-place.place - 1) inside_4
+offset_bounds-links-at c = omega (arith, c.loop-place.invariant.inside, c.requires.words_room)
 
 pub bounds-links-at : goal.bounds-links-at
-bounds-links-at c = omega (arith, inside_4 c, c.requires.links_room)
-
-module _ (c : goal.After-shared_slice_known-in-loop-place-2-1) where
-  place_of_5 : c.loop-place.place ≡ suc (c.loop-place.place - 1)
-  place_of_5 = let h = c.loop-place-test.true in omega arith
-
-  inside_5 : c.loop-place.place - 1 < c.args.count
-  inside_5 = omega (arith, place_of_5, c.loop-place.invariant.inside)
-
-  link_5 : at c.args.links.now (c.loop-place.place - 1)
-      ≡ last (c.loop-place.place - 1) (in_slot (length c.args.heads.now) c.args.words.now
-      (slot (length c.args.heads.now) (at c.args.words.now (c.loop-place.place - 1))))
-  link_5 = c.requires.linked (c.loop-place.place - 1) inside_5
+bounds-links-at c = omega (arith, c.loop-place.invariant.inside, c.requires.links_room)
 
 pub loop-place-smaller : goal.loop-place-smaller
 loop-place-smaller c =
-    let d = c in
     let l = c.loop-place in
     let a = c.args in
-    falls (length a.heads.now) a.word a.words.now a.count l.place (l.place - 1) (place_of_5 c) l.found l.invariant _ (link_5 c)
+    let some : 0 < l.place = omega arith in
+    falls (length a.heads.now) a.word a.words.now a.count l.place (l.place - 1) (before_is l.place some) l.found l.invariant _
+    (c.requires.linked (l.place - 1) (before_inside l.place a.count some l.invariant.inside))
 
 pub loop-place-preserved : goal.loop-place-preserved
 loop-place-preserved c =
-    let d = c in
     let l = c.loop-place in
     let a = c.args in
+    let some : 0 < l.place = omega arith in
+    let link = c.requires.linked (l.place - 1) (before_inside l.place a.count some l.invariant.inside) in
     let follows = Following (length a.heads.now) a.word a.words.now a.count in
     elim c.if-words-at.branch [
       | then-words-at w ↦ subst (follows _) (sym w.found-is)
-          (following_hit (length a.heads.now) a.word a.words.now a.count l.place (l.place - 1) (place_of_5 c) l.found l.invariant _
-          (link_5 c) w.if-words-at.true)
+          (following_hit (length a.heads.now) a.word a.words.now a.count l.place (l.place - 1) (before_is l.place some) l.found
+          l.invariant _ link w.if-words-at.true)
       | else-words-at w ↦ subst (follows _) (sym w.found-is)
-          (following_miss (length a.heads.now) a.word a.words.now a.count l.place (l.place - 1) (place_of_5 c) l.found l.invariant _
-          (link_5 c) w.if-words-at.false)
+          (following_miss (length a.heads.now) a.word a.words.now a.count l.place (l.place - 1) (before_is l.place some) l.found
+          l.invariant _ link w.if-words-at.false)
     ]
 
 pub returns : goal.returns

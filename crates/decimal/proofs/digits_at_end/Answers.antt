@@ -1,11 +1,10 @@
 use borrow.Author.Rules.{rules}
-use Prim.Native.Nat.{◌-◌, ◌/◌, ◌%◌, ◌<◌, ◌≤◌, ◌^◌}
+use Prim.Native.Nat.{◌<◌, ◌^◌}
 use native.Mathlib.Omega.{arith}
 use mathlib.Core.Path.{◌≡◌, sym, ◌∙◌}
-use mathlib.Core.List.{◌++◌}
-use lib.ListN.{length, drop, set, length-set}
-use Rattle.decimal.specs.Decimal.{digit_byte, decimal}
-use Rattle.decimal.proofs.Numerals.{higher, first_digit, next_digit}
+use lib.ListN.{length, length-set}
+use Rattle.decimal.specs.Decimal.{decimal}
+use Rattle.decimal.proofs.Numerals.{first_digit, next_digit}
 use Rattle.decimal.proofs.digits_at_end.Goals as goal
 
 pub loop-rest-init : goal.loop-rest-init
@@ -17,30 +16,15 @@ loop-rest-init c =
 
 pub overflow_sub-start : goal.overflow_sub-start
 overflow_sub-start c =
-    let turn : let l = c.loop-rest in (1 ≤ l.start) × (l.rest / 10 < 10 ^ (l.start - 1)) × (decimal c.args.n ≡ higher (l.start - 1) (l.rest / 10) ++ drop (l.start - 1) (set l.buffer (l.start - 1) (digit_byte (l.rest % 10)))) =
     let l = c.loop-rest in
-    next_digit (decimal c.args.n) l.buffer l.invariant.0 l.start l.rest l.invariant.1
-    l.invariant.2 c.loop-rest-test.true l.invariant.3 in
-    turn.0
-
-pub bounds-buffer-start : goal.bounds-buffer-start
-bounds-buffer-start c =
-    let turn : let l = c.loop-rest in (1 ≤ l.start) × (l.rest / 10 < 10 ^ (l.start - 1)) × (decimal c.args.n ≡ higher (l.start - 1) (l.rest / 10) ++ drop (l.start - 1) (set l.buffer (l.start - 1) (digit_byte (l.rest % 10)))) =
-    let l = c.loop-rest in
-    next_digit (decimal c.args.n) l.buffer l.invariant.0 l.start l.rest l.invariant.1
-    l.invariant.2 c.loop-rest-test.true l.invariant.3 in
-    let l = c.loop-rest in omega (arith, l.invariant.0, l.invariant.1, turn.0)
-
-pub loop-rest-smaller : goal.loop-rest-smaller
-loop-rest-smaller c = let some = c.loop-rest-test.true in omega (arith, some)
+    (next_digit (decimal c.args.n) l.buffer l.invariant.0 l.start l.rest l.invariant.1 l.invariant.2
+    c.loop-rest-test.true l.invariant.3).0
 
 pub loop-rest-preserved : goal.loop-rest-preserved
 loop-rest-preserved c =
-    let turn : let l = c.loop-rest in (1 ≤ l.start) × (l.rest / 10 < 10 ^ (l.start - 1)) × (decimal c.args.n ≡ higher (l.start - 1) (l.rest / 10) ++ drop (l.start - 1) (set l.buffer (l.start - 1) (digit_byte (l.rest % 10)))) =
     let l = c.loop-rest in
-    next_digit (decimal c.args.n) l.buffer l.invariant.0 l.start l.rest l.invariant.1
-    l.invariant.2 c.loop-rest-test.true l.invariant.3 in
-    let l = c.loop-rest in
+    let turn = next_digit (decimal c.args.n) l.buffer l.invariant.0 l.start l.rest l.invariant.1 l.invariant.2
+    c.loop-rest-test.true l.invariant.3 in
     (length-set l.buffer _ _ ∙ l.invariant.0, omega (arith, l.invariant.1), turn.1, turn.2)
 
 pub shape_of-buffer : goal.shape_of-buffer

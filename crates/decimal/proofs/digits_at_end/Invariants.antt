@@ -8,7 +8,8 @@ use Rattle.decimal.proofs.digits_at_end.Given as goal
 
 abbrev pub invariant-loop-rest : goal.invariant-loop-rest
 invariant-loop-rest l =
-    (length l.buffer ≡ 20) × (l.start ≤ 19) × (l.rest < 10 ^ l.start) × (decimal l.n ≡ higher l.start l.rest ++ drop l.start l.buffer)
+    (length l.buffer ≡ 20) × (l.start ≤ 19) × (l.rest < 10 ^ l.start)
+    × (decimal l.n ≡ higher l.start l.rest ++ drop l.start l.buffer)
 
 abbrev pub decreases-loop-rest : goal.decreases-loop-rest
 decreases-loop-rest l = l.rest

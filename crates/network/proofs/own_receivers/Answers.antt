@@ -2,7 +2,6 @@ use borrow.Author.Tests.{ltb-false}
 use Prim.Native.Nat.{ℕ}
 use mathlib.Core.Path.{◌≡◌, sym, ◌∙◌}
 use mathlib.Core.Bool.{true, false}
-use lib.ListN.{length}
 use Rattle.words.specs.Answers.{refused, full, by_tests}
 use Rattle.words.proofs.Answers.{owed_refused, owed_full}
 use Rattle.network.specs.Reading.{network_of}
@@ -29,39 +28,24 @@ module _ (nets room : ℕ) where
 pub returns-then-bad_net_count : goal.returns-then-bad_net_count
 returns-then-bad_net_count c =
     let a = c.args in
-    let owed = owed_refused _ 5 a.out.now (by_row_5 a.nets _ (sym c.bad_net_count.ensures ∙ c.if-bad_net_count.true)) in record { answer = owed.0; list = owed.1 }
-
--- row 5 does not hold
-five : (c : goal.Then-no_room) → bad_net_count (network_of c.args.nets) ≡ false
-five c = sym c.bad_net_count.ensures ∙ c.if-bad_net_count.false
+    let owed = owed_refused _ 5 a.out.now
+    (by_row_5 a.nets _ (sym c.bad_net_count.ensures ∙ c.if-bad_net_count.true)) in
+    record { answer = owed.0; list = owed.1 }
 
 pub returns-then-no_room : goal.returns-then-no_room
 returns-then-no_room c =
-    let e = c in
     let a = c.args in
-    let owed = owed_refused _ 12 a.out.now (by_row_12 a.nets _ (five c) (sym c.no_room.ensures ∙ c.if-no_room.true)) in record { answer = owed.0; list = owed.1 }
-
--- nor does row 12
-twelve : (c : goal.After-fill_own-arg-1)
-    → let a = c.args in no_room a.nets (length a.out.now) ≡ false
-twelve c = sym c.no_room.ensures ∙ c.if-no_room.false
+    let owed = owed_refused _ 12 a.out.now
+    (by_row_12 a.nets _ (sym c.bad_net_count.ensures ∙ c.if-bad_net_count.false) (sym c.no_room.ensures ∙ c.if-no_room.true)) in
+    record { answer = owed.0; list = owed.1 }
 
 pub fill_own-requires : goal.fill_own-requires
-fill_own-requires c = ltb-false _ _ (twelve c)
-
--- row 5 does not hold
-five_2 : (c : goal.After-slice_known-2-1) → bad_net_count (network_of c.args.nets) ≡ false
-five_2 c = sym c.bad_net_count.ensures ∙ c.if-bad_net_count.false
-
--- nor does row 12
-twelve_2 : (c : goal.After-slice_known-2-1)
-    → let a = c.args in no_room a.nets (length a.out.now) ≡ false
-twelve_2 c = sym c.no_room.ensures ∙ c.if-no_room.false
+fill_own-requires c = ltb-false _ _ (sym c.no_room.ensures ∙ c.if-no_room.false)
 
 pub returns : goal.returns
 returns c =
-    let d = c in
     let a = c.args in
     let owed = owed_full _ a.nets (own_receivers a.nets) a.out.now _
-    (by_none a.nets _ (five_2 c) (twelve_2 c)) (sym (own_size a.nets))
-    c.fill_own.ensures in record { answer = owed.0; list = owed.1 }
+    (by_none a.nets _ (sym c.bad_net_count.ensures ∙ c.if-bad_net_count.false) (sym c.no_room.ensures ∙ c.if-no_room.false))
+    (sym (own_size a.nets)) c.fill_own.ensures in
+    record { answer = owed.0; list = owed.1 }

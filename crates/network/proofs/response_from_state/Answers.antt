@@ -1,16 +1,16 @@
 use Prim.Native.Nat.{ℕ}
 use native.Mathlib.Omega.{arith}
-use mathlib.Core.Path.{◌≡◌, sym, ap, ◌∙◌}
+use mathlib.Core.Path.{◌≡◌, sym, ◌∙◌}
 use mathlib.Core.Bool.{true, false}
 use mathlib.Core.List.{List}
 use lib.ListN.{length}
 use borrow.Author.Tests.{ltb-false}
-use Rattle.words.specs.Answers.{NoneHolds, refused, full, by_tests}
+use Rattle.words.specs.Answers.{refused, full, by_tests}
 use Rattle.words.proofs.Answers.{owed_refused, owed_full}
 use Rattle.network.specs.declared.Network.{Network}
 use Rattle.network.specs.Reading.{response}
 use Rattle.network.specs.States.{not_a_state}
-use Rattle.network.specs.Rows.{BoardSetRows, board_admission, admission, no_room}
+use Rattle.network.specs.Rows.{board_admission, no_room}
 use Rattle.network.specs.Respond.{own_tests, response_answer}
 use Rattle.network.proofs.Reading.{response_is}
 use Rattle.network.proofs.States.{test→state}
@@ -57,105 +57,50 @@ response_size net state vectors = (response_is net state vectors).one_a_vector
 pub returns-in-Refused : goal.returns-in-Refused
 returns-in-Refused c =
     let a = c.args in
-    let number = c.in-Refused.number in
-    let e : board_admission a.net a.receivers.now a.class a.vectors.now ≡ refused number =
-    sym c.admit_board-admission.ensures ∙ ap admission c.in-Refused.is in
-    let owed = owed_refused _ number a.out.now
-    (by_set a.net a.receivers.now a.class a.vectors.now a.state.now a.out.now number e) in record { answer = owed.0; list = owed.1 }
-
--- the rows have admitted the board and the test set
-admitted : (c : goal.In_default) → let a = c.args in
-    board_admission a.net a.receivers.now a.class a.vectors.now ≡ full tt
-admitted c = sym c.admit_board-admission.ensures ∙ ap admission c.in_default.is
-
-none_holds : (c : goal.In_default) → let a = c.args in
-    NoneHolds (BoardSetRows a.net a.receivers.now a.class a.vectors.now)
-none_holds c =
-    let a = c.args in
-    board_set_none_holds a.net a.receivers.now a.class a.vectors.now (admitted c)
+    let owed = owed_refused _ c.in-Refused.number a.out.now
+    (by_set a.net a.receivers.now a.class a.vectors.now a.state.now a.out.now _ (sym c.in-Refused.ensures)) in
+    record { answer = owed.0; list = owed.1 }
 
 pub not_a_state-requires : goal.not_a_state-requires
 not_a_state-requires c =
     let a = c.args in
-    (nets_admitted a.net (none_holds c).0).1
-
--- the rows have admitted_2 the board and the test set
-admitted_2 : (c : goal.Then-not_a_state) → let a = c.args in
-    board_admission a.net a.receivers.now a.class a.vectors.now ≡ full tt
-admitted_2 c = sym c.admit_board-admission.ensures ∙ ap admission c.in_default.is
+    let none = board_set_none_holds a.net a.receivers.now a.class a.vectors.now (sym c.in_default.ensures) in
+    (nets_admitted a.net none.0).1
 
 pub returns-then-not_a_state : goal.returns-then-not_a_state
 returns-then-not_a_state c =
     let a = c.args in
     let owed = owed_refused _ 11 a.out.now
-    (by_row_11 a.net a.receivers.now a.class a.vectors.now a.state.now a.out.now
-    (admitted_2 c)
-    (sym c.not_a_state.ensures ∙ c.if-not_a_state.true)) in record { answer = owed.0; list = owed.1 }
-
--- the rows have admitted_3 the board and the test set
-admitted_3 : (c : goal.Then-no_room) → let a = c.args in
-    board_admission a.net a.receivers.now a.class a.vectors.now ≡ full tt
-admitted_3 c = sym c.admit_board-admission.ensures ∙ ap admission c.in_default.is
-
--- row 11 does not hold
-is_state : (c : goal.Then-no_room) → let a = c.args in
-    not_a_state a.net (length a.receivers.now) a.class a.state.now ≡ false
-is_state c = sym c.not_a_state.ensures ∙ c.if-not_a_state.false
+    (by_row_11 a.net a.receivers.now a.class a.vectors.now a.state.now a.out.now (sym c.in_default.ensures)
+    (sym c.not_a_state.ensures ∙ c.if-not_a_state.true)) in
+    record { answer = owed.0; list = owed.1 }
 
 pub returns-then-no_room : goal.returns-then-no_room
 returns-then-no_room c =
     let a = c.args in
     let owed = owed_refused _ 12 a.out.now
-    (by_row_12 a.net a.receivers.now a.class a.vectors.now a.state.now a.out.now
-    (admitted_3 c) (is_state c)
-    (sym c.no_room.ensures ∙ c.if-no_room.true)) in record { answer = owed.0; list = owed.1 }
-
--- the rows have admitted_4 the board and the test set
-admitted_4 : (c : goal.After-fill_response-arg-1) → let a = c.args in
-    board_admission a.net a.receivers.now a.class a.vectors.now ≡ full tt
-admitted_4 c = sym c.admit_board-admission.ensures ∙ ap admission c.in_default.is
-
-none_holds_2 : (c : goal.After-fill_response-arg-1) → let a = c.args in
-    NoneHolds (BoardSetRows a.net a.receivers.now a.class a.vectors.now)
-none_holds_2 c =
-    let a = c.args in
-    board_set_none_holds a.net a.receivers.now a.class a.vectors.now (admitted_4 c)
-
--- row 11 does not hold
-is_state_2 : (c : goal.After-fill_response-arg-1) → let a = c.args in
-    not_a_state a.net (length a.receivers.now) a.class a.state.now ≡ false
-is_state_2 c = sym c.not_a_state.ensures ∙ c.if-not_a_state.false
+    (by_row_12 a.net a.receivers.now a.class a.vectors.now a.state.now a.out.now (sym c.in_default.ensures)
+    (sym c.not_a_state.ensures ∙ c.if-not_a_state.false) (sym c.no_room.ensures ∙ c.if-no_room.true)) in
+    record { answer = owed.0; list = owed.1 }
 
 pub fill_response-requires : goal.fill_response-requires
 fill_response-requires c =
-    let d = c in
     let a = c.args in
-    let receivers = receivers_of_board_set a.net a.receivers.now a.class a.vectors.now
-    (none_holds_2 c) in
-    let state = test→state a.net (length a.receivers.now) a.class a.state.now (is_state_2 c) in
+    let none = board_set_none_holds a.net a.receivers.now a.class a.vectors.now (sym c.in_default.ensures) in
+    let receivers = receivers_of_board_set a.net a.receivers.now a.class a.vectors.now none in
+    let state = test→state a.net (length a.receivers.now) a.class a.state.now
+    (sym c.not_a_state.ensures ∙ c.if-not_a_state.false) in
     let size = state.size in (
       omega (arith, receivers.most, size),
       λ i l. (state.reach i l).inside,
-      ltb-false _ _
-          (sym c.no_room.ensures ∙ c.if-no_room.false),
+      ltb-false _ _ (sym c.no_room.ensures ∙ c.if-no_room.false),
     )
-
--- the rows have admitted_5 the board and the test set
-admitted_5 : (c : goal.After-slice_known-2-1) → let a = c.args in
-    board_admission a.net a.receivers.now a.class a.vectors.now ≡ full tt
-admitted_5 c = sym c.admit_board-admission.ensures ∙ ap admission c.in_default.is
-
--- row 11 does not hold
-is_state_3 : (c : goal.After-slice_known-2-1) → let a = c.args in
-    not_a_state a.net (length a.receivers.now) a.class a.state.now ≡ false
-is_state_3 c = sym c.not_a_state.ensures ∙ c.if-not_a_state.false
 
 pub returns : goal.returns
 returns c =
-    let d = c in
     let a = c.args in
     let owed = owed_full _ (length a.vectors.now) (response a.net a.state.now a.vectors.now) a.out.now _
-    (by_none a.net a.receivers.now a.class a.vectors.now a.state.now a.out.now
-    (admitted_5 c) (is_state_3 c)
-    (sym c.no_room.ensures ∙ c.if-no_room.false))
-    (sym (response_size a.net a.state.now a.vectors.now)) c.fill_response.ensures in record { answer = owed.0; list = owed.1 }
+    (by_none a.net a.receivers.now a.class a.vectors.now a.state.now a.out.now (sym c.in_default.ensures)
+    (sym c.not_a_state.ensures ∙ c.if-not_a_state.false) (sym c.no_room.ensures ∙ c.if-no_room.false))
+    (sym (response_size a.net a.state.now a.vectors.now)) c.fill_response.ensures in
+    record { answer = owed.0; list = owed.1 }

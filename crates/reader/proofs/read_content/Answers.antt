@@ -1,13 +1,13 @@
 use borrow.Author.Tests.{ltb-false}
 use Prim.Native.Nat.{ℕ, ◌≤◌}
-use mathlib.Core.Path.{◌≡◌, sym, ap, ap₂, ◌∙◌}
+use mathlib.Core.Path.{◌≡◌, sym, ap₂, ◌∙◌}
 use mathlib.Core.Bool.{Bool, false, ◌||◌}
 use mathlib.Core.List.{List}
 use lib.ListN.{length}
 use Rattle.words.specs.Answers.{full}
 use Rattle.words.proofs.Tests.{neither}
 use Rattle.network.specs.declared.Network.{Network}
-use Rattle.network.specs.Rows.{admission, no_room}
+use Rattle.network.specs.Rows.{no_room}
 use Rattle.jobfile.specs.Layout.{file_network, file_class, body_words, file_kind, file_count, file_responses}
 use Rattle.jobfile.proofs.StoredVectors.{body_limits}
 use Rattle.reader.specs.declared.Job.{Job}
@@ -46,27 +46,26 @@ returns-in-Refused c =
     let owed =
     owed_refused_both _ number a.vectors.now a.responses.now
     (by_content_row a.file.now (length a.vectors.now) (length a.responses.now) p.0 p.1 p.2 number
-    (sym c.admit_job-admission.ensures ∙ ap admission c.in-Refused.is)) in
+    (sym c.in-Refused.ensures)) in
     record { answer = owed.0; vectors = owed.1.0; responses = owed.1.1 }
 
 pub returns-then-no_room : goal.returns-then-no_room
 returns-then-no_room c =
     let a = c.args in
     let p = c.requires in
-    let admitted = sym c.admit_job-admission.ensures ∙ ap admission c.in_default.is in
     let twelve =
     no_room_said a.file.now _ _ (length a.vectors.now) (length a.responses.now) _ c.no_room.ensures
     c.file_count-sent.ensures.0 c.response_count-came.ensures.0 in
     let owed =
     owed_refused_both _ 12 a.vectors.now a.responses.now
-    (by_row_12 a.file.now (length a.vectors.now) (length a.responses.now) p.0 p.1 p.2 admitted (twelve ∙ c.if-no_room.true)) in
+    (by_row_12 a.file.now (length a.vectors.now) (length a.responses.now) p.0 p.1 p.2 (sym c.in_default.ensures) (twelve ∙ c.if-no_room.true)) in
     record { answer = owed.0; vectors = owed.1.0; responses = owed.1.1 }
 
 pub put_vectors-requires : goal.put_vectors-requires
 put_vectors-requires c =
     let a = c.args in
     let p = c.requires in
-    let few = limits a.file.now (sym c.admit_job-admission.ensures ∙ ap admission c.in_default.is) in
+    let few = limits a.file.now (sym c.in_default.ensures) in
     let twelve =
     no_room_said a.file.now _ _ (length a.vectors.now) (length a.responses.now) _ c.no_room.ensures
     c.file_count-sent.ensures.0 c.response_count-came.ensures.0 in
@@ -87,7 +86,6 @@ pub returns : goal.returns
 returns c =
     let a = c.args in
     let p = c.requires in
-    let admitted = sym c.admit_job-admission.ensures ∙ ap admission c.in_default.is in
     let twelve =
     no_room_said a.file.now _ _ (length a.vectors.now) (length a.responses.now) _ c.no_room.ensures
     c.file_count-sent.ensures.0 c.response_count-came.ensures.0 in
@@ -101,7 +99,7 @@ returns c =
     } in
     let owed =
     owed_content a.file.now _ job a.vectors.now a.responses.now _ _
-    (by_none a.file.now (length a.vectors.now) (length a.responses.now) p.0 p.1 p.2 admitted (twelve ∙ c.if-no_room.false))
+    (by_none a.file.now (length a.vectors.now) (length a.responses.now) p.0 p.1 p.2 (sym c.in_default.ensures) (twelve ∙ c.if-no_room.false))
     (job_same _ _ _ _ _ _ _ _ _ _ c.file_network.ensures c.file_class.ensures c.file_kind.ensures
     (c.file_count-sent.ensures.0 ∙ sym (vectors_said a.file.now)) c.response_count-came.ensures.0)
     c.put_vectors.ensures c.put_responses.ensures in

@@ -1,7 +1,5 @@
-use mathlib.Core.Path.{◌≡◌, sym, ◌∙◌}
-use mathlib.Core.Bool.{false}
+use mathlib.Core.Path.{sym, ◌∙◌}
 use lib.ListN.{length}
-use Rattle.jobfile.specs.Layout.{bad_mark, bad_layout}
 use Rattle.reader.proofs.ReaderAnswers.{by_row_1, by_row_2, by_row_3, owed_refused_both}
 use Rattle.reader.proofs.read_job.Goals as goal
 
@@ -9,32 +7,22 @@ pub returns-then-bad_mark : goal.returns-then-bad_mark
 returns-then-bad_mark c =
     let a = c.args in
     let owed = owed_refused_both _ 1 a.vectors.now a.responses.now
-    (by_row_1 a.file.now (length a.vectors.now) (length a.responses.now) (sym c.bad_mark.ensures ∙ c.if-bad_mark.true)) in record { answer = owed.0; vectors = owed.1.0; responses = owed.1.1 }
+    (by_row_1 a.file.now (length a.vectors.now) (length a.responses.now)
+    (sym c.bad_mark.ensures ∙ c.if-bad_mark.true)) in
+    record { answer = owed.0; vectors = owed.1.0; responses = owed.1.1 }
 
 pub returns-then-bad_layout : goal.returns-then-bad_layout
 returns-then-bad_layout c =
-    let mark : bad_mark c.args.file.now ≡ false = sym c.bad_mark.ensures ∙ c.if-bad_mark.false in
     let a = c.args in
     let owed = owed_refused_both _ 2 a.vectors.now a.responses.now
-    (by_row_2 a.file.now (length a.vectors.now) (length a.responses.now) mark
-    (sym c.bad_layout.ensures ∙ c.if-bad_layout.true)) in record { answer = owed.0; vectors = owed.1.0; responses = owed.1.1 }
-
-pub bad_bodies-requires : goal.bad_bodies-requires
-bad_bodies-requires c =
-    let layout : bad_layout c.args.file.now ≡ false = sym c.bad_layout.ensures ∙ c.if-bad_layout.false in
-    layout
+    (by_row_2 a.file.now (length a.vectors.now) (length a.responses.now) (sym c.bad_mark.ensures ∙ c.if-bad_mark.false)
+    (sym c.bad_layout.ensures ∙ c.if-bad_layout.true)) in
+    record { answer = owed.0; vectors = owed.1.0; responses = owed.1.1 }
 
 pub returns-then-bad_bodies : goal.returns-then-bad_bodies
 returns-then-bad_bodies c =
-    let mark : bad_mark c.args.file.now ≡ false = sym c.bad_mark.ensures ∙ c.if-bad_mark.false in
-    let layout : bad_layout c.args.file.now ≡ false = sym c.bad_layout.ensures ∙ c.if-bad_layout.false in
     let a = c.args in
     let owed = owed_refused_both _ 3 a.vectors.now a.responses.now
-    (by_row_3 a.file.now (length a.vectors.now) (length a.responses.now) mark layout
-    (sym c.bad_bodies.ensures ∙ c.if-bad_bodies.true)) in record { answer = owed.0; vectors = owed.1.0; responses = owed.1.1 }
-
-pub read_content-requires : goal.read_content-requires
-read_content-requires c =
-    let mark : bad_mark c.args.file.now ≡ false = sym c.bad_mark.ensures ∙ c.if-bad_mark.false in
-    let layout : bad_layout c.args.file.now ≡ false = sym c.bad_layout.ensures ∙ c.if-bad_layout.false in
-    (mark, layout, sym c.bad_bodies.ensures ∙ c.if-bad_bodies.false)
+    (by_row_3 a.file.now (length a.vectors.now) (length a.responses.now) (sym c.bad_mark.ensures ∙ c.if-bad_mark.false)
+    (sym c.bad_layout.ensures ∙ c.if-bad_layout.false) (sym c.bad_bodies.ensures ∙ c.if-bad_bodies.true)) in
+    record { answer = owed.0; vectors = owed.1.0; responses = owed.1.1 }

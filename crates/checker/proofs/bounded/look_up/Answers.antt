@@ -26,7 +26,6 @@ bounds-reaches-i c = omega (
 pub loop-i-preserved : goal.loop-i-preserved
 loop-i-preserved c =
     let l = c.loop-i in
-    let s = c in
     let a = c.args in
     let room : l.i < length l.reaches = omega (arith, c.loop-i-test.true, l.invariant.0, c.requires.2) in (
       length-set l.reaches l.i c.set_of.result ∙ l.invariant.0,

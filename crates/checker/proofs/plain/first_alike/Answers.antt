@@ -20,13 +20,10 @@ loop-set-init c = (search rules, λ z l. absurd (not-suc-le-zero l))
 
 pub few_drivers-requires : goal.few_drivers-requires
 few_drivers-requires c =
-    let g = c in
     omega (arith, c.loop-set-test.true, c.requires)
 
 pub returns-then-few_drivers : goal.returns-then-few_drivers
 returns-then-few_drivers c =
-    let d = c in
-    let g = c in
     let l = c.loop-set in
     let a = c.args in
     sym (least_found (alike a.net a.class a.words.now a.word) (length a.words.now) l.set
@@ -49,7 +46,6 @@ loop-set-preserved c =
 
 pub returns : goal.returns
 returns c =
-    let g = c in
     let a = c.args in
     sym (least_missing (alike a.net a.class a.words.now a.word) (length a.words.now)
     (λ z l. c.loop-set.invariant.1 z (omega (arith, c.loop-set-test.false))))

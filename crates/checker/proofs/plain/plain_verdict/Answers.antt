@@ -20,7 +20,7 @@ all_sets n few = pow_mono {i = n} {j = 10} few
 
 pub fill_readings-requires : goal.fill_readings-requires
 fill_readings-requires c =
-    let s = c in (c.requires.0, c.requires.1, all_sets c.args.net.nets c.requires.1)
+    (c.requires.0, c.requires.1, all_sets c.args.net.nets c.requires.1)
 
 pub loop-b-init : goal.loop-b-init
 loop-b-init c z l = absurd (not-suc-le-zero l)

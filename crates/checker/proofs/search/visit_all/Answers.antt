@@ -12,7 +12,7 @@ use Rattle.checker.proofs.Branches.{all_branches}
 use Rattle.checker.proofs.search.visit_all.Goals as goal
 
 pub sequential_response-floating-requires : goal.sequential_response-floating-requires
-sequential_response-floating-requires c = let s = c in (
+sequential_response-floating-requires c = (
   c.requires.vectors_most,
   pow_pos c.args.net.nets,
 )
@@ -24,17 +24,13 @@ some_set class nets = omega (arith, sets_fewer class 0 (2 ^ nets) (pow_pos nets)
 
 pub add-requires : goal.add-requires
 add-requires c =
-    let s = c in
     let h = some_set c.args.class c.args.net.nets in
     (c.requires.chained, omega (arith, h, c.requires.words_room), omega (arith, h, c.requires.links_room), omega arith)
 
 pub visit_below-requires : goal.visit_below-requires
 visit_below-requires c =
-    let d = c in
-    let s = c in
-    let a = s.args in
-    let p = s.requires in
-    let u = c in
+    let a = c.args in
+    let p = c.requires in
     let turned = c.columns-columns in
     let all : length (sets_of_class a.class (0 + 2 ^ a.net.nets)) ≡ length (sets_of_class a.class (2 ^ a.net.nets)) =
     ap (λ (x : ℕ). length (sets_of_class a.class x)) (zero-add (2 ^ a.net.nets)) in (

@@ -15,7 +15,6 @@ loop-t-init c = let a = c.args in (search rules, shown_first a.net a.vectors.now
 
 pub loop-t-preserved : goal.loop-t-preserved
 loop-t-preserved c =
-    let g = c in
     let a = c.args in
     let l = c.loop-t in (
       search rules,
@@ -27,7 +26,6 @@ loop-t-preserved c =
 
 pub returns : goal.returns
 returns c =
-    let g = c in
     let a = c.args in
     let end : c.loop-t.t ≡ length a.vectors.now = omega arith in
     shown_all a.net a.vectors.now c.loop-t.extra c.loop-t.drivers

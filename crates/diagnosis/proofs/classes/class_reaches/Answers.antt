@@ -1,33 +1,25 @@
 use borrow.Author.Rules.{rules}
 use native.Mathlib.Omega.{arith}
 use mathlib.Core.Path.{◌∙◌}
-use Rattle.network.proofs.Rows.{AdmittedSet, admitted_set, small_board}
+use Rattle.network.proofs.Rows.{admitted_set, small_board}
 use Rattle.checker.proofs.PassedSets.{passed_search}
 use Rattle.diagnosis.proofs.classes.class_reaches.Goals as goal
 
-admitted : (c : goal.After-reaches-1) → AdmittedSet c.args.net c.args.class c.args.vectors.now
-admitted c = admitted_set c.args.net c.args.class c.args.vectors.now c.requires.2.0
-
 pub note_all-requires : goal.note_all-requires
 note_all-requires c =
-    let d = c in
-    (small_board (admitted c) c.requires.0 c.if-class-gt3.true, omega (arith, c.requires.1), c.requires.2)
+    let board = admitted_set c.args.net c.args.class c.args.vectors.now c.requires.2.0 in
+    (small_board board c.requires.0 c.if-class-gt3.true, omega (arith, c.requires.1), c.requires.2)
 
 pub returns-then-class-gt3 : goal.returns-then-class-gt3
 returns-then-class-gt3 c = (search rules, λ i l. c.note_all.ensures i l)
 
-admitted_2 : (c : goal.After-reaches-2-1) → AdmittedSet c.args.net c.args.class c.args.vectors.now
-admitted_2 c = admitted_set c.args.net c.args.class c.args.vectors.now c.requires.2.0
-
 pub sets_read-requires : goal.sets_read-requires
 sets_read-requires c =
-    let d = c in
-    let s = admitted_2 c in
+    let s = admitted_set c.args.net c.args.class c.args.vectors.now c.requires.2.0 in
     (s.vectors_most, s.most, s.class_positive, c.if-class-gt3.false, omega (arith, c.requires.1))
 
 pub returns : goal.returns
 returns c =
-    let d = c in
     let a = c.args in
     let r = c.sets_read in (
       search rules,

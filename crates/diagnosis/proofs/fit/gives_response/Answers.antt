@@ -25,11 +25,10 @@ loop-t-init c = (search rules, λ z l. absurd (not-suc-le-zero l))
 
 pub response_word-word-requires : goal.response_word-word-requires
 response_word-word-requires c =
-    let s = c in (c.requires.1, c.requires.2)
+    (c.requires.1, c.requires.2)
 
 pub returns-then-word-responses : goal.returns-then-word-responses
 returns-then-word-responses c =
-    let w = c in
     let l = c.loop-t in
     let a = c.args in (
       λ e. absurd (false≢true e),
@@ -40,7 +39,6 @@ returns-then-word-responses c =
 
 pub loop-t-preserved : goal.loop-t-preserved
 loop-t-preserved c =
-    let w = c in
     let l = c.loop-t in
     let a = c.args in (
       search rules,
@@ -51,7 +49,6 @@ loop-t-preserved c =
 pub returns : goal.returns
 returns c =
     let l = c.loop-t in
-    let s = c in
     let a = c.args in
     let size : length (response a.net a.state.now a.vectors.now) ≡ length a.vectors.now =
     (response_is a.net a.state.now a.vectors.now).one_a_vector in (

@@ -1,10 +1,11 @@
 use borrow.Author.Tests.{eqb-true, eq-eqb}
-use Prim.Native.Nat.{ℕ, ◌-◌}
+use Prim.Native.Nat.{ℕ, ◌-◌, ◌<◌, ◌≤◌}
 use native.Mathlib.Omega.{arith}
 use mathlib.Core.Path.{◌≡◌, refl, sym, ap, ◌∙◌, subst}
 use mathlib.Core.Bool.{true}
 use mathlib.Core.Logic.{inl, inr}
 use lib.Bits.{bit_or}
+use lib.Count.{count_trailing_zeros}
 use lib.Pow.{pow_pos}
 use Rattle.words.specs.Bits.{has}
 use Rattle.words.proofs.Tests.{contrary, and_left, and_right, and_both, or_right}
@@ -20,75 +21,55 @@ loop-t-init c =
     (c.lowest_net-t.ensures, gathering_first a.net a.vectors.now c.active_bits-rest.result)
 
 -- in the loop, the answer to vector t is active
-on : (c : goal.Then-is_extra) → has c.loop-t.rest c.loop-t.t ≡ true
-on c =
-    let l = c.loop-t in
-    ap (has l.rest) l.invariant.0 ∙ has_where_zeros_end 64 l.rest (omega (arith, l.invariant.0))
+is_active : (t rest count : ℕ) → t ≡ count_trailing_zeros 64 rest → t < count → count ≤ 64 → has rest t ≡ true
+is_active t rest count first below most = ap (has rest) first ∙ has_where_zeros_end 64 rest (omega arith)
 
 pub returns-then-is_extra : goal.returns-then-is_extra
 returns-then-is_extra c =
-    let i = c in
-    let g = c in
     let l = c.loop-t in
     let a = c.args in
     let needed = needs_extra a.net in
     let x = sym c.is_extra.ensures ∙ c.if-is_extra.true in
+    let active = is_active l.t l.rest _ l.invariant.0 c.loop-t-test.true c.requires.1 in
     inl (
       l.t,
       c.loop-t-test.true,
       and_left needed _ x,
       eqb-true _ _ (and_right needed _ x),
       sym (c.active_bits-rest.ensures.0 l.t c.loop-t-test.true) ∙ l.invariant.1.parts l.t
-          ∙ or_right (has l.invariant.1.seen l.t) _ (on c),
+          ∙ or_right (has l.invariant.1.seen l.t) _ active,
       refl,
     )
 
-pub bit_word-rest-requires : goal.bit_word-rest-requires
-bit_word-rest-requires c = omega arith
-
--- in the loop, the answer to vector t is active
-on_2 : (c : goal.After-bit_word-rest) → has c.loop-t.rest c.loop-t.t ≡ true
-on_2 c =
-    let l = c.loop-t in
-    ap (has l.rest) l.invariant.0 ∙ has_where_zeros_end 64 l.rest (omega (arith, l.invariant.0))
-
 pub overflow_sub-rest : goal.overflow_sub-rest
 overflow_sub-rest c =
-    let i = c in
-    rw c.bit_word-rest.ensures (has_at_least c.loop-t.t c.loop-t.rest (on_2 c))
-
--- in the loop, the answer to vector t is active
-on_3 : (c : goal.After-lowest_net-t-in-loop-t) → has c.loop-t.rest c.loop-t.t ≡ true
-on_3 c =
     let l = c.loop-t in
-    ap (has l.rest) l.invariant.0 ∙ has_where_zeros_end 64 l.rest (omega (arith, l.invariant.0))
+    let active = is_active l.t l.rest _ l.invariant.0 c.loop-t-test.true c.requires.1 in
+    rw c.bit_word-rest.ensures (has_at_least l.t l.rest active)
 
 pub loop-t-smaller : goal.loop-t-smaller
 loop-t-smaller c =
-    let i = c in
     let l = c.loop-t in
-    omega (arith, c.bit_word-rest.ensures, pow_pos l.t, has_at_least l.t l.rest (on_3 c))
+    let active = is_active l.t l.rest _ l.invariant.0 c.loop-t-test.true c.requires.1 in
+    omega (arith, c.bit_word-rest.ensures, pow_pos l.t, has_at_least l.t l.rest active)
 
 pub loop-t-preserved : goal.loop-t-preserved
 loop-t-preserved c =
-    let i = c in
-    let g = c in
     let a = c.args in
     let l = c.loop-t in
     let bits = c.active_bits-rest.result in
-    let w = c in (
+    let active = is_active l.t l.rest _ l.invariant.0 c.loop-t-test.true c.requires.1 in (
       c.lowest_net-t-in-loop-t.ensures,
       subst (λ (x : ℕ). Gathering a.net a.vectors.now bits (l.rest - x) (bit_or l.reach c.walked_driver-reach.result))
           (sym c.bit_word-rest.ensures)
           (gathering_next a.net a.vectors.now bits l.t l.rest l.reach c.walked_driver-reach.result l.invariant.1
-          c.loop-t-test.true (on_3 c)
+          c.loop-t-test.true active
           (λ s q. contrary (and_both s (eq-eqb _ _ q)) (sym c.is_extra.ensures ∙ c.if-is_extra.false))
           c.walked_driver-reach.ensures),
     )
 
 pub returns : goal.returns
 returns c =
-    let g = c in
     let a = c.args in
     let l = c.loop-t in
     let b = c.active_bits-rest in

@@ -43,7 +43,6 @@ loop-i-smaller c = omega arith
 
 pub loop-i-preserved : goal.loop-i-preserved
 loop-i-preserved c =
-    let g = c in
     let a = c.args in
     let l = c.loop-i in
     let room : l.i < length l.reaches = omega (arith, l.invariant.1) in (

@@ -5,7 +5,7 @@ use lib.ListN.{length}
 use Rattle.words.specs.Writing.{written}
 use Rattle.network.specs.OwnReceivers.{own_receivers}
 use Rattle.findings.specs.declared.Finding.{Finding}
-use Rattle.findings.proofs.FindingsLaws.{Accepted, none_holds_accepted}
+use Rattle.findings.proofs.FindingsLaws.{none_holds_accepted}
 use Rattle.listing.specs.Report.{net_line}
 use Rattle.listing.proofs.NetsPut.{record_at, nets_none, nets_one, nets_all}
 use Rattle.listing.proofs.lines.put_nets.Goals as goal
@@ -14,24 +14,16 @@ pub loop-i-init : goal.loop-i-init
 loop-i-init c = let a = c.args in
     nets_none a.text.now a.at a.net a.state.now
 
-accepted : (s : goal.In-loop-i)
-    → Accepted s.args.net (own_receivers s.args.net.nets) s.args.state.now 64
-accepted s = none_holds_accepted s.args.net (own_receivers s.args.net.nets)
-    s.args.state.now 64 s.requires.1
-
 pub bounds-table-i : goal.bounds-table-i
 bounds-table-i c =
-    omega (arith, c.loop-i-test.true, (accepted c).few)
+    let a = c.args in
+    let accepted = none_holds_accepted a.net (own_receivers a.net.nets) a.state.now 64 c.requires.1 in
+    omega (arith, c.loop-i-test.true, accepted.few)
 
 pub put_net-end-requires : goal.put_net-end-requires
 put_net-end-requires c =
     let p = c.loop-i.invariant in
     omega (arith, p.size, p.bound, c.requires.2, c.loop-i-test.true)
-
-accepted_2 : (s : goal.After-slice_known-in-loop-i-1)
-    → Accepted s.args.net (own_receivers s.args.net.nets) s.args.state.now 64
-accepted_2 s = none_holds_accepted s.args.net (own_receivers s.args.net.nets)
-    s.args.state.now 64 s.requires.1
 
 pub loop-i-preserved : goal.loop-i-preserved
 loop-i-preserved c =
@@ -39,7 +31,7 @@ loop-i-preserved c =
     let a = c.args in
     let l = c.loop-i in
     let found = record_at a.net a.receivers.now a.state.now c.by_value-tabled.result.table
-    c.requires.0 (accepted_2 c)
+    c.requires.0 (none_holds_accepted a.net (own_receivers a.net.nets) a.state.now 64 c.requires.1)
     c.by_value-tabled.ensures.table l.i c.loop-i-test.true in
     nets_one a.text.now a.at a.net a.state.now l.text l.end l.i l.invariant c.requires.2 n.new.text
     n.result c.loop-i-test.true

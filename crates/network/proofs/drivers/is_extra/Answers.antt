@@ -6,6 +6,5 @@ use Rattle.network.proofs.drivers.is_extra.Goals as goal
 
 pub returns : goal.returns
 returns c =
-    let n = c in
     ap₂ (λ (needed : Bool) (extra : ℕ). needed && eqb c.args.vector extra) c.needs_extra-needed.ensures
     c.extra_vector-extra.ensures

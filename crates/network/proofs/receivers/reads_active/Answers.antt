@@ -8,7 +8,6 @@ use Rattle.network.proofs.receivers.reads_active.Goals as goal
 
 pub returns : goal.returns
 returns c vector shown =
-    let s = c in
     let a = c.args in
     let inside : a.reach < 2 ^ 64 = search rules in
     ap₂ (λ (extra some : Bool). (eqb a.reach 0 && extra) || some) c.requires.1 c.meets-some.ensures

@@ -1,5 +1,4 @@
 use borrow.Author.Rules.{rules}
-use Prim.Native.Nat.{◌-◌}
 use native.Mathlib.Omega.{arith}
 use mathlib.Core.Path.{refl, sym, ◌∙◌}
 use Rattle.words.specs.Bits.{word}
@@ -15,7 +14,6 @@ loop-i-init c = (search rules, λ vector shown. refl)
 
 pub reads_active-requires : goal.reads_active-requires
 reads_active-requires c =
-    let x = c in
     (c.requires.1 c.loop-i.i (omega arith), c.needs_extra-extra.ensures)
 
 pub loop-i-preserved : goal.loop-i-preserved
@@ -35,9 +33,7 @@ loop-i-preserved c =
 pub returns : goal.returns
 unfolding response_word
 returns c =
-    let e = c in
     let l = c.loop-i in
-    let b = c in
     let a = c.args in
     let vector = a.vector.0 in
     readings_turned a.net (λ reach. reads a.net reach vector) a.state.now l.w c.active_bits.result

@@ -1,5 +1,4 @@
 use borrow.Author.Rules.{rules}
-use Prim.Native.Nat.{◌-◌}
 use native.Mathlib.Omega.{arith}
 use mathlib.Core.Path.{sym, ◌∙◌}
 use Rattle.words.specs.Bits.{word}
@@ -15,7 +14,6 @@ loop-t-init c = search rules
 
 pub reads_active-requires : goal.reads_active-requires
 reads_active-requires c =
-    let x = c in
     (c.requires.1, c.needs_extra-extra.ensures)
 
 pub loop-t-preserved : goal.loop-t-preserved
@@ -35,7 +33,6 @@ loop-t-preserved c =
 pub returns : goal.returns
 unfolding sequential_response
 returns c =
-    let e = c in
     let l = c.loop-t in
     let a = c.args in
     readings_turned a.net (reads a.net a.reach) a.vectors.now l.w c.active_bits.result

@@ -1,6 +1,5 @@
 use borrow.Author.Rules.{rules}
 use borrow.Author.Tests.{le-leb, lt-leb}
-use Prim.Native.Nat.{◌-◌}
 use native.Mathlib.Omega.{arith}
 use mathlib.Core.Path.{◌≡◌, subst}
 use mathlib.Core.Bool.{true, false}
@@ -29,7 +28,6 @@ loop-r-init c =
 pub returns-then-net-owner : goal.returns-then-net-owner
 unfolding bad_receivers
 returns-then-net-owner c =
-    let g = c in
     let a = c.args in
     let no_net : any (length a.receivers.now) (λ r. leb a.net.nets (at a.receivers.now r)) ≡ true =
     any_at (λ r. leb a.net.nets (at a.receivers.now r)) (length a.receivers.now) c.loop-r.r
@@ -38,12 +36,10 @@ returns-then-net-owner c =
 
 pub bit_word-named-requires : goal.bit_word-named-requires
 bit_word-named-requires c =
-    let g = c in
     omega (arith, c.if-net-owner.false, c.requires)
 
 pub loop-r-preserved : goal.loop-r-preserved
 loop-r-preserved c =
-    let g = c in
     let a = c.args in (
       omega arith,
       c.loop-r.invariant.1,
@@ -55,7 +51,6 @@ loop-r-preserved c =
 pub returns : goal.returns
 unfolding bad_receivers
 returns c =
-    let g = c in
     let a = c.args in
     let whole : c.loop-r.r ≡ length a.receivers.now = omega (arith, c.loop-r.invariant.0, c.loop-r-test.false) in
     let all = subst (Named a.net a.receivers.now c.loop-r.named) whole c.loop-r.invariant.2 in

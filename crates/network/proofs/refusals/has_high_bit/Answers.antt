@@ -27,14 +27,12 @@ loop-t-init c = (search rules, λ z l. absurd (not-suc-le-zero l))
 pub returns-then-last-words : goal.returns-then-last-words
 unfolding has_high_bit
 returns-then-last-words c =
-    let g = c in
     let a = c.args in
     sym (any_at (λ t. leb (2 ^ a.width) (at a.words.now t)) (length a.words.now) c.loop-t.t
     c.loop-t-test.true (over a.width _ _ c.low_ones-last.ensures c.if-last-words.true))
 
 pub loop-t-preserved : goal.loop-t-preserved
 loop-t-preserved c =
-    let g = c in
     let a = c.args in (
       search rules,
       below_more (λ z. leb (2 ^ a.width) (at a.words.now z) ≡ false) c.loop-t.t c.loop-t.invariant.1
@@ -44,7 +42,6 @@ loop-t-preserved c =
 pub returns : goal.returns
 unfolding has_high_bit
 returns c =
-    let g = c in
     let a = c.args in
     sym (any_none (λ t. leb (2 ^ a.width) (at a.words.now t)) (length a.words.now)
     (λ z l. c.loop-t.invariant.1 z (omega arith)))

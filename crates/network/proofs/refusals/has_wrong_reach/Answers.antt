@@ -1,9 +1,9 @@
 use borrow.Author.Count.{below_more}
 use borrow.Author.Rules.{rules}
-use borrow.Author.Tests.{lt-ltb, le-ltb, not-true, not-false}
+use borrow.Author.Tests.{lt-ltb, le-ltb}
 use mathlib.Core.Path.{◌≡◌, sym, ◌∙◌}
 use mathlib.Core.Bool.{true, false}
-use Prim.Native.Nat.{◌≤◌, ◌<◌, ◌-◌, ◌^◌}
+use Prim.Native.Nat.{◌≤◌, ◌<◌, ◌^◌}
 use native.Mathlib.Nat.{not-suc-le-zero}
 use native.Mathlib.Omega.{arith}
 use lib.ListN.{length}
@@ -19,7 +19,6 @@ loop-i-init c = (search rules, λ z l. absurd (not-suc-le-zero l))
 pub returns-then-end-reach : goal.returns-then-end-reach
 unfolding has_wrong_reach
 returns-then-end-reach c =
-    let g = c in
     let a = c.args in
     let reach = at a.state.now c.loop-i.i in
     let high : 2 ^ a.net.nets ≤ reach = omega (arith, c.bit_word-end.ensures, c.if-end-reach.true) in
@@ -33,7 +32,6 @@ few_drivers-requires c = omega (arith, c.bit_word-end.ensures, c.if-end-reach.fa
 pub returns-then-not-few_drivers : goal.returns-then-not-few_drivers
 unfolding has_wrong_reach
 returns-then-not-few_drivers c =
-    let g = c in
     let a = c.args in
     let reach = at a.state.now c.loop-i.i in
     let low : reach < 2 ^ a.net.nets = omega (arith, c.bit_word-end.ensures, c.if-end-reach.false) in
@@ -44,7 +42,6 @@ returns-then-not-few_drivers c =
 
 pub loop-i-preserved : goal.loop-i-preserved
 loop-i-preserved c =
-    let g = c in
     let a = c.args in
     let reach = at a.state.now c.loop-i.i in
     let low : reach < 2 ^ a.net.nets = omega (arith, c.bit_word-end.ensures, c.if-end-reach.false) in
@@ -57,6 +54,5 @@ loop-i-preserved c =
 pub returns : goal.returns
 unfolding has_wrong_reach
 returns c =
-    let g = c in
     let a = c.args in
     sym (any_none (λ z. wrong a.net a.class (at a.state.now z)) (length a.state.now) (λ z l. c.loop-i.invariant.1 z (omega arith)))

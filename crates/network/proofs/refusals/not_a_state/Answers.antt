@@ -20,7 +20,6 @@ returns-then-state-receivers c =
 pub returns-then-has_wrong_reach : goal.returns-then-has_wrong_reach
 unfolding not_a_state
 returns-then-has_wrong_reach c =
-    let s = c in
     let a = c.args in
     let wrong : has_wrong_reach a.net a.class a.state.now ≡ true = sym c.has_wrong_reach.ensures ∙ c.if-has_wrong_reach.true in
     rw (eq-eqb (length a.state.now) a.receivers c.if-state-receivers.false, wrong)
@@ -41,7 +40,6 @@ has_conflict-requires c = record {
 pub returns : goal.returns
 unfolding not_a_state
 returns c =
-    let s = c in
     let a = c.args in
     let right : has_wrong_reach a.net a.class a.state.now ≡ false =
     sym c.has_wrong_reach.ensures ∙ c.if-has_wrong_reach.false in

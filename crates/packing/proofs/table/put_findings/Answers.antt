@@ -1,7 +1,7 @@
 use borrow.Author.Rules.{rules}
 use native.Mathlib.Omega.{arith}
-use mathlib.Core.Path.{refl, sym, ◌∙◌, ◌≡◌}
-use lib.ListN.{length, take}
+use mathlib.Core.Path.{refl, sym, ◌∙◌}
+use lib.ListN.{take}
 use lib.Seq.{get_or-take, length-take-le}
 use Rattle.words.proofs.Writing.{written_front}
 use Rattle.findings.specs.FindingsTable.{blank}
@@ -12,15 +12,11 @@ use Rattle.packing.proofs.table.put_findings.Goals as goal
 pub loop-i-init : goal.loop-i-init
 loop-i-init c = (search rules, refl, refl)
 
--- how many the first records are
-first_records : (s : goal.After-slice_known-in-loop-i-1) → length (take s.args.count s.args.records) ≡ s.args.count
-first_records s = length-take-le s.args.count s.args.records (omega (arith, s.well_formed.0.1.0.1, s.requires.0))
-
 pub loop-i-preserved : goal.loop-i-preserved
 loop-i-preserved c =
     let l = c.loop-i in
     let a = c.args in
-    let size = first_records c in (
+    let size = length-take-le a.count a.records (omega (arith, c.well_formed.0.1.0.1, c.requires.0)) in (
       search rules,
       search rules,
       findings_turn (take a.count a.records) l.i l.table _ blank _
@@ -28,14 +24,10 @@ loop-i-preserved c =
           (omega arith) ∙ l.invariant.2,
     )
 
--- how many the first records are
-first_records_2 : (s : goal.After-loop-i) → length (take s.args.count s.args.records) ≡ s.args.count
-first_records_2 s = length-take-le s.args.count s.args.records (omega (arith, s.well_formed.0.1.0.1, s.requires.0))
-
 pub returns : goal.returns
 returns c =
     let l = c.loop-i in
     let a = c.args in
-    let size = first_records_2 c in
+    let size = length-take-le a.count a.records (omega (arith, c.well_formed.0.1.0.1, c.requires.0)) in
     sym (findings_end (take a.count a.records) l.i l.table (omega arith)) ∙ l.invariant.2
     ∙ written_front a.table.now (finding_words (take a.count a.records))

@@ -5,10 +5,10 @@ use mathlib.Core.Path.{◌≡◌, sym, ap, ap₂, ◌∙◌}
 use mathlib.Core.Bool.{Bool, false}
 use mathlib.Core.Logic.{inr, ⊎_elim}
 use mathlib.Core.List.{List, [], ◌∷◌}
-use Rattle.words.specs.Answers.{full}
+use Rattle.words.specs.Answers.{Answer, full}
 use Rattle.words.proofs.Tests.{cases, neither}
 use Rattle.network.specs.declared.Network.{Network}
-use Rattle.network.specs.Rows.{admission, network_admission, has_high_bit}
+use Rattle.network.specs.Rows.{network_admission, has_high_bit}
 use Rattle.network.proofs.Rows.{decides_count, network_refuses, network_admitted, then_row_7, then_row_8, then_none}
 use Rattle.jobfile.specs.VectorsBody.{net_by_net, bad_words, width}
 use Rattle.jobfile.specs.Layout.{file_network, file_class, file_kind, file_count, body_words}
@@ -33,70 +33,52 @@ module _ (file : List ℕ) where
       let most = (network_admitted (file_network file) (file_class file) admitted).1 in
       ⊎_elim (λ q. rw q (omega (arith, few))) (λ q. rw q (omega (arith, most))) (cases (net_by_net (file_kind file)))
 
+-- what the rows of the network say, by the network and the class that were read
+of_file : {net : Network} {k : ℕ} {said : Answer (Unit {0})} (file : List ℕ) → net ≡ file_network file
+    → k ≡ file_class file → said ≡ network_admission net k
+    → network_admission (file_network file) (file_class file) ≡ said
+of_file file e f told = sym (told ∙ ap₂ (λ (n : Network) (l : ℕ). network_admission n l) e f)
+
+-- row 8, by the width that was read
+of_width : {width : ℕ} {result outcome : Bool} (file : List ℕ) → width ≡ bound file
+    → result ≡ has_high_bit width (body_words file 1) → result ≡ outcome → eight file ≡ outcome
+of_width file w e f = ap (λ (n : ℕ). has_high_bit n (body_words file 1)) (sym w) ∙ sym e ∙ f
+
 pub returns-in-Refused : goal.returns-in-Refused
 returns-in-Refused c =
-    let whole : List ℕ = c.args.file.now in
-    let told : network_admission (file_network whole) (file_class whole) ≡ admission c.admit_network-admission.result =
-    sym (c.admit_network-admission.ensures
-    ∙ ap₂ (λ (net : Network) (k : ℕ). network_admission net k) c.file_network.ensures c.file_class.ensures) in
-    let file = whole in
+    let file : List ℕ = c.args.file.now in
     sym (network_refuses (file_network file) (file_class file) ((7, seven file) ∷ (8, eight file) ∷ []) tt
-    c.in-Refused.number (told ∙ ap admission c.in-Refused.is))
+    c.in-Refused.number (of_file file c.file_network.ensures c.file_class.ensures c.in-Refused.ensures))
 
 pub returns-then-bad_words : goal.returns-then-bad_words
 returns-then-bad_words c =
-    let whole : List ℕ = c.args.file.now in
-    let told : network_admission (file_network whole) (file_class whole) ≡ admission c.admit_network-admission.result =
-    sym (c.admit_network-admission.ensures
-    ∙ ap₂ (λ (net : Network) (k : ℕ). network_admission net k) c.file_network.ensures c.file_class.ensures) in
-    let read : List ℕ = whole in
-    let admitted : network_admission (file_network read) (file_class read) ≡ full tt = told ∙ ap admission c.in_default.is in
-    let file = read in
+    let file : List ℕ = c.args.file.now in
+    let admitted = of_file file c.file_network.ensures c.file_class.ensures c.in_default.ensures in
     sym (then_row_7 (file_network file) (file_class file) (seven file) (eight file) admitted
     (sym c.bad_words.ensures ∙ c.if-bad_words.true))
 
 pub has_high_bit-requires : goal.has_high_bit-requires
 has_high_bit-requires c =
-    let whole : List ℕ = c.args.file.now in
-    let told : network_admission (file_network whole) (file_class whole) ≡ admission c.admit_network-admission.result =
-    sym (c.admit_network-admission.ensures
-    ∙ ap₂ (λ (net : Network) (k : ℕ). network_admission net k) c.file_network.ensures c.file_class.ensures) in
-    let read : List ℕ = whole in
-    let admitted : network_admission (file_network read) (file_class read) ≡ full tt = told ∙ ap admission c.in_default.is in
-    let seven_fails : seven read ≡ false = sym c.bad_words.ensures ∙ c.if-bad_words.false in
+    let file : List ℕ = c.args.file.now in
+    let admitted = of_file file c.file_network.ensures c.file_class.ensures c.in_default.ensures in
+    let most = bound_most file admitted (sym c.bad_words.ensures ∙ c.if-bad_words.false) in
     record {
-      file_value = (c.requires.0, c.requires.1, search rules, two_entries read c.requires.0);
-      width_bound = omega (arith, c.width.ensures, bound_most read admitted seven_fails);
+      file_value = (c.requires.0, c.requires.1, search rules, two_entries file c.requires.0);
+      width_bound = omega (arith, c.width.ensures, most);
     }
 
 pub returns-then-has_high_bit : goal.returns-then-has_high_bit
 returns-then-has_high_bit c =
-    let whole : List ℕ = c.args.file.now in
-    let told : network_admission (file_network whole) (file_class whole) ≡ admission c.admit_network-admission.result =
-    sym (c.admit_network-admission.ensures
-    ∙ ap₂ (λ (net : Network) (k : ℕ). network_admission net k) c.file_network.ensures c.file_class.ensures) in
-    let read : List ℕ = whole in
-    let admitted : network_admission (file_network read) (file_class read) ≡ full tt = told ∙ ap admission c.in_default.is in
-    let seven_fails : seven read ≡ false = sym c.bad_words.ensures ∙ c.if-bad_words.false in
-    let eight_is : eight read ≡ c.has_high_bit.result =
-    ap (λ (w : ℕ). has_high_bit w (body_words read 1)) (sym c.width.ensures)
-    ∙ sym c.has_high_bit.ensures in
-    let file = read in
-    sym (then_row_8 (file_network file) (file_class file) (seven file) (eight file) admitted seven_fails
-    (eight_is ∙ c.if-has_high_bit.true))
+    let file : List ℕ = c.args.file.now in
+    let admitted = of_file file c.file_network.ensures c.file_class.ensures c.in_default.ensures in
+    sym (then_row_8 (file_network file) (file_class file) (seven file) (eight file) admitted
+    (sym c.bad_words.ensures ∙ c.if-bad_words.false)
+    (of_width file c.width.ensures c.has_high_bit.ensures c.if-has_high_bit.true))
 
 pub returns : goal.returns
 returns c =
-    let whole : List ℕ = c.args.file.now in
-    let told : network_admission (file_network whole) (file_class whole) ≡ admission c.admit_network-admission.result =
-    sym (c.admit_network-admission.ensures
-    ∙ ap₂ (λ (net : Network) (k : ℕ). network_admission net k) c.file_network.ensures c.file_class.ensures) in
-    let read : List ℕ = whole in
-    let admitted : network_admission (file_network read) (file_class read) ≡ full tt = told ∙ ap admission c.in_default.is in
-    let seven_fails : seven read ≡ false = sym c.bad_words.ensures ∙ c.if-bad_words.false in
-    let eight_is : eight read ≡ c.has_high_bit.result =
-    ap (λ (w : ℕ). has_high_bit w (body_words read 1)) (sym c.width.ensures)
-    ∙ sym c.has_high_bit.ensures in
-    let file = read in
-    sym (then_none (file_network file) (file_class file) (seven file) (eight file) admitted seven_fails
-    (eight_is ∙ c.if-has_high_bit.false))
+    let file : List ℕ = c.args.file.now in
+    let admitted = of_file file c.file_network.ensures c.file_class.ensures c.in_default.ensures in
+    sym (then_none (file_network file) (file_class file) (seven file) (eight file) admitted
+    (sym c.bad_words.ensures ∙ c.if-bad_words.false)
+    (of_width file c.width.ensures c.has_high_bit.ensures c.if-has_high_bit.false))

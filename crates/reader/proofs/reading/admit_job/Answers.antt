@@ -1,11 +1,10 @@
 use Prim.Native.Nat.{ℕ}
 use native.Mathlib.Omega.{arith}
-use mathlib.Core.Path.{◌≡◌, sym, ap, ◌∙◌}
+use mathlib.Core.Path.{◌≡◌, sym, ◌∙◌}
 use mathlib.Core.Bool.{true, false}
 use mathlib.Core.List.{List, [], ◌∷◌}
 use Rattle.words.specs.Answers.{Answer, refused, full, by_tests}
 use Rattle.words.proofs.Answers.{shared_refuse, shared_pass, none_passed}
-use Rattle.network.specs.Rows.{admission}
 use Rattle.network.proofs.Rows.{nets_admitted, decides_row_5}
 use Rattle.jobfile.specs.Layout.{file_network}
 use Rattle.reader.specs.Reader.{file_body_tests}
@@ -36,34 +35,25 @@ module _ (file : List ℕ) where
     by_none e f = sym (by_own ∙ rw (e, f))
 
 pub returns-in-Refused : goal.returns-in-Refused
-returns-in-Refused c =
-    by_body c.args.file.now c.in-Refused.number
-    (sym c.admit_body-admission.ensures ∙ ap admission c.in-Refused.is)
+returns-in-Refused c = by_body c.args.file.now c.in-Refused.number (sym c.in-Refused.ensures)
 
 pub returns-then-bad_responses : goal.returns-then-bad_responses
 returns-then-bad_responses c =
-    let read : List ℕ = c.args.file.now in
-    let admitted : body_answer read ≡ full tt = sym c.admit_body-admission.ensures ∙ ap admission c.in_default.is in
-    by_row_9 read admitted (sym c.bad_responses.ensures ∙ c.if-bad_responses.true)
+    by_row_9 c.args.file.now (sym c.in_default.ensures) (sym c.bad_responses.ensures ∙ c.if-bad_responses.true)
 
 pub wide_response-requires : goal.wide_response-requires
 wide_response-requires c =
-    let read : List ℕ = c.args.file.now in
-    let admitted : body_answer read ≡ full tt = sym c.admit_body-admission.ensures ∙ ap admission c.in_default.is in
-    let net = file_network read in
-    let five = (none_passed (file_body_tests read) tt tt admitted).0.0 in
-    (c.requires.0, c.requires.1, omega (arith, (nets_admitted net ((decides_row_5 net).1 five)).1))
+    let file : List ℕ = c.args.file.now in
+    let row_5_fails = (none_passed (file_body_tests file) tt tt (sym c.in_default.ensures)).0.0 in
+    let net = file_network file in
+    (c.requires.0, c.requires.1, omega (arith, (nets_admitted net ((decides_row_5 net).1 row_5_fails)).1))
 
 pub returns-then-wide_response : goal.returns-then-wide_response
 returns-then-wide_response c =
-    let read : List ℕ = c.args.file.now in
-    let admitted : body_answer read ≡ full tt = sym c.admit_body-admission.ensures ∙ ap admission c.in_default.is in
-    let nine_fails : nine read ≡ false = sym c.bad_responses.ensures ∙ c.if-bad_responses.false in
-    by_row_10 read admitted nine_fails (sym c.wide_response.ensures ∙ c.if-wide_response.true)
+    by_row_10 c.args.file.now (sym c.in_default.ensures) (sym c.bad_responses.ensures ∙ c.if-bad_responses.false)
+    (sym c.wide_response.ensures ∙ c.if-wide_response.true)
 
 pub returns : goal.returns
 returns c =
-    let read : List ℕ = c.args.file.now in
-    let admitted : body_answer read ≡ full tt = sym c.admit_body-admission.ensures ∙ ap admission c.in_default.is in
-    let nine_fails : nine read ≡ false = sym c.bad_responses.ensures ∙ c.if-bad_responses.false in
-    by_none read admitted nine_fails (sym c.wide_response.ensures ∙ c.if-wide_response.false)
+    by_none c.args.file.now (sym c.in_default.ensures) (sym c.bad_responses.ensures ∙ c.if-bad_responses.false)
+    (sym c.wide_response.ensures ∙ c.if-wide_response.false)

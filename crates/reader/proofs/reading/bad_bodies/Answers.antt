@@ -50,24 +50,26 @@ pub returns-then-body_length-lead : goal.returns-then-body_length-lead
 unfolding bad_bodies
 returns-then-body_length-lead c =
     let file = c.args.file.now in
-    let broken : bad_words file c.loop-i.i ≡ true =
-    and_both (lt-ltb 0 c.loop-i.i c.loop-i.invariant.1)
-    (ap not (ne_eqb (body_length file c.loop-i.i % 8) (lead (entry_kind file c.loop-i.i))
-    (λ q. c.if-body_length-lead.true (ap (λ (n : ℕ). n % 8) c.body_length-in-loop-i.ensures.0 ∙ q ∙ sym c.lead.ensures)))) in
-    rw (nets_body file _ c.body_length.ensures.0 c.if-body_length.false) (sym (any_at (bad_words file) (entry_count file) c.loop-i.i (omega (arith, c.entry_count-count.ensures.0)) broken))
+    let i = c.loop-i.i in
+    let broken = and_both (lt-ltb 0 i c.loop-i.invariant.1)
+    (ap not (ne_eqb (body_length file i % 8) (lead (entry_kind file i)) (λ q. c.if-body_length-lead.true
+    (ap (λ (n : ℕ). n % 8) c.body_length-in-loop-i.ensures.0 ∙ q ∙ sym c.lead.ensures)))) in
+    rw (nets_body file _ c.body_length.ensures.0 c.if-body_length.false)
+    (sym (any_at (bad_words file) (entry_count file) i (omega (arith, c.entry_count-count.ensures.0)) broken))
 
 pub loop-i-preserved : goal.loop-i-preserved
 loop-i-preserved c =
     let file = c.args.file.now in
-    let complete : bad_words file c.loop-i.i ≡ false =
-    rw (eq-eqb (body_length file c.loop-i.i % 8) (lead (entry_kind file c.loop-i.i))
+    let i = c.loop-i.i in
+    let complete : bad_words file i ≡ false = rw (eq-eqb (body_length file i % 8) (lead (entry_kind file i))
     (ap (λ (n : ℕ). n % 8) (sym c.body_length-in-loop-i.ensures.0) ∙ c.if-body_length-lead.false ∙ c.lead.ensures))
-    (and_false (ltb 0 c.loop-i.i)) in
-    (search rules, search rules, below_more (λ z. bad_words file z ≡ false) c.loop-i.i c.loop-i.invariant.2 complete)
+    (and_false (ltb 0 i)) in
+    (search rules, search rules, below_more (λ z. bad_words file z ≡ false) i c.loop-i.invariant.2 complete)
 
 pub returns : goal.returns
 unfolding bad_bodies
 returns c =
     let file = c.args.file.now in
-    rw (nets_body file _ c.body_length.ensures.0 c.if-body_length.false) (sym (any_none (bad_words file) (entry_count file)
+    rw (nets_body file _ c.body_length.ensures.0 c.if-body_length.false)
+    (sym (any_none (bad_words file) (entry_count file)
     (λ z m. c.loop-i.invariant.2 z (omega (arith, c.entry_count-count.ensures.0)))))

@@ -1,14 +1,11 @@
 use borrow.Author.Count.{below_more}
 use borrow.Author.Rules.{rules}
-use Prim.Native.Nat.{◌≤◌}
 use native.Mathlib.Nat.{not-suc-le-zero}
 use native.Mathlib.Omega.{arith}
 use mathlib.Core.Path.{◌≡◌, sym, ◌∙◌}
 use mathlib.Core.Bool.{false}
-use lib.ListN.{length}
-use Rattle.words.specs.Searching.{any}
 use Rattle.words.proofs.Searching.{any_at, any_none}
-use Rattle.jobfile.specs.Layout.{entry_count, bodies_at, bad_entry, bad_layout}
+use Rattle.jobfile.specs.Layout.{entry_count, bad_entry}
 use Rattle.jobfile.proofs.FileRows.{table_breaks, table_stands}
 use Rattle.reader.proofs.reading.bad_layout.Goals as goal
 
@@ -20,17 +17,15 @@ pub loop-i-init : goal.loop-i-init
 loop-i-init c = (search rules, λ z l. absurd (not-suc-le-zero l))
 
 pub bad_entry-requires : goal.bad_entry-requires
-bad_entry-requires c =
-    let stands : (bodies_at (entry_count c.args.file.now) ≤ length c.args.file.now) × (bad_layout c.args.file.now ≡ any (entry_count c.args.file.now) (bad_entry c.args.file.now)) = table_stands c.args.file.now c.entry_count-count.result
-    c.entry_count-count.ensures.0 c.if-file-counted.false in
-    (omega (arith, c.entry_count-count.ensures.0), stands.0)
+bad_entry-requires c = (
+  omega (arith, c.entry_count-count.ensures.0),
+  (table_stands c.args.file.now _ c.entry_count-count.ensures.0 c.if-file-counted.false).0,
+)
 
 pub returns-then-bad_entry : goal.returns-then-bad_entry
 returns-then-bad_entry c =
-    let stands : (bodies_at (entry_count c.args.file.now) ≤ length c.args.file.now) × (bad_layout c.args.file.now ≡ any (entry_count c.args.file.now) (bad_entry c.args.file.now)) = table_stands c.args.file.now c.entry_count-count.result
-    c.entry_count-count.ensures.0 c.if-file-counted.false in
     let file = c.args.file.now in
-    sym (stands.1
+    sym ((table_stands file _ c.entry_count-count.ensures.0 c.if-file-counted.false).1
     ∙ any_at (bad_entry file) (entry_count file) c.loop-i.i (omega (arith, c.entry_count-count.ensures.0))
     (sym c.bad_entry.ensures ∙ c.if-bad_entry.true))
 
@@ -44,8 +39,7 @@ loop-i-preserved c =
 
 pub returns : goal.returns
 returns c =
-    let stands : (bodies_at (entry_count c.args.file.now) ≤ length c.args.file.now) × (bad_layout c.args.file.now ≡ any (entry_count c.args.file.now) (bad_entry c.args.file.now)) = table_stands c.args.file.now c.entry_count-count.result
-    c.entry_count-count.ensures.0 c.if-file-counted.false in
     let file = c.args.file.now in
-    sym (stands.1 ∙ any_none (bad_entry file) (entry_count file)
+    sym ((table_stands file _ c.entry_count-count.ensures.0 c.if-file-counted.false).1
+    ∙ any_none (bad_entry file) (entry_count file)
     (λ z m. c.loop-i.invariant.1 z (omega (arith, c.entry_count-count.ensures.0))))

@@ -14,23 +14,26 @@ pub read_word-requires : goal.read_word-requires
 read_word-requires c =
     let a = c.args in
     let p = c.requires in
-    let l = c.loop-t in
-    (p.0, p.1, omega (arith, p.2, c.loop-t-test.true), scan_within (l.t + 1) a.count (a.cells + 5) (length a.tdo.now) (omega (arith, c.loop-t-test.true)) p.3, p.5)
-
-pub bounds-out-t : goal.bounds-out-t
-bounds-out-t c = let p = c.requires in omega (arith, p.4, c.loop-t-test.true, c.loop-t.invariant.1)
+    let below = c.loop-t-test.true in (
+      p.0,
+      p.1,
+      omega (arith, p.2, below),
+      scan_within _ a.count (a.cells + 5) (length a.tdo.now) (omega (arith, below)) p.3,
+      p.5,
+    )
 
 pub loop-t-preserved : goal.loop-t-preserved
 loop-t-preserved c =
     let a = c.args in
-    let l = c.loop-t in
-    let r = responses a.cells a.receivers.now a.count a.tdo.now in
-    let size = responses_size a.cells a.receivers.now a.count a.tdo.now in
-    let inside = c.loop-t-test.true in (
+    let t = c.loop-t.t in
+    let below = c.loop-t-test.true in
+    let size = responses_size a.cells a.receivers.now a.count a.tdo.now in (
       search rules,
       search rules,
-      ap₂ (λ (m : List ℕ) (x : ℕ). set m l.t x) l.invariant.2 (c.read_word.ensures ∙ responses_at a.cells a.receivers.now a.count a.tdo.now l.t inside)
-          ∙ list_fill r a.out.now l.t (omega (arith, size, inside)) (omega (arith, inside, c.requires.4)),
+      ap₂ (λ (m : List ℕ) (x : ℕ). set m t x) c.loop-t.invariant.2
+          (c.read_word.ensures ∙ responses_at a.cells a.receivers.now a.count a.tdo.now t below)
+          ∙ list_fill (responses a.cells a.receivers.now a.count a.tdo.now) a.out.now t (omega (arith, size, below))
+          (omega (arith, below, c.requires.4)),
     )
 
 pub returns : goal.returns
@@ -39,4 +42,6 @@ returns c =
     let a = c.args in
     let l = c.loop-t in
     let size = responses_size a.cells a.receivers.now a.count a.tdo.now in
-    l.invariant.2 ∙ list_filled (responses a.cells a.receivers.now a.count a.tdo.now) a.out.now l.t (omega (arith, size, l.invariant.0)) (omega (arith, size, c.loop-t-test.false))
+    l.invariant.2
+    ∙ list_filled (responses a.cells a.receivers.now a.count a.tdo.now) a.out.now l.t
+    (omega (arith, size, l.invariant.0)) (omega (arith, size, c.loop-t-test.false))

@@ -1,74 +1,55 @@
 use borrow.Author.Rules.{rules}
 use borrow.Author.Tests.{eq-eqb}
 use mathlib.Core.Path.{◌≡◌, sym, ap, ◌∙◌}
-use mathlib.Core.Bool.{Bool, true, false, not}
-use Prim.Native.Nat.{ℕ, ◌≤◌, ◌-◌}
+use mathlib.Core.Bool.{true, false, not}
+use Prim.Native.Nat.{ℕ, ◌≤◌}
 use native.Mathlib.Omega.{arith}
+use mathlib.Core.List.{List}
 use lib.Dec.{eqb}
-use lib.ListN.{length, take, drop}
+use lib.ListN.{length, take}
 use lib.Seq.{length-take-le}
+use Rattle.network.specs.declared.Network.{Network}
 use Rattle.network.specs.Rows.{has_high_bit}
 use Rattle.steps.specs.FirstStep.{word_length}
 use Rattle.steps.specs.SecondStep.{unclear}
 use Rattle.steps.proofs.StepOneWords.{length_bounds}
 use Rattle.steps.proofs.StepTwoVectors.{second_empty}
-use Rattle.session.specs.Record.{is_zeros, all_hold}
+use Rattle.session.specs.Record.{all_hold}
 use Rattle.session.proofs.Records.{zeros_after, and_true}
 use Rattle.session.proofs.record.holds_first_answers.Goals as goal
 
-short : (c : goal.After-word_length-p) → c.word_length-p.result ≤ 8
-short c =
-    let p = c.requires in
-    rw c.word_length-p.ensures (length_bounds c.args.net p.0 p.1).1
+-- the number p of the first answers, which an array of eight words holds
+module _ (net : Network) (bounds : (2 ≤ net.nets) × (net.nets ≤ 48)) (p : ℕ) (is : p ≡ word_length net) where
+  short : p ≤ 8
+  short = rw is (length_bounds net bounds.0 bounds.1).1
+
+  room : (first : List ℕ) → length first ≡ 8 → p ≤ length first
+  room first size = omega (arith, short, size)
 
 pub offset_bounds-first-p : goal.offset_bounds-first-p
-offset_bounds-first-p c = let l = short c in search rules
-
-room : (c : goal.After-word_length-p) → c.word_length-p.result ≤ length c.args.first.now
-room c = omega (arith, short c, c.requires.3)
+offset_bounds-first-p c =
+    let l = short c.args.net (c.requires.0, c.requires.1) _ c.word_length-p.ensures in search rules
 
 pub slice_bounds-is_zeros-count : goal.slice_bounds-is_zeros-count
-slice_bounds-is_zeros-count c = room c
+slice_bounds-is_zeros-count c =
+    room c.args.net (c.requires.0, c.requires.1) _ c.word_length-p.ensures c.args.first.now c.requires.3
 
 pub slice_bounds-is_zeros-start : goal.slice_bounds-is_zeros-start
-slice_bounds-is_zeros-start c = room c
-
--- what the test of the words after the first answers tells
-zeros_told : (c : goal.Then-not-is_zeros) {d : Bool} → c.is_zeros.result ≡ d
-    → let a = c.args in
-    is_zeros (8 - word_length a.net) (drop (word_length a.net) a.first.now) ≡ d
-zeros_told c e =
-    let a = c.args in
-    zeros_after 8 a.first.now c.word_length-p.result (word_length a.net) c.requires.3
-    c.word_length-p.ensures c.is_zeros.ensures e
+slice_bounds-is_zeros-start c =
+    room c.args.net (c.requires.0, c.requires.1) _ c.word_length-p.ensures c.args.first.now c.requires.3
 
 pub returns-then-not-is_zeros : goal.returns-then-not-is_zeros
 unfolding all_hold
 returns-then-not-is_zeros c =
     rw (
       eq-eqb _ 8 c.requires.3,
-      zeros_told c c.if-not-is_zeros.true,
+      zeros_after 8 c.args.first.now _ _ c.requires.3 c.word_length-p.ensures c.is_zeros.ensures c.if-not-is_zeros.true,
     )
 
-short_2 : (c : goal.Else-not-is_zeros) → c.word_length-p.result ≤ 8
-short_2 c =
-    let p = c.requires in
-    rw c.word_length-p.ensures (length_bounds c.args.net p.0 p.1).1
-
-room_2 : (c : goal.Else-not-is_zeros) → c.word_length-p.result ≤ length c.args.first.now
-room_2 c = omega (arith, short_2 c, c.requires.3)
-
 pub slice_bounds-has_high_bit-end : goal.slice_bounds-has_high_bit-end
-slice_bounds-has_high_bit-end c = sym (length-take-le _ _ (room_2 c))
-
--- what the test of the words after the first answers tells
-zeros_told_2 : (c : goal.Then-has_high_bit) {d : Bool} → c.is_zeros.result ≡ d
-    → let a = c.args in
-    is_zeros (8 - word_length a.net) (drop (word_length a.net) a.first.now) ≡ d
-zeros_told_2 c e =
-    let a = c.args in
-    zeros_after 8 a.first.now c.word_length-p.result (word_length a.net) c.requires.3
-    c.word_length-p.ensures c.is_zeros.ensures e
+slice_bounds-has_high_bit-end c =
+    let fits = room c.args.net (c.requires.0, c.requires.1) _ c.word_length-p.ensures c.args.first.now c.requires.3 in
+    sym (length-take-le _ _ fits)
 
 pub returns-then-has_high_bit : goal.returns-then-has_high_bit
 unfolding all_hold
@@ -76,16 +57,11 @@ returns-then-has_high_bit c =
     let a = c.args in
     let high : has_high_bit (length a.receivers.now) (take (word_length a.net) a.first.now) ≡ true =
     rw (← c.word_length-p.ensures) (sym c.has_high_bit.ensures ∙ c.if-has_high_bit.true) in
-    rw (eq-eqb _ 8 c.requires.3, zeros_told_2 c c.if-not-is_zeros.false, high)
-
--- what the test of the words after the first answers tells
-zeros_told_3 : (c : goal.After-second_count) {d : Bool} → c.is_zeros.result ≡ d
-    → let a = c.args in
-    is_zeros (8 - word_length a.net) (drop (word_length a.net) a.first.now) ≡ d
-zeros_told_3 c e =
-    let a = c.args in
-    zeros_after 8 a.first.now c.word_length-p.result (word_length a.net) c.requires.3
-    c.word_length-p.ensures c.is_zeros.ensures e
+    rw (
+      eq-eqb _ 8 c.requires.3,
+      zeros_after 8 a.first.now _ _ c.requires.3 c.word_length-p.ensures c.is_zeros.ensures c.if-not-is_zeros.false,
+      high,
+    )
 
 pub returns : goal.returns
 unfolding all_hold
@@ -98,7 +74,7 @@ returns c =
     ap (λ (n : ℕ). eqb n 0) c.second_count.ensures ∙ second_empty a.net a.receivers.now held in
     rw (
       eq-eqb _ 8 c.requires.3,
-      zeros_told_3 c c.if-not-is_zeros.false,
+      zeros_after 8 a.first.now _ _ c.requires.3 c.word_length-p.ensures c.is_zeros.ensures c.if-not-is_zeros.false,
       narrow,
       number,
     )

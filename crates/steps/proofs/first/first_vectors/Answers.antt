@@ -16,7 +16,6 @@ use Rattle.steps.proofs.first.first_vectors.Goals as goal
 
 pub loop-t-init : goal.loop-t-init
 loop-t-init c =
-    let s = c in
     let net = c.args.net in
     let p_is = c.word_length-p.ensures in (
       search rules,
@@ -34,7 +33,6 @@ slice_bounds-parallel_word-end c = sym (length-take-le _ _ c.loop-t.invariant.3)
 pub parallel_word-vector-requires : goal.parallel_word-vector-requires
 parallel_word-vector-requires c =
     let l = c.loop-t in
-    let w = c in
     let nets = c.args.net.nets in
     let words = c.sequential_words-words.result in
     let few : length (take nets words) ≤ 64 = omega (arith, length-take-le nets words l.invariant.3) in
@@ -43,8 +41,6 @@ parallel_word-vector-requires c =
 pub loop-t-preserved : goal.loop-t-preserved
 loop-t-preserved c =
     let l = c.loop-t in
-    let w = c in
-    let s = c in
     let p = c.word_length-p.result in
     let words = take c.args.net.nets c.sequential_words-words.result in
     let here : c.parallel_word-vector.result.0 ≡ at (transpose p words) l.t =
@@ -63,8 +59,6 @@ pub returns : goal.returns
 unfolding first_vectors lent_after
 returns c =
     let l = c.loop-t in
-    let w = c in
-    let s = c in
     let net = c.args.net in
     let p = c.word_length-p.result in
     let words = take net.nets c.sequential_words-words.result in

@@ -17,24 +17,18 @@ loop-count-init c =
 
 pub overflow_add-word : goal.overflow_add-word
 overflow_add-word c =
-    let b = c in
     let l = c.loop-count in
-    let s = c in
     let low = more_to_try c.args.net c.requires.0 c.requires.1 l.words l.count l.word l.invariant.4 c.loop-count-test.true in
     search rules
 
 pub loop-count-smaller : goal.loop-count-smaller
 loop-count-smaller c =
-    let b = c in
     let l = c.loop-count in
-    let s = c in
     omega (arith, more_to_try c.args.net c.requires.0 c.requires.1 l.words l.count l.word l.invariant.4 c.loop-count-test.true)
 
 pub loop-count-preserved : goal.loop-count-preserved
 loop-count-preserved c =
-    let b = c in
     let l = c.loop-count in
-    let s = c in
     let net = c.args.net in
     let tried = c.count_of_ones.ensures in
     let half = l.invariant.2 in
@@ -60,6 +54,5 @@ loop-count-preserved c =
 pub returns : goal.returns
 returns c =
     let l = c.loop-count in
-    let s = c in
     let all : l.count ≡ c.args.net.nets = omega arith in
     (l.invariant.1, all_taken c.args.net c.requires.0 c.requires.1 l.words l.count l.word l.invariant.4 all)

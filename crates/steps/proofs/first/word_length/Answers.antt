@@ -8,18 +8,15 @@ loop-p-init c = (search rules, (length_bounds c.args.net c.requires.0 c.requires
 
 pub loop-p-smaller : goal.loop-p-smaller
 loop-p-smaller c =
-    let s = c in
     let l = c.loop-p in
     omega (arith, length_further c.args.net c.requires.0 c.requires.1 l.p l.invariant.0 c.loop-p-test.true)
 
 pub loop-p-preserved : goal.loop-p-preserved
 loop-p-preserved c =
-    let s = c in
     let l = c.loop-p in
     (omega (arith, length_further c.args.net c.requires.0 c.requires.1 l.p l.invariant.0 c.loop-p-test.true), l.invariant.1)
 
 pub returns : goal.returns
 returns c =
-    let s = c in
     let l = c.loop-p in
     length_reached c.args.net c.requires.0 c.requires.1 l.p l.invariant.0 c.loop-p-test.false

@@ -38,7 +38,6 @@ loop-r-init c = (search rules, λ z l. absurd (not-suc-le-zero l))
 pub returns-then-own-returned : goal.returns-then-own-returned
 unfolding only_from
 returns-then-own-returned c =
-    let g = c in
     let a = c.args in
     sym (ap not (any_at (λ z. against (eqb (at a.receivers.now z) a.i) (eqb (at a.words.now z) a.word))
     (length a.receivers.now) c.loop-r.r
@@ -48,7 +47,6 @@ returns-then-own-returned c =
 
 pub loop-r-preserved : goal.loop-r-preserved
 loop-r-preserved c =
-    let g = c in
     let a = c.args in (
       search rules,
       below_more (λ z. against (eqb (at a.receivers.now z) a.i) (eqb (at a.words.now z) a.word) ≡ false)
@@ -60,7 +58,6 @@ loop-r-preserved c =
 pub returns : goal.returns
 unfolding only_from
 returns c =
-    let g = c in
     let a = c.args in
     sym (ap not (any_none (λ z. against (eqb (at a.receivers.now z) a.i) (eqb (at a.words.now z) a.word))
     (length a.receivers.now) (λ z l. c.loop-r.invariant.1 z (omega arith))))

@@ -16,7 +16,6 @@ loop-i-init c =
 
 count_below : (c : goal.After-walking_vector) → c.loop-i.count < 49
 count_below c =
-    let g = c in
     let p = c.requires in
     omega (arith, c.loop-i.invariant.1.few, p.0, p.2, c.loop-i-test.true)
 
@@ -32,7 +31,6 @@ overflow_add-count c = let l = count_below c in search rules
 pub loop-i-preserved : goal.loop-i-preserved
 loop-i-preserved c =
     let q = c.only_from in
-    let g = c in
     let p = c.requires in
     let a = c.args in
     let l = c.loop-i in
@@ -51,7 +49,6 @@ loop-i-preserved c =
 
 pub returns-then-count-start : goal.returns-then-count-start
 returns-then-count-start c =
-    let g = c in
     let p = c.requires in
     let a = c.args in
     λ answers e. (
@@ -64,7 +61,6 @@ returns-then-count-start c =
 
 pub returns-else-count-start : goal.returns-else-count-start
 returns-else-count-start c =
-    let g = c in
     let p = c.requires in
     let a = c.args in
     λ answers e. (

@@ -15,12 +15,10 @@ pub loop-r-init : goal.loop-r-init
 loop-r-init c = (search rules, search rules, λ z l. absurd (not-suc-le-zero l))
 
 pub bit_word-requires : goal.bit_word-requires
-bit_word-requires c = let g = c in
-    c.requires.1 c.loop-r.r c.loop-r-test.true
+bit_word-requires c = c.requires.1 c.loop-r.r c.loop-r-test.true
 
 pub loop-r-preserved : goal.loop-r-preserved
 loop-r-preserved c =
-    let g = c in
     let l = c.loop-r in
     let owners = c.args.receivers.now in
     let w = c.bit_word.result in
@@ -36,7 +34,6 @@ loop-r-preserved c =
 pub returns : goal.returns
 returns c =
     let l = c.loop-r in
-    let s = c in
     let owners = c.args.receivers.now in
     let size : length (take (length owners) l.reaches) ≡ length owners =
     length-take-le (length owners) l.reaches (omega (arith, l.invariant.1, c.requires.0)) in (

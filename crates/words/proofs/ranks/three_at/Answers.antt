@@ -61,5 +61,4 @@ returns c =
 
 pub overflow_add-result : goal.overflow_add-result
 overflow_add-result c =
-    let a = c in
     omega (arith, returns c, sets_below 3 (2 ^ 48) c.args.index c.requires)

@@ -39,39 +39,24 @@ loop-two-preserved c = (top_less 1 _ _ _ c.loop-two.invariant.0 _ (here c) (omeg
 pub bit_word-requires : goal.bit_word-requires
 bit_word-requires c = omega (arith, c.loop-two.invariant.0.low)
 
-module _ (c : goal.After-bit_word) where
-  rest : c.args.index - c.loop-two.two ≤ c.loop-two.driver
-  rest =
-      omega (
-        arith,
-        top_rest 1 _ _ _ c.loop-two.invariant.0 _ c.loop-two.invariant.1 (omega arith),
-        sets_of_one c.loop-two.driver,
-      )
-
 pub one_at-requires : goal.one_at-requires
-one_at-requires c = omega (arith, rest c, c.loop-two.invariant.0.low)
-
-module _ (c : goal.After-one_at) where
-  rest_2 : c.args.index - c.loop-two.two ≤ c.loop-two.driver
-  rest_2 =
-      omega (
-        arith,
-        top_rest 1 _ _ _ c.loop-two.invariant.0 _ c.loop-two.invariant.1 (omega arith),
-        sets_of_one c.loop-two.driver,
-      )
+one_at-requires c =
+    let rest = top_rest 1 _ _ _ c.loop-two.invariant.0 _ c.loop-two.invariant.1 (omega arith) in
+    omega (arith, rest, sets_of_one c.loop-two.driver, c.loop-two.invariant.0.low)
 
 pub returns : goal.returns
 returns c =
     let l = c.loop-two in
+    let sets = top_rest 1 _ _ _ l.invariant.0 _ l.invariant.1 (omega arith) in
+    let rest : c.args.index - l.two ≤ l.driver = omega (arith, sets, sets_of_one l.driver) in
     omega (
       arith,
       c.bit_word.ensures,
-      c.one_at.ensures l.driver (rest_2 c),
+      c.one_at.ensures l.driver rest,
       top_is 1 _ _ _ l.invariant.0 _ l.invariant.1 (omega arith),
     )
 
 pub overflow_add-result : goal.overflow_add-result
 overflow_add-result c =
-    let a = c in
     let below = sets_below 2 (2 ^ c.args.drivers) c.args.index (omega arith) in
     omega (arith, returns c, below, pow_mono {i = c.args.drivers} {j = 48} c.requires.0)

@@ -8,6 +8,7 @@ use mathlib.Core.Bool.{Bool, true, false, not, ◌&&◌, false≢true}
 use mathlib.Core.List.{List}
 use mathlib.Core.Logic.{⊎_elim}
 use lib.Bits.{bit_and}
+use Rattle.std.specs.Int.Count.{count_trailing_zeros}
 use lib.Dec.{eqb}
 use lib.ListN.{length, set}
 use lib.Pow.{pow_pos, pow_mono}
@@ -58,85 +59,55 @@ pub loop-rest-init : goal.loop-rest-init
 loop-rest-init c = (search rules, search rules, λ i l. refl)
 
 -- the lowest net of the rest
-module _ (c : goal.After-lowest_net-i) where
-  positive : 0 < c.loop-rest.rest
-  positive = omega arith
+module _ (rest i : ℕ) (some : 0 < rest) (fits : rest < 2 ^ 64) (lowest : i ≡ count_trailing_zeros 64 rest) where
+  net_in : has rest i ≡ true
+  net_in = ap (has rest) lowest ∙ has_lowest_one 64 rest some fits
 
-  net_in : has c.loop-rest.rest c.lowest_net-i.result ≡ true
-  net_in = ap (has c.loop-rest.rest) c.lowest_net-i.ensures ∙ has_lowest_one 64 _ positive (omega arith)
+  net_inside : i < 64
+  net_inside = has_inside 64 _ _ fits net_in
 
-  net_inside : c.lowest_net-i.result < 64
-  net_inside = has_inside 64 _ _ c.loop-rest.invariant.0 net_in
-
-  rest_next : bit_and c.loop-rest.rest (c.loop-rest.rest - 1)
-      ≡ c.loop-rest.rest - 2 ^ c.lowest_net-i.result
-  rest_next =
-      lowest_one_out 64 _ positive (omega arith)
-      ∙ ap (λ (i : ℕ). c.loop-rest.rest - 2 ^ i) (sym c.lowest_net-i.ensures)
+  rest_next : bit_and rest (rest - 1) ≡ rest - 2 ^ i
+  rest_next = lowest_one_out 64 rest some fits ∙ ap (λ (z : ℕ). rest - 2 ^ z) (sym lowest)
 
 pub offset_bounds-columns-i : goal.offset_bounds-columns-i
-offset_bounds-columns-i c = omega (arith, net_inside c)
-
--- the lowest net of the rest
-module _ (c : goal.After-way_told-1) where
-  positive_2 : 0 < c.loop-rest.rest
-  positive_2 = omega arith
-
-  net_in_2 : has c.loop-rest.rest c.lowest_net-i.result ≡ true
-  net_in_2 = ap (has c.loop-rest.rest) c.lowest_net-i.ensures ∙ has_lowest_one 64 _ positive_2 (omega arith)
-
-  net_inside_2 : c.lowest_net-i.result < 64
-  net_inside_2 = has_inside 64 _ _ c.loop-rest.invariant.0 net_in_2
-
-  rest_next_2 : bit_and c.loop-rest.rest (c.loop-rest.rest - 1)
-      ≡ c.loop-rest.rest - 2 ^ c.lowest_net-i.result
-  rest_next_2 =
-      lowest_one_out 64 _ positive_2 (omega arith)
-      ∙ ap (λ (i : ℕ). c.loop-rest.rest - 2 ^ i) (sym c.lowest_net-i.ensures)
+offset_bounds-columns-i c =
+    omega (arith, net_inside c.loop-rest.rest _ (omega arith) c.loop-rest.invariant.0 c.lowest_net-i.ensures)
 
 pub bounds-columns-i : goal.bounds-columns-i
-bounds-columns-i c = net_inside_2 c
-
--- the lowest net of the rest
-module _ (c : goal.After-columns-1) where
-  positive_3 : 0 < c.loop-rest.rest
-  positive_3 = omega arith
-
-  net_in_3 : has c.loop-rest.rest c.lowest_net-i.result ≡ true
-  net_in_3 = ap (has c.loop-rest.rest) c.lowest_net-i.ensures ∙ has_lowest_one 64 _ positive_3 (omega arith)
-
-  net_inside_3 : c.lowest_net-i.result < 64
-  net_inside_3 = has_inside 64 _ _ c.loop-rest.invariant.0 net_in_3
-
-  rest_next_3 : bit_and c.loop-rest.rest (c.loop-rest.rest - 1)
-      ≡ c.loop-rest.rest - 2 ^ c.lowest_net-i.result
-  rest_next_3 =
-      lowest_one_out 64 _ positive_3 (omega arith)
-      ∙ ap (λ (i : ℕ). c.loop-rest.rest - 2 ^ i) (sym c.lowest_net-i.ensures)
+bounds-columns-i c = net_inside c.loop-rest.rest _ (omega arith) c.loop-rest.invariant.0 c.lowest_net-i.ensures
 
 pub overflow_add-columns : goal.overflow_add-columns
 overflow_add-columns c =
     let l = c.loop-rest in
-    let i = c.lowest_net-i.result in record {
-      fits = entry_fits _ _ _ _ _ _ (l.invariant.2 i (net_inside_3 c)) (net_in_3 c)
-          c.bit_word-row.ensures (omega arith)
-          (c.requires.2 i (net_inside_3 c));
+    let i = c.lowest_net-i.result in
+    let some : 0 < l.rest = omega arith in
+    let inside = net_inside l.rest i some l.invariant.0 c.lowest_net-i.ensures in record {
+      fits = entry_fits _ _ _ _ _ _ (l.invariant.2 i inside) (net_in l.rest i some l.invariant.0 c.lowest_net-i.ensures)
+          c.bit_word-row.ensures (omega arith) (c.requires.2 i inside);
     }
 
 pub bounds-columns-i-in-loop-rest : goal.bounds-columns-i-in-loop-rest
-bounds-columns-i-in-loop-rest c = net_inside_3 c
+bounds-columns-i-in-loop-rest c =
+    net_inside c.loop-rest.rest _ (omega arith) c.loop-rest.invariant.0 c.lowest_net-i.ensures
 
 pub loop-rest-smaller : goal.loop-rest-smaller
-loop-rest-smaller c = rw (rest_next_3 c) (omega (arith, pow_pos c.lowest_net-i.result, positive_3 c))
+loop-rest-smaller c =
+    let some : 0 < c.loop-rest.rest = omega arith in
+    rw (rest_next c.loop-rest.rest _ some c.loop-rest.invariant.0 c.lowest_net-i.ensures)
+    (omega (arith, pow_pos c.lowest_net-i.result, some))
 
 pub loop-rest-preserved : goal.loop-rest-preserved
 loop-rest-preserved c =
-    let l = c.loop-rest in (
-      rw (rest_next_3 c) (omega arith),
+    let l = c.loop-rest in
+    let i = c.lowest_net-i.result in
+    let some : 0 < l.rest = omega arith in
+    let next = rest_next l.rest i some l.invariant.0 c.lowest_net-i.ensures in
+    let inside = net_inside l.rest i some l.invariant.0 c.lowest_net-i.ensures in (
+      rw next (omega arith),
       search rules,
-      λ z m. rw (rest_next_3 c, c.bit_word-row.ensures)
-          (moved l.rest (2 ^ c.args.t) c.lowest_net-i.result l.columns
-          (net_in_3 c) (omega (arith, net_inside_3 c)) z ∙ l.invariant.2 z m),
+      λ z m. rw (next, c.bit_word-row.ensures)
+          (moved l.rest (2 ^ c.args.t) i l.columns (net_in l.rest i some l.invariant.0 c.lowest_net-i.ensures)
+          (omega (arith, inside)) z ∙ l.invariant.2 z m),
     )
 
 pub returns : goal.returns
