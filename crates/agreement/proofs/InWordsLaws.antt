@@ -1,22 +1,15 @@
 -- What a call writes as words is the words of what the program writes.
-use native.Mathlib.Omega.{arith}
-use Prim.Native.Nat.{ℕ, ◌/◌, ◌≤◌}
-use mathlib.Core.Path.{◌≡◌, refl, sym, ap, ◌∙◌}
-use mathlib.Core.List.{List, [], ◌∷◌, ◌++◌}
-use lib.ListN.{length}
+use Rattle.std.proofs.Common.{arith, ℕ, ◌/◌, ◌≤◌, ◌≡◌, refl, sym, ap, ◌∙◌, List, [], ◌∷◌, ◌++◌, length}
 use Rattle.words.specs.Answers.{Answer, refused, full, lent_after, count_of}
 use Rattle.network.specs.declared.Network.{Network}
-use Rattle.shorter.specs.Shorten.{Shorter, counted as shorter_counted}
 use Rattle.findings.specs.declared.Finding.{Finding}
 use Rattle.findings.specs.FindingsTable.{findings_answer}
 use Rattle.findings.proofs.FindingsLaws.{records_fit}
-use Rattle.reader.specs.Reader.{JobContent, counted}
-use Rattle.packing.specs.Packed.{shorter_words, finding_words, job_words, size_words}
+use Rattle.packing.specs.Packed.{finding_words}
 use Rattle.exports.specs.Exported.{code, in_words}
 use Rattle.exports.proofs.CallLaws.{code_counted}
 use Rattle.demands.specs.Programs.{our_findings}
 use Rattle.agreement.specs.InWords.{records_of, rest_of}
-use Rattle.agreement.specs.InWords.{returned_shorter_words, returned_job_words, returned_size_words}
 
 -- ---- tables
 
@@ -65,21 +58,3 @@ found_in_words net owners state words table number e f =
       f ∙ ap (λ (b : Answer (List Finding)). lent_after (in_words finding_words b) words) same
           ∙ table_words a words (records_fit net owners state (length (records_of words))),
     )
-
--- ---- what is returned
-
-pub shortened_in_words : (a : Answer Shorter)
-    → in_words shorter_words a ≡ in_words returned_shorter_words (shorter_counted a)
-unfolding in_words shorter_words
-shortened_in_words (refused number) = refl
-shortened_in_words (full result) = refl
-
-pub read_in_words : (a : Answer JobContent) → in_words job_words a ≡ in_words returned_job_words (counted a)
-unfolding in_words job_words
-read_in_words (refused number) = refl
-read_in_words (full job) = refl
-
-pub wrote_in_words : (a : Answer (List ℕ)) → in_words size_words a ≡ in_words returned_size_words (count_of a)
-unfolding in_words count_of
-wrote_in_words (refused number) = refl
-wrote_in_words (full bytes) = refl

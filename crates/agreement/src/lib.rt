@@ -6,15 +6,8 @@
 
 ghost use Rattle.std.specs.Prelude.{◌≡◌, ◌≤◌, length, replicate};
 ghost use Rattle.words.specs.Answers.{full, lent_after};
-ghost use Rattle.network.specs.Respond as Respond;
-ghost use Rattle.turning.specs.Turn as Turn;
-ghost use Rattle.scan_chain.specs.Calls as ChainCalls;
-ghost use Rattle.checker.specs.Check as Check;
-ghost use Rattle.diagnosis.specs.Diagnosis as Diagnosis;
-ghost use Rattle.shorter.specs.Shorten as Shorten;
+ghost use Rattle.network.specs.Refusing.{answer_of};
 ghost use Rattle.findings.specs.FindingsTable.{table_meaning};
-ghost use Rattle.reader.specs.Reader as Reader;
-ghost use Rattle.writer.specs.Writer as Writer;
 ghost use Rattle.exports.specs.Exported.{code};
 ghost use Rattle.demands.specs.SessionCalls.{begin, first, second};
 ghost use Rattle.demands.specs.Programs.{our_check, our_plain_search, our_shorten, our_own_receivers};
@@ -24,21 +17,18 @@ ghost use Rattle.demands.specs.Programs.{our_reader, our_writer, our_sessions, o
 
 pub mod through_c;
 
-use checker::{Checked, Verdict};
-use diagnosis::Diagnosed;
+use checker::Verdict;
 use findings::Finding;
 use listing::Text;
-use network::{Network, Responded};
-use reader::ReadJob;
-use scan_chain::Clocked;
-use session::{Session, Stepped};
-use shorter::Shortening;
-use turning::Turned;
-use writer::Wrote;
+use network::Network;
+use network::refusal::Refusal;
+use reader::Job;
+use session::Session;
+use shorter::Shortened;
 
 // *check*
-pub fn check(net: Network, class: u64, vectors: &[u64]) -> Checked
-    ensures { Check.meaning result ≡ our_check net class vectors.now }
+pub fn check(net: Network, class: u64, vectors: &[u64]) -> Result<Verdict, Refusal>
+    ensures { answer_of result ≡ our_check net class vectors.now }
 {
     checker::check(net, class, vectors)
 }
@@ -58,8 +48,8 @@ pub fn shorten(
     vectors: &[u64],
     allowed: u64,
     out: &mut [u64],
-) -> Shortening
-    ensures returned { Shorten.meaning result
+) -> Result<Shortened, Refusal>
+    ensures returned { answer_of result
         ≡ (our_shorten net class vectors.now allowed out.old).returned }
     ensures list { out.new
         ≡ (our_shorten net class vectors.now allowed out.old).list }
@@ -68,24 +58,24 @@ pub fn shorten(
 }
 
 // *own receivers*
-pub fn own_receivers(nets: u64, out: &mut [u64]) -> Responded
-    ensures returned { Respond.meaning result ≡ (our_own_receivers nets out.old).returned }
+pub fn own_receivers(nets: u64, out: &mut [u64]) -> Result<u64, Refusal>
+    ensures returned { answer_of result ≡ (our_own_receivers nets out.old).returned }
     ensures list { out.new ≡ (our_own_receivers nets out.old).list }
 {
     network::own_receivers(nets, out)
 }
 
 // *turn*
-pub fn turn(nets: u64, vectors: &[u64], out: &mut [u64]) -> Turned
-    ensures returned { Turn.meaning result ≡ (our_turn nets vectors.now out.old).returned }
+pub fn turn(nets: u64, vectors: &[u64], out: &mut [u64]) -> Result<u64, Refusal>
+    ensures returned { answer_of result ≡ (our_turn nets vectors.now out.old).returned }
     ensures list { out.new ≡ (our_turn nets vectors.now out.old).list }
 {
     turning::turn(nets, vectors, out)
 }
 
 // *turn back*
-pub fn turn_back(nets: u64, count: u64, words: &[u64], out: &mut [u64]) -> Turned
-    ensures returned { Turn.meaning result
+pub fn turn_back(nets: u64, count: u64, words: &[u64], out: &mut [u64]) -> Result<u64, Refusal>
+    ensures returned { answer_of result
         ≡ (our_turn_back nets count words.now out.old).returned }
     ensures list { out.new ≡ (our_turn_back nets count words.now out.old).list }
 {
@@ -101,8 +91,8 @@ pub fn write_clocks(
     driver_cells: &[u64],
     receiver_cells: &[u64],
     out: &mut [u8],
-) -> Clocked
-    ensures returned { ChainCalls.meaning result
+) -> Result<u64, Refusal>
+    ensures returned { answer_of result
         ≡ (our_write_clocks nets receivers.now vectors.now cells driver_cells.now
         receiver_cells.now out.old).returned }
     ensures list { out.new
@@ -130,8 +120,8 @@ pub fn read_clocks(
     receiver_cells: &[u64],
     tdo: &[u8],
     out: &mut [u64],
-) -> Clocked
-    ensures returned { ChainCalls.meaning result
+) -> Result<u64, Refusal>
+    ensures returned { answer_of result
         ≡ (our_read_clocks nets receivers.now count cells driver_cells.now
         receiver_cells.now tdo.now out.old).returned }
     ensures list { out.new
@@ -158,8 +148,8 @@ pub fn respond(
     vectors: &[u64],
     state: &[u64],
     out: &mut [u64],
-) -> Responded
-    ensures returned { Respond.meaning result
+) -> Result<u64, Refusal>
+    ensures returned { answer_of result
         ≡ (our_response net receivers.now class vectors.now state.now
         out.old).returned }
     ensures list { out.new
@@ -177,8 +167,8 @@ pub fn diagnose(
     vectors: &[u64],
     responses: &[u64],
     out: &mut [u64],
-) -> Diagnosed
-    ensures returned { Diagnosis.meaning result
+) -> Result<u64, Refusal>
+    ensures returned { answer_of result
         ≡ (our_diagnosis net receivers.now class vectors.now responses.now
         out.old).returned }
     ensures list { out.new
@@ -189,7 +179,12 @@ pub fn diagnose(
 }
 
 // *findings*
-pub fn find(net: Network, receivers: &[u64], state: &[u64], table: &mut [Finding]) -> u64
+pub fn find(
+    net: Network,
+    receivers: &[u64],
+    state: &[u64],
+    table: &mut [Finding],
+) -> Result<(), Refusal>
     ensures returned { table_meaning (length receivers.now) result
         ≡ (our_findings net receivers.now state.now table.old).returned }
     ensures table { table.new
@@ -199,32 +194,37 @@ pub fn find(net: Network, receivers: &[u64], state: &[u64], table: &mut [Finding
 }
 
 // *begin*
-pub fn begin(held: Session, net: Network, receivers: &[u64], list: &mut [u64]) -> Stepped
-    ensures returned { result.code
-        ≡ code (our_sessions held (begin net receivers.now list.old)).answer }
-    ensures session { result.session
-        ≡ (our_sessions held (begin net receivers.now list.old)).session }
+pub fn begin(
+    held: &mut Session,
+    net: Network,
+    receivers: &[u64],
+    list: &mut [u64],
+) -> Result<(), Refusal>
+    ensures returned { code (answer_of result)
+        ≡ code (our_sessions held.old (begin net receivers.now list.old)).answer }
+    ensures session { held.new
+        ≡ (our_sessions held.old (begin net receivers.now list.old)).session }
     ensures list { list.new
-        ≡ (our_sessions held (begin net receivers.now list.old)).list }
+        ≡ (our_sessions held.old (begin net receivers.now list.old)).list }
 {
-    session::by_value::begin(held, net, receivers, list)
+    session::begin(held, net, receivers, list)
 }
 
 // *first answers*
-pub fn first_answers(held: Session, answers: &[u64], list: &mut [u64]) -> Stepped
-    ensures returned { result.code ≡ code (our_sessions held (first answers.now list.old)).answer }
-    ensures session { result.session ≡ (our_sessions held (first answers.now list.old)).session }
-    ensures list { list.new ≡ (our_sessions held (first answers.now list.old)).list }
+pub fn first_answers(held: &mut Session, answers: &[u64], list: &mut [u64]) -> Result<(), Refusal>
+    ensures returned { code (answer_of result) ≡ code (our_sessions held.old (first answers.now list.old)).answer }
+    ensures session { held.new ≡ (our_sessions held.old (first answers.now list.old)).session }
+    ensures list { list.new ≡ (our_sessions held.old (first answers.now list.old)).list }
 {
-    session::by_value::first_answers(held, answers, list)
+    session::first_answers(held, answers, list)
 }
 
 // *second answers*
-pub fn second_answers(held: Session, answers: &[u64]) -> Stepped
-    ensures returned { result.code ≡ code (our_sessions held (second answers.now)).answer }
-    ensures session { result.session ≡ (our_sessions held (second answers.now)).session }
+pub fn second_answers(held: &mut Session, answers: &[u64]) -> Result<(), Refusal>
+    ensures returned { code (answer_of result) ≡ code (our_sessions held.old (second answers.now)).answer }
+    ensures session { held.new ≡ (our_sessions held.old (second answers.now)).session }
 {
-    session::by_value::second_answers(held, answers)
+    session::second_answers(held, answers)
 }
 
 // the vectors to drive next
@@ -235,8 +235,8 @@ pub fn to_drive<'a>(held: Session, one: &'a [u64], two: &'a [u64]) -> &'a [u64]
 }
 
 // *read a job file*
-pub fn read_job(file: &[u8], vectors: &mut [u64], responses: &mut [u64]) -> ReadJob
-    ensures returned { Reader.meaning result
+pub fn read_job(file: &[u8], vectors: &mut [u64], responses: &mut [u64]) -> Result<Job, Refusal>
+    ensures returned { answer_of result
         ≡ (our_reader file.now vectors.old responses.old).returned }
     ensures vectors { vectors.new
         ≡ (our_reader file.now vectors.old responses.old).vectors }
@@ -254,8 +254,8 @@ pub fn write_job(
     vectors: &[u64],
     responses: &[u64],
     file: &mut [u8],
-) -> Wrote
-    ensures returned { Writer.meaning result
+) -> Result<u64, Refusal>
+    ensures returned { answer_of result
         ≡ (our_writer kind net class vectors.now responses.now file.old).returned }
     ensures list { file.new
         ≡ (our_writer kind net class vectors.now responses.now file.old).list }

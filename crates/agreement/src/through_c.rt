@@ -9,8 +9,8 @@ ghost use Rattle.demands.specs.Programs.{our_check, our_shorten, our_own_receive
 ghost use Rattle.demands.specs.Programs.{our_diagnosis, our_findings, our_reader, our_writer};
 ghost use Rattle.demands.specs.Programs.{our_turn, our_turn_back, our_write_clocks, our_read_clocks};
 ghost use Rattle.demands.specs.ThroughC.{exported};
-ghost use Rattle.agreement.specs.InWords.{records_of, rest_of, returned_shorter_words};
-ghost use Rattle.agreement.specs.InWords.{returned_job_words, returned_size_words};
+ghost use Rattle.exports.specs.Exported.{returned_shorter_words, returned_job_words, returned_size_words};
+ghost use Rattle.agreement.specs.InWords.{records_of, rest_of};
 
 // *check*
 pub fn check(

@@ -1,4 +1,4 @@
-// Trying the lines of a text. A line names the call that the lines after it make: `check`, `own receivers`, `respond`,
+// Trying the lines of a table. A line names the call that the lines after it make: `check`, `own receivers`, `respond`,
 // `diagnose`, `findings`, `shorten`, `turn` or `turn back`. A line `level L` gives the soft level of the calls on the
 // lines after it, a line `gate G` their gate, and a line `receivers` with the net of each receiver their receivers,
 // each up to the next line of its name; `receivers own` is one receiver a net. At the start, and after a line that
@@ -8,11 +8,10 @@
 use crate::{checking, finding, own, responding, shortening, turned};
 use std::io;
 use trials::setting::Setting;
-use trials::{Line, setting, show};
+use trials::{Trial, show};
 
-#[derive(Clone, Copy)]
+#[derive(Clone, Copy, Debug, PartialEq, Eq)]
 enum Call {
-    Unknown,
     Check,
     OwnReceivers,
     Response,
@@ -23,62 +22,55 @@ enum Call {
     TurningBack,
 }
 
-fn named(rt: &impl Print, line: &[u8]) -> io::Result<Call> {
-    match line {
-        b"check" => Ok(Call::Check),
-        b"own receivers" => Ok(Call::OwnReceivers),
-        b"respond" => Ok(Call::Response),
-        b"diagnose" => Ok(Call::Diagnosis),
-        b"findings" => Ok(Call::Findings),
-        b"shorten" => Ok(Call::Shortening),
-        b"turn" => Ok(Call::Turning),
-        b"turn back" => Ok(Call::TurningBack),
-        _ => {
-            show::unreadable(rt)?;
-            show::end_line(rt)?;
-            Ok(Call::Unknown)
+impl Call {
+    fn named(name: &[u8]) -> Option<Call> {
+        match name {
+            b"check" => Some(Call::Check),
+            b"own receivers" => Some(Call::OwnReceivers),
+            b"respond" => Some(Call::Response),
+            b"diagnose" => Some(Call::Diagnosis),
+            b"findings" => Some(Call::Findings),
+            b"shorten" => Some(Call::Shortening),
+            b"turn" => Some(Call::Turning),
+            b"turn back" => Some(Call::TurningBack),
+            _ => None,
+        }
+    }
+
+    // Makes the call that a line gives.
+    fn try_line(self, rt: &impl Print, setting: &Setting, line: &[u8]) -> io::Result<()> {
+        match self {
+            Call::Check => checking::try_line(rt, setting, line),
+            Call::OwnReceivers => own::try_line(rt, line),
+            Call::Response => responding::try_response(rt, setting, line),
+            Call::Diagnosis => responding::try_diagnosis(rt, setting, line),
+            Call::Findings => finding::try_line(rt, setting, line),
+            Call::Shortening => shortening::try_line(rt, setting, line),
+            Call::Turning => turned::try_turn(rt, line),
+            Call::TurningBack => turned::try_turn_back(rt, line),
         }
     }
 }
 
-// Makes the call that a line gives.
-fn called(rt: &impl Print, call: Call, setting: Setting, line: &[u8]) -> io::Result<()> {
-    match call {
-        Call::Check => checking::try_line(rt, setting, line)?,
-        Call::OwnReceivers => own::try_line(rt, line)?,
-        Call::Response => responding::try_line(rt, false, setting, line)?,
-        Call::Diagnosis => responding::try_line(rt, true, setting, line)?,
-        Call::Findings => finding::try_line(rt, setting, line)?,
-        Call::Shortening => shortening::try_line(rt, setting, line)?,
-        Call::Turning => turned::try_line(rt, line)?,
-        Call::TurningBack => turned::try_line_back(rt, line)?,
-        Call::Unknown => show::unreadable(rt)?,
-    }
-    show::end_line(rt)
+// The call that the lines make, where one is named.
+#[derive(Clone, Copy, Debug, Default)]
+pub struct Calls {
+    call: Option<Call>,
 }
 
-// Tries a line, and returns the call that the next one makes.
-fn try_line(rt: &impl Print, call: Call, setting: Setting, line: &[u8]) -> io::Result<Call> {
-    match trials::kind_of(line) {
-        Line::Skipped => {}
-        Line::Setting => {}
-        Line::Name => return named(rt, line),
-        Line::Call => called(rt, call, setting, line)?,
+impl Trial for Calls {
+    fn name(&mut self, rt: &impl Print, line: &[u8]) -> io::Result<()> {
+        self.call = Call::named(line);
+        match self.call {
+            Some(_) => Ok(()),
+            None => show::unreadable_line(rt),
+        }
     }
-    Ok(call)
-}
 
-// Tries the lines one by one.
-pub fn try_each(rt: &impl Print, text: &[u8]) -> io::Result<()> {
-    let mut call = Call::Unknown;
-    let mut setting = setting::usual();
-    let mut at: usize = 0;
-    while at < text.len() {
-        let end = trials::line_end(text, at);
-        let line = &text[at..end];
-        setting = setting::after(rt, setting, line)?;
-        call = try_line(rt, call, setting, line)?;
-        at = end + 1;
+    fn call(&mut self, rt: &impl Print, setting: &Setting, line: &[u8]) -> io::Result<()> {
+        match self.call {
+            Some(call) => call.try_line(rt, setting, line),
+            None => show::unreadable(rt),
+        }
     }
-    Ok(())
 }

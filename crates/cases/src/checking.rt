@@ -1,45 +1,31 @@
 // The call *check*.
-use checker::Checked;
-use network::Network;
+use checker::Verdict;
+use network::refusal::Refusal;
 use std::io;
-use trials::read::{END, MOST};
+use trials::read::Words;
 use trials::setting::Setting;
-use trials::{read, setting, show};
+use trials::show::Set;
+use trials::{read, show};
 
-fn answer(rt: &impl Print, checked: Checked) -> io::Result<()> {
-    match checked {
-        Checked::Pass => show::text(rt, b" pass")?,
-        Checked::Pair(a, b) => {
-            show::entry(rt, b" pair", a)?;
-            show::number(rt, b)?;
-        }
-        Checked::Refused(number) => {
-            show::refusal(rt, number)?;
-        }
+fn answered(rt: &impl Print, answer: Result<Verdict, Refusal>) -> io::Result<()> {
+    match answer {
+        Ok(Verdict::Pass) => print!(rt; " pass"),
+        Ok(Verdict::Pair(a, b)) => print!(rt; " pair {a} {b}"),
+        Err(refusal) => show::refusal(rt, refusal.into()),
     }
-    Ok(())
 }
 
-fn try_check(rt: &impl Print, net: Network, class: u64, vectors: &[u64]) -> io::Result<()> {
-    show::set(rt, b"check", net.nets, class, vectors)?;
-    show::arrow(rt)?;
-    answer(rt, checker::check(net, class, vectors))
+// What a line gives: n and k, and after the colon the vectors.
+fn given(line: &[u8]) -> Option<(u64, u64, Words)> {
+    let ([nets, class], vectors) = read::with_list::<2>(line)?;
+    Some((nets, class, vectors))
 }
 
-// Tries a line: n and k, and after the colon the vectors.
-pub fn try_line(rt: &impl Print, setting: Setting, line: &[u8]) -> io::Result<()> {
-    let mut head = [0u64; MOST];
-    let mut words = [0u64; MOST];
-    let start = read::list_at(line, 0, &mut head);
-    let vectors = read::list_at(line, start.end, &mut words);
-    if (start.count != 2) | (start.mark != b':') | (vectors.mark != END) {
+pub fn try_line(rt: &impl Print, setting: &Setting, line: &[u8]) -> io::Result<()> {
+    let Some((nets, class, vectors)) = given(line) else {
         return show::unreadable(rt);
-    }
-    let count = vectors.count;
-    try_check(
-        rt,
-        setting::network_in(setting, head[0]),
-        head[1],
-        &words[0..count],
-    )
+    };
+    let vectors = vectors.as_slice();
+    print!(rt; "check {} ->", Set(nets, class, vectors))?;
+    answered(rt, checker::check(setting.network(nets), class, vectors))
 }

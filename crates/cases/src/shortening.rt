@@ -1,72 +1,66 @@
 // The call *shorten*, which fills a lent list.
-ghost use Rattle.std.specs.Prelude.{◌≤◌};
-
-use network::Network;
-use shorter::{Shortened, Shortening};
+use network::refusal::Refusal;
+use shorter::Shortened;
 use std::io;
-use trials::lent::MARKER;
-use trials::read::{END, MOST};
+use trials::read::Words;
 use trials::setting::Setting;
-use trials::{lent, read, setting, show};
+use trials::show::Set;
+use trials::{lent, read, show};
+
+// What a line gives: n, k, the length of the lent list, at most 64, and the checks allowed; after the colon the
+// vectors.
+#[derive(Drop)]
+struct Given {
+    nets: u64,
+    class: u64,
+    allowed: u64,
+    vectors: Words,
+    list: lent::List,
+}
+
+impl Given {
+    fn read(line: &[u8]) -> Option<Given> {
+        let ([nets, class, room, allowed], vectors) = read::with_list::<4>(line)?;
+        let list = lent::list(room)?;
+        Some(Given {
+            nets,
+            class,
+            allowed,
+            vectors,
+            list,
+        })
+    }
+}
 
 // A result: the vectors kept and the entries that the call left, the checks made, and the floor.
-fn shortened(rt: &impl Print, counts: Shortened, list: &[u64]) -> io::Result<()> {
-    lent::wrote(rt, counts.kept, list)?;
-    show::entry(rt, b"; checks", counts.checks)?;
-    show::entry(rt, b"; floor", counts.floor)
-}
-
-// Makes the call and shows its answer and the lent list.
-fn answer(
-    rt: &impl Print,
-    net: Network,
-    class: u64,
-    vectors: &[u64],
-    allowed: u64,
-    list: &mut [u64],
-) -> io::Result<()> {
-    match shorter::shorten(net, class, vectors, allowed, list) {
-        Shortening::Kept(counts) => shortened(rt, counts, list),
-        Shortening::Refused(number) => lent::refused(rt, number, list),
+fn answered(rt: &impl Print, answer: Result<Shortened, Refusal>, list: &[u64]) -> io::Result<()> {
+    match answer {
+        Ok(counts) => {
+            lent::wrote(rt, counts.kept as usize, list)?;
+            print!(rt; "; checks {}; floor {}", counts.checks, counts.floor)
+        }
+        Err(refusal) => lent::refused(rt, refusal.into(), list),
     }
 }
 
-// `allowed` is the number of checks that the call may make, and `room` the length of the list that it is lent.
-fn try_shorten(
-    rt: &impl Print,
-    net: Network,
-    class: u64,
-    vectors: &[u64],
-    allowed: u64,
-    room: usize,
-) -> io::Result<()>
-    requires { room ≤ 64 }
-{
-    let mut list = [MARKER; 64];
-    show::set(rt, b"shorten", net.nets, class, vectors)?;
-    show::entry(rt, b"; allowed", allowed)?;
-    lent::room(rt, room)?;
-    answer(rt, net, class, vectors, allowed, &mut list[0..room])
-}
-
-// Tries a line: n, k, the length of the lent list, at most 64, and the checks allowed; after the colon the vectors.
-pub fn try_line(rt: &impl Print, setting: Setting, line: &[u8]) -> io::Result<()> {
-    let mut head = [0u64; MOST];
-    let mut words = [0u64; MOST];
-    let start = read::list_at(line, 0, &mut head);
-    let vectors = read::list_at(line, start.end, &mut words);
-    let marked = (start.mark == b':') & (vectors.mark == END);
-    let room = head[2];
-    if (start.count != 4) | !marked || 64 < room {
+pub fn try_line(rt: &impl Print, setting: &Setting, line: &[u8]) -> io::Result<()> {
+    let Some(given) = Given::read(line) else {
         return show::unreadable(rt);
-    }
-    let count = vectors.count;
-    try_shorten(
-        rt,
-        setting::network_in(setting, head[0]),
-        head[1],
-        &words[0..count],
-        head[3],
-        room as usize,
-    )
+    };
+    let Given {
+        nets,
+        class,
+        allowed,
+        vectors,
+        mut list,
+    } = given;
+    let vectors = vectors.as_slice();
+    print!(rt;
+        "shorten {}; allowed {allowed}; lent {} ->",
+        Set(nets, class, vectors),
+        list.len()
+    )?;
+    let net = setting.network(nets);
+    let answer = shorter::shorten(net, class, vectors, allowed, list.as_mut_slice());
+    answered(rt, answer, list.as_slice())
 }

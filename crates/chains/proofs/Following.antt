@@ -1,16 +1,8 @@
 -- Following the chain of a word's slot finds the word where a search of all words does.
-use mathlib.Core.Path.{◌≡◌, sym, ap, ◌∙◌}
-use mathlib.Core.Bool.{Bool}
-use mathlib.Core.Logic.{◌≢◌}
-use mathlib.Core.List.{List}
-use Prim.Native.Nat.{ℕ, suc, ◌≤◌, ◌<◌}
-use native.Mathlib.Omega.{arith}
-use lib.Dec.{eqb}
-use lib.ListN.{length, take}
-use lib.Seq.{length-take-le, get_or-take}
-use borrow.Author.Tests.{eq-eqb, ne_eqb, eqb-true}
-use Rattle.words.specs.declared.Search.{Search}
-use Rattle.words.specs.declared.Search.TheVariants.{Found, Missing}
+use Rattle.std.proofs.Common.{◌≡◌, sym, ap, ◌∙◌, Bool, ◌≢◌, List, ℕ, suc, ◌≤◌, ◌<◌, arith, eqb, length, take}
+use Rattle.std.proofs.Common.{length-take-le, get_or-take, eq-eqb, ne_eqb, eqb-true}
+use Rattle.std.specs.Prelude.{Option}
+use Rattle.std.specs.Prelude.{Some, None}
 use Rattle.words.specs.Bits.{at}
 use Rattle.words.specs.Searching.{least, position}
 use Rattle.words.proofs.Tests.{contrary}
@@ -26,7 +18,7 @@ module _ (slots word : ℕ) (words : List ℕ) (count : ℕ) where
   of_chain = in_slot slots words (slot slots word)
 
   -- what is left of the chain at a place, with what was found above it
-  pub record Following (place : ℕ) (found : Search) : Type 0 where
+  pub record Following (place : ℕ) (found : Option ℕ) : Type 0 where
     pub inside : place ≤ count
     pub own_slot : (i : ℕ) → place ≡ suc i → slot slots (at words i) ≡ slot slots word
     pub whole : position word (take count words) ≡ or_else (least place 0 here) found
@@ -44,7 +36,7 @@ module _ (slots word : ℕ) (words : List ℕ) (count : ℕ) where
       ∙ least_same (λ t. eqb (at (take count words) t) word) here count
       (λ z m. ap (λ (x : ℕ). eqb x word) (get_or-take count words z 0 m))
 
-  pub following_first : (place : ℕ) → count ≤ length words → place ≡ last count of_chain → Following place Missing
+  pub following_first : (place : ℕ) → count ≤ length words → place ≡ last count of_chain → Following place None
   following_first place l e = record {
     inside = rw e (last_at_most _ count);
     own_slot = λ i q. eqb-true _ _ (last_passes of_chain count i (sym e ∙ q));
@@ -52,7 +44,7 @@ module _ (slots word : ℕ) (words : List ℕ) (count : ℕ) where
   }
 
   -- one link on, from the place of index i
-  module _ (from i : ℕ) (at_i : from ≡ suc i) (found : Search) (f : Following from found) (place : ℕ)
+  module _ (from i : ℕ) (at_i : from ≡ suc i) (found : Option ℕ) (f : Following from found) (place : ℕ)
       (e : place ≡ last i (in_slot slots words (slot slots (at words i)))) where
     below : place ≡ last i of_chain
     below = e ∙ ap (λ (s : ℕ). last i (in_slot slots words s)) (f.own_slot i at_i)
@@ -63,21 +55,21 @@ module _ (slots word : ℕ) (words : List ℕ) (count : ℕ) where
     pub falls : place < from
     falls = rw below (omega (arith, last_at_most of_chain i))
 
-    next : (now : Search) → position word (take count words) ≡ or_else (least i 0 here) now → Following place now
+    next : (now : Option ℕ) → position word (take count words) ≡ or_else (least i 0 here) now → Following place now
     next now h = record {
       inside = let a = f.inside in rw below (omega (arith, last_at_most of_chain i));
       own_slot = λ j q. eqb-true _ _ (last_passes of_chain i j (sym below ∙ q));
-      whole = h ∙ ap (λ (s : Search). or_else s now) (chain_only i ∙ ap (λ (x : ℕ). least x 0 here) (sym below));
+      whole = h ∙ ap (λ (s : Option ℕ). or_else s now) (chain_only i ∙ ap (λ (x : ℕ). least x 0 here) (sym below));
     }
 
-    pub following_hit : at words i ≡ word → Following place (Found i)
-    following_hit h = next (Found i) (from_here ∙ least_top here i found (eq-eqb _ _ h))
+    pub following_hit : at words i ≡ word → Following place (Some i)
+    following_hit h = next (Some i) (from_here ∙ least_top here i found (eq-eqb _ _ h))
 
     pub following_miss : at words i ≢ word → Following place found
     following_miss h =
-        next found (from_here ∙ ap (λ (s : Search). or_else s found) (least_shrinks here i (suc i) (omega arith)
+        next found (from_here ∙ ap (λ (s : Option ℕ). or_else s found) (least_shrinks here i (suc i) (omega arith)
         (λ z l m. let q : z ≡ i = omega arith in rw q (ne_eqb _ _ h))))
 
-  pub following_end : (place : ℕ) (found : Search) → place ≡ 0 → Following place found → found ≡ position word (take count words)
+  pub following_end : (place : ℕ) (found : Option ℕ) → place ≡ 0 → Following place found → found ≡ position word (take count words)
   unfolding least
   following_end place found e f = sym (f.whole ∙ ap (λ (x : ℕ). or_else (least x 0 here) found) e)

@@ -1,12 +1,8 @@
 -- Laws of the last number that passes, and of a search from the top down.
-use mathlib.Core.Path.{◌≡◌, sym, ap, ◌∙◌, subst, refl}
-use mathlib.Core.Bool.{Bool, true, false, cond}
-use mathlib.Core.Logic.{⊎_elim}
-use Prim.Native.Nat.{ℕ, zero, suc, ◌≤◌, ◌<◌, zero-le}
-use native.Mathlib.Nat.{not-suc-le-zero, eq-or-lt_of_le, le_refl, le_of_suc-le-suc}
-use native.Mathlib.Omega.{arith}
-use Rattle.words.specs.declared.Search.{Search}
-use Rattle.words.specs.declared.Search.TheVariants.{Found, Missing}
+use Rattle.std.proofs.Common.{◌≡◌, sym, ap, ◌∙◌, subst, refl, Bool, true, false, cond, ⊎_elim, ℕ, zero, suc, ◌≤◌, ◌<◌}
+use Rattle.std.proofs.Common.{zero-le, not-suc-le-zero, eq-or-lt_of_le, le_refl, le_of_suc-le-suc, arith}
+use Rattle.std.specs.Prelude.{Option}
+use Rattle.std.specs.Prelude.{Some, None}
 use Rattle.words.specs.Searching.{least}
 use Rattle.words.proofs.Tests.{cases, less_or_not}
 use Rattle.words.proofs.Searching.{Least, first, nowhere, least_below, least_found, least_missing}
@@ -58,27 +54,27 @@ last_same p q (suc n) h = rw (h n (le_refl (suc n)), last_same p q n (λ z l. h 
 -- ---- a search from the top down
 
 -- the first finding, or else the second
-abbrev pub or_else : Search → Search → Search
-or_else (Found x) s = Found x
-or_else Missing s = s
+abbrev pub or_else : Option ℕ → Option ℕ → Option ℕ
+or_else (Some x) s = Some x
+or_else None s = s
 
-pub or_else_missing : (s : Search) → s ≡ or_else s Missing
-or_else_missing (Found x) = refl
-or_else_missing Missing = refl
+pub or_else_missing : (s : Option ℕ) → s ≡ or_else s None
+or_else_missing (Some x) = refl
+or_else_missing None = refl
 
 module _ (p : ℕ → Bool) where
   -- numbers at the top that do not pass may be left out
   pub least_shrinks : (q n : ℕ) → q ≤ n → ((z : ℕ) → q ≤ z → z < n → p z ≡ false) → least n 0 p ≡ least q 0 p
   least_shrinks q n l h = go (least q 0 p) (least_below p q)
     where
-      go : (s : Search) → Least p 0 q s → least n 0 p ≡ s
-      go (Found y) (first a b c g) = least_found p n y (omega arith) (λ z m. g z zero-le m) c
-      go Missing (nowhere g) = least_missing p n (λ z m. ⊎_elim (λ k. g z zero-le k) (λ k. h z k m) (less_or_not z q))
+      go : (s : Option ℕ) → Least p 0 q s → least n 0 p ≡ s
+      go (Some y) (first a b c g) = least_found p n y (omega arith) (λ z m. g z zero-le m) c
+      go None (nowhere g) = least_missing p n (λ z m. ⊎_elim (λ k. g z zero-le k) (λ k. h z k m) (less_or_not z q))
 
   -- one that passes is found if no smaller one is
-  pub least_top : (i : ℕ) (s : Search) → p i ≡ true → or_else (least (suc i) 0 p) s ≡ or_else (least i 0 p) (Found i)
+  pub least_top : (i : ℕ) (s : Option ℕ) → p i ≡ true → or_else (least (suc i) 0 p) s ≡ or_else (least i 0 p) (Some i)
   least_top i s e = go (least i 0 p) (least_below p i)
     where
-      go : (t : Search) → Least p 0 i t → or_else (least (suc i) 0 p) s ≡ or_else t (Found i)
-      go (Found y) (first a b c g) = ap (λ (x : Search). or_else x s) (least_found p (suc i) y (omega arith) (λ z m. g z zero-le m) c)
-      go Missing (nowhere g) = ap (λ (x : Search). or_else x s) (least_found p (suc i) i (le_refl (suc i)) (λ z m. g z zero-le m) e)
+      go : (t : Option ℕ) → Least p 0 i t → or_else (least (suc i) 0 p) s ≡ or_else t (Some i)
+      go (Some y) (first a b c g) = ap (λ (x : Option ℕ). or_else x s) (least_found p (suc i) y (omega arith) (λ z m. g z zero-le m) c)
+      go None (nowhere g) = ap (λ (x : Option ℕ). or_else x s) (least_found p (suc i) i (le_refl (suc i)) (λ z m. g z zero-le m) e)

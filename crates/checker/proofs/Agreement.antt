@@ -1,11 +1,6 @@
 -- The checker's verdict and that of the rule for k below n agree, whatever the class: below n they are the same, and at
 -- n both are pass or neither is.
-use mathlib.Core.Path.{◌≡◌, refl}
-use mathlib.Core.Logic.{◌≢◌, ◌↔◌}
-use mathlib.Core.List.{List}
-use Prim.Native.Nat.{ℕ, ◌^◌, ◌≤◌, ◌<◌}
-use lib.ListN.{length}
-use borrow.Author.Tests.{ne_eqb}
+use Rattle.std.proofs.Common.{◌≡◌, refl, ◌≢◌, ◌↔◌, List, ℕ, ◌^◌, ◌≤◌, ◌<◌, length, ne_eqb}
 use Rattle.words.specs.Bits.{at}
 use Rattle.network.specs.declared.Network.{Network}
 use Rattle.checker.specs.declared.Verdict.{Verdict}

@@ -1,11 +1,8 @@
 -- What a search through the sets in ascending order ends with: the rule's pair at the first set that is confused with a
 -- smaller one, and pass where there is none.
-use mathlib.Core.Path.{◌≡◌, ap, ◌∙◌}
-use mathlib.Core.Bool.{Bool, true, false, ◌&&◌}
-use mathlib.Core.List.{List}
-use Prim.Native.Nat.{ℕ, ◌^◌, ◌<◌}
-use Rattle.words.specs.declared.Search.{Search}
-use Rattle.words.specs.declared.Search.TheVariants.{Found, Missing}
+use Rattle.std.proofs.Common.{◌≡◌, ap, ◌∙◌, Bool, true, false, ◌&&◌, List, ℕ, ◌^◌, ◌<◌}
+use Rattle.std.specs.Prelude.{Option}
+use Rattle.std.specs.Prelude.{Some, None}
 use Rattle.words.specs.Searching.{is_found}
 use Rattle.words.proofs.Tests.{and_both, and_false}
 use Rattle.words.proofs.Searching.{least_found, least_missing}
@@ -22,20 +19,20 @@ module _ (net : Network) (k : ℕ) (vectors : List ℕ) where
   pub not_few : (set : ℕ) → few_drivers net k set ≡ false → confused_at set ≡ false
   not_few set e = rw e
 
-  pub none_alike : (set : ℕ) → smaller_alike net k vectors set ≡ Missing → confused_at set ≡ false
+  pub none_alike : (set : ℕ) → smaller_alike net k vectors set ≡ None → confused_at set ≡ false
   unfolding is_found
   none_alike set e =
-      ap (λ (s : Search). few_drivers net k set && is_found s) e ∙ and_false (few_drivers net k set)
+      ap (λ (s : Option ℕ). few_drivers net k set && is_found s) e ∙ and_false (few_drivers net k set)
 
   pub first_pair : (a b : ℕ) → b < 2 ^ net.nets → ((z : ℕ) → z < b → confused_at z ≡ false)
-      → few_drivers net k b ≡ true → smaller_alike net k vectors b ≡ Found a → bounded_verdict net k vectors ≡ Pair a b
+      → few_drivers net k b ≡ true → smaller_alike net k vectors b ≡ Some a → bounded_verdict net k vectors ≡ Pair a b
   unfolding bounded_verdict is_found
   first_pair a b inside none few found =
-      ap (λ (s : Search). pair_at s (smaller_alike net k vectors))
+      ap (λ (s : Option ℕ). pair_at s (smaller_alike net k vectors))
       (least_found confused_at (2 ^ net.nets) b inside none (and_both few (ap is_found found)))
-      ∙ ap (λ (s : Search). pair_with s b) found
+      ∙ ap (λ (s : Option ℕ). pair_with s b) found
 
   pub all_pass : ((z : ℕ) → z < 2 ^ net.nets → confused_at z ≡ false) → bounded_verdict net k vectors ≡ Pass
   unfolding bounded_verdict
   all_pass none =
-      ap (λ (s : Search). pair_at s (smaller_alike net k vectors)) (least_missing confused_at (2 ^ net.nets) none)
+      ap (λ (s : Option ℕ). pair_at s (smaller_alike net k vectors)) (least_missing confused_at (2 ^ net.nets) none)

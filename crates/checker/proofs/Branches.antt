@@ -1,26 +1,20 @@
 -- One driver more below a set's own: the set with it, what it reads, and the sets between it and the next.
-use mathlib.Core.Path.{◌≡◌, sym, ap, ◌∙◌, subst}
-use mathlib.Core.List.{List}
-use Prim.Native.Nat.{ℕ, suc, ◌+◌, ◌-◌, ◌*◌, ◌/◌, ◌%◌, ◌^◌, ◌≤◌, ◌<◌}
-use native.Mathlib.Nat.{pow-suc, zero-mod, le_refl}
-use native.Mathlib.Numerals.{add-one}
-use native.Mathlib.Omega.{arith}
+use Rattle.std.proofs.Common.{◌≡◌, sym, ap, ◌∙◌, subst, List, ℕ, suc, ◌+◌, ◌-◌, ◌*◌, ◌/◌, ◌%◌, ◌^◌, ◌≤◌, ◌<◌, pow-suc}
+use Rattle.std.proofs.Common.{le_refl, add-one, arith, length, pow_pos, pow_mono}
+use native.Mathlib.Nat.{zero-mod}
 use lib.Count.{ones}
-use lib.ListN.{length, replicate, length-replicate}
 use lib.Arith.{digits_mod}
-use lib.Pow.{pow_pos, pow_mono, pow-lt, mod-mod-pow, split}
-use Rattle.words.specs.Bits.{at}
+use lib.Pow.{pow-lt, mod-mod-pow, split}
 use Rattle.words.specs.Searching.{sets_of_class}
-use Rattle.words.specs.Turning.{column, Columns}
+use Rattle.words.specs.Turning.{column}
 use Rattle.words.proofs.Classes.{ones_on_top, ones_power, ones_positive}
 use Rattle.words.proofs.Counting.{sets_bound, sets_grow, sets_fewer}
 use Rattle.network.specs.declared.Network.{Network}
 use Rattle.network.specs.Reading.{sequential_response}
 use Rattle.network.specs.Joint.{joint_word, no_drivers, with_driver}
 use Rattle.network.proofs.Joint.{joint_none, reads_joint, joint_with}
-use Rattle.chains.proofs.Adding.{chains_first}
-use Rattle.checker.specs.Seen.{Seen, Branch, Searchable}
-use Rattle.checker.proofs.Visits.{seen_gap}
+use Rattle.checker.specs.Seen.{Seen, Branch}
+use Rattle.checker.proofs.Visits.{seen_count, seen_gap}
 
 -- a multiple of a power of 2 is one of each smaller power
 above_less : (x m limit : ℕ) → m ≤ limit → x % 2 ^ limit ≡ 0 → x % 2 ^ m ≡ 0
@@ -29,52 +23,32 @@ above_less x m limit l e =
     sym (mod-mod-pow x (limit - m) m) ∙ ap (λ (y : ℕ). x % 2 ^ y % 2 ^ m) below ∙ ap (λ (y : ℕ). y % 2 ^ m) e ∙ zero-mod (2 ^ m)
 
 -- all sets: those that have drivers below n and no other
-pub all_branches : (net : Network) (k : ℕ) (vectors columns : List ℕ) (word : ℕ) → net.nets ≤ 48 → 0 < k → k ≤ 3
-    → Columns net.nets vectors columns → word ≡ no_drivers net vectors → Branch net k vectors columns (k - ones 0) net.nets 0 word
+pub all_branches : (net : Network) (k : ℕ) (vectors : List ℕ) (word : ℕ) → 0 < k → word ≡ no_drivers net vectors
+    → Branch net k vectors k net.nets 0 word
 unfolding ones
-all_branches net k vectors columns word n some most c e = record {
-  nets_most = n;
-  class_most = most;
+all_branches net k vectors word some e = record {
   drivers = omega arith;
   some_left = omega arith;
   limit_most = le_refl net.nets;
   above = zero-mod (2 ^ net.nets);
   inside = omega arith;
   driven = e ∙ sym (joint_none net vectors);
-  turned = c;
-}
-
--- cleared lists of a size and of so many slots
-pub searchable : (net : Network) (k : ℕ) (vectors : List ℕ) (size slots : ℕ) → length vectors ≤ 64 → net.nets ≤ 48 → 0 < k → k ≤ 3
-    → length (sets_of_class k (2 ^ net.nets)) ≤ size → 0 < slots
-    → Searchable net k vectors (replicate size 0) (replicate size 0) (replicate slots 0)
-searchable net k vectors size slots v n some most room l = record {
-  vectors_most = v;
-  nets_most = n;
-  class_some = some;
-  class_most = most;
-  chained = chains_first (replicate size 0) (replicate size 0) slots l;
-  words_room = rw (length-replicate {A = ℕ} size 0) room;
-  links_room = rw (length-replicate {A = ℕ} size 0) room;
 }
 
 -- a narrower branch of the same set
-pub narrower : (net : Network) (k : ℕ) (vectors columns : List ℕ) (left limit set word m : ℕ)
-    → Branch net k vectors columns left limit set word
-    → m ≤ limit → Branch net k vectors columns left m set word
-narrower net k vectors columns left limit set word m b l = record {
-  nets_most = b.nets_most;
-  class_most = b.class_most;
+pub narrower : (net : Network) (k : ℕ) (vectors : List ℕ) (left limit set word m : ℕ)
+    → Branch net k vectors left limit set word
+    → m ≤ limit → Branch net k vectors left m set word
+narrower net k vectors left limit set word m b l = record {
   drivers = b.drivers;
   some_left = b.some_left;
   limit_most = omega (arith, b.limit_most);
   above = above_less set m limit l b.above;
   inside = let h : 2 ^ m ≤ 2 ^ limit = pow_mono {i = m} {j = limit} l in omega (arith, b.inside);
   driven = b.driven;
-  turned = b.turned;
 }
 
-module _ (net : Network) (k : ℕ) (vectors columns : List ℕ) (left limit set word : ℕ) (b : Branch net k vectors columns left limit set word)
+module _ (net : Network) (k : ℕ) (vectors : List ℕ) (left limit set word : ℕ) (b : Branch net k vectors left limit set word)
     (driver : ℕ) (l : driver < limit) where
   abbrev next : ℕ
   next = set + 2 ^ driver
@@ -82,8 +56,8 @@ module _ (net : Network) (k : ℕ) (vectors columns : List ℕ) (left limit set 
   pub next_inside : next < 2 ^ net.nets
   next_inside = omega (arith, b.inside, pow-lt l)
 
-  pub next_small : next < 2 ^ 48
-  next_small = omega (arith, next_inside, pow_mono {i = net.nets} {j = 48} b.nets_most)
+  pub next_small : net.nets ≤ 48 → next < 2 ^ 48
+  next_small most = omega (arith, next_inside, pow_mono {i = net.nets} {j = 48} most)
 
   next_ones : ones next ≡ suc (ones set)
   next_ones = ones_on_top limit set (2 ^ driver) b.above (pow-lt l) ∙ ap (λ (x : ℕ). ones set + x) (ones_power driver) ∙ omega arith
@@ -91,25 +65,26 @@ module _ (net : Network) (k : ℕ) (vectors columns : List ℕ) (left limit set 
   pub next_few : ones next ≤ k
   next_few = omega (arith, next_ones, b.drivers, b.some_left)
 
-  next_driven : with_driver net word (at columns driver) ≡ joint_word net vectors next
+  next_driven : with_driver net word (column vectors driver) ≡ joint_word net vectors next
   next_driven =
-      ap (λ (x : ℕ). with_driver net word x) (b.turned driver (omega (arith, b.limit_most)))
-      ∙ ap (λ (x : ℕ). with_driver net x (column vectors driver)) b.driven
+      ap (λ (x : ℕ). with_driver net x (column vectors driver)) b.driven
       ∙ sym (joint_with net vectors limit driver set l b.limit_most b.above)
 
-  pub next_reads : with_driver net word (at columns driver) ≡ sequential_response net vectors next
+  pub next_reads : with_driver net word (column vectors driver) ≡ sequential_response net vectors next
   next_reads = next_driven ∙ sym (reads_joint net vectors next (λ e. let h = pow_pos driver in omega arith))
 
   -- there is room for it
-  module _ (count : ℕ) (counted : count ≡ length (sets_of_class k next)) where
-    pub next_room : (size : ℕ) → length (sets_of_class k (set + 2 ^ limit)) ≤ size → count < size
-    next_room size room = rw counted (omega (arith, sets_fewer k next (set + 2 ^ limit) (omega (arith, pow-lt l)) next_few, room))
+  module _ (table : List ℕ) (seen : Seen net k vectors table next) where
+    pub next_room : (size : ℕ) → length (sets_of_class k (set + 2 ^ limit)) ≤ size → length table < size
+    next_room size room =
+        rw (seen_count net k vectors table next seen)
+        (omega (arith, sets_fewer k next (set + 2 ^ limit) (omega (arith, pow-lt l)) next_few, room))
 
-    pub next_place : count < 65535
-    next_place = rw counted (omega (
+    pub next_place : net.nets ≤ 48 → k ≤ 3 → length table < 65535
+    next_place most three = rw (seen_count net k vectors table next seen) (omega (
       arith,
       sets_fewer k next (2 ^ net.nets) next_inside next_few,
-      sets_bound net.nets k b.nets_most b.class_most,
+      sets_bound net.nets k most three,
     ))
 
   -- ---- the sets with it and more drivers below it
@@ -130,34 +105,22 @@ module _ (net : Network) (k : ℕ) (vectors columns : List ℕ) (left limit set 
       let e : next ≡ (q + 1) * 2 ^ driver + 0 = let h = split set driver in omega arith in
       ap (λ (x : ℕ). x % 2 ^ driver) e ∙ digits_mod (q + 1) (pow_pos driver)
 
-  deeper : 1 < left → Branch net k vectors columns (left - 1) driver next (with_driver net word (at columns driver))
-  deeper more = record {
-    nets_most = b.nets_most;
-    class_most = b.class_most;
+  pub deeper : 1 < left → (x driven : ℕ) → next ≡ x → driven ≡ with_driver net word (column vectors driver)
+      → Branch net k vectors (left - 1) driver x driven
+  deeper more x driven e f = subst (λ (y : ℕ). Branch net k vectors (left - 1) driver y driven) e (record {
     drivers = omega (arith, next_ones, b.drivers);
     some_left = omega arith;
     limit_most = omega (arith, b.limit_most);
     above = next_above;
     inside = rw next_twice (omega (arith, later_inside, b.inside));
-    driven = next_driven;
-    turned = b.turned;
-  }
-
-  pub deeper_at : 1 < left → (x driven : ℕ) → next ≡ x → driven ≡ with_driver net word (at columns driver)
-      → Branch net k vectors columns (k - ones x) driver x driven
-  deeper_at more x driven e f =
-      let fewer : left - 1 ≡ k - ones next = omega (arith, next_ones, b.drivers) in
-      subst (λ (y : ℕ). Branch net k vectors columns (k - ones y) driver y driven) e
-      (rw (← fewer) (subst (λ (w : ℕ). Branch net k vectors columns (left - 1) driver next w) (sym f) (deeper more)))
-
-  pub fewer_left : 1 < left → (x : ℕ) → next ≡ x → k - ones x ≡ left - 1
-  fewer_left more x e = rw (← e) (omega (arith, next_ones, b.drivers))
+    driven = f ∙ next_driven;
+  })
 
   -- with no drivers more, there is none of the class between it and the next
-  pub none_between : ¬ (1 < left) → (words : List ℕ) (count : ℕ) → Seen net k vectors words count (next + 1)
-      → Seen net k vectors words count (set + 2 ^ (driver + 1))
-  none_between single words count seen =
-      rw (← next_twice) (seen_gap net k vectors words count (next + 1) seen (next + 2 ^ driver) (omega (
+  pub none_between : ¬ (1 < left) → (table : List ℕ) → Seen net k vectors table (next + 1)
+      → Seen net k vectors table (set + 2 ^ (driver + 1))
+  none_between single table seen =
+      rw (← next_twice) (seen_gap net k vectors table (next + 1) seen (next + 2 ^ driver) (omega (
         arith,
         pow_pos driver,
       )) (λ z i j. many z i j))

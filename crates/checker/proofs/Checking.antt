@@ -1,18 +1,25 @@
 -- The call *check* answers as its rows and the rule say, and nothing is left open.
-use mathlib.Core.Path.{◌≡◌, ap}
-use mathlib.Core.List.{List}
-use Prim.Native.Nat.{ℕ}
-use Rattle.words.specs.Answers.{Answer, refused, full, ByTable, NoneHolds}
+use Rattle.std.proofs.Common.{◌≡◌, ap, List, [], ℕ}
+use Rattle.words.specs.Answers.{Answer, refused, full, ByTable, NoneHolds, by_tests}
 use Rattle.words.proofs.Answers.{tests_by_table, table_determined, table_full, table_not_refused}
 use Rattle.network.specs.declared.Network.{Network}
-use Rattle.network.specs.Rows.{SetRows, set_tests}
-use Rattle.network.proofs.Rows.{decides_set}
+use Rattle.network.specs.Rows.{SetRows, set_tests, set_admission}
+use Rattle.network.proofs.Rows.{decides_set, set_refuses, set_admits}
 use Rattle.checker.specs.declared.Verdict.{Verdict}
 use Rattle.checker.specs.Rule.{Rule, verdict}
 use Rattle.checker.specs.Check.{check_answer}
 use Rattle.checker.proofs.Verdicts.{verdict_rule, rule_determined}
 
 module _ (net : Network) (k : ℕ) (vectors : List ℕ) where
+  -- the answer where the rows of a test set refuse, and where they admit it
+  pub check_refused : (number : ℕ) → set_admission net k vectors ≡ refused number → check_answer net k vectors ≡ refused number
+  unfolding check_answer
+  check_refused number e = set_refuses net k vectors [] (verdict net k vectors) number e
+
+  pub check_full : set_admission net k vectors ≡ full tt → check_answer net k vectors ≡ full (verdict net k vectors)
+  unfolding check_answer by_tests
+  check_full e = set_admits net k vectors [] (verdict net k vectors) e
+
   pub check_by_table : ByTable (SetRows net k vectors) (Rule net k vectors) (check_answer net k vectors)
   unfolding check_answer
   check_by_table =

@@ -1,17 +1,9 @@
 -- With all sets seen, a set is found by what it reads.
-use mathlib.Core.Path.{◌≡◌, sym, ap, ◌∙◌, subst}
-use mathlib.Core.Bool.{true}
-use mathlib.Core.List.{List}
-use Prim.Native.Nat.{ℕ, ◌^◌, ◌≤◌, ◌<◌}
-use native.Mathlib.Nat.{le_refl}
-use native.Mathlib.Omega.{arith}
+use Rattle.std.proofs.Common.{◌≡◌, sym, ap, ◌∙◌, subst, true, List, ℕ, ◌^◌, ◌≤◌, ◌<◌, le_refl, arith, leb, length}
+use Rattle.std.proofs.Common.{pow_mono, eq-eqb}
 use lib.Count.{ones}
-use lib.Dec.{leb}
-use lib.ListN.{length, take}
-use lib.Pow.{pow_mono}
-use borrow.Author.Tests.{eq-eqb}
-use Rattle.words.specs.declared.Search.{Search}
-use Rattle.words.specs.declared.Search.TheVariants.{Found, Missing}
+use Rattle.std.specs.Prelude.{Option}
+use Rattle.std.specs.Prelude.{Some, None}
 use Rattle.words.specs.Bits.{at}
 use Rattle.words.specs.Searching.{position, sets_of_class}
 use Rattle.words.proofs.Tests.{contrary}
@@ -29,11 +21,11 @@ use Rattle.checker.proofs.Verdicts.{bounded_rule}
 use Rattle.checker.proofs.Separation.{SetsApart, bounded_shows}
 use Rattle.checker.proofs.Visits.{seen_pass, read_found, read_missing}
 
-module _ (net : Network) (k : ℕ) (vectors words : List ℕ) (count : ℕ) (seen : Seen net k vectors words count (2 ^ net.nets)) where
+module _ (net : Network) (k : ℕ) (vectors table : List ℕ) (seen : Seen net k vectors table (2 ^ net.nets)) where
   apart : SetsApart net k vectors
   apart =
       bounded_shows net k vectors Pass
-      (subst (BoundedRule net k vectors) (seen_pass net k vectors words count (2 ^ net.nets) seen (le_refl _)) (
+      (subst (BoundedRule net k vectors) (seen_pass net k vectors table (2 ^ net.nets) seen (le_refl _)) (
       bounded_rule net k vectors))
 
   -- the entries are sets of the class
@@ -44,17 +36,17 @@ module _ (net : Network) (k : ℕ) (vectors words : List ℕ) (count : ℕ) (see
       entry_is _ (2 ^ net.nets) m l in
       record { inside = r.below; few = few_drivers_at net k _ (few_by_ones net k _ r.below ∙ r.passes) }
 
-  pub found_only : (answered m : ℕ) (found : Search) → net.nets ≤ 48 → found ≡ position answered (take count words) → found ≡ Found m
+  pub found_only : (answered m : ℕ) (found : Option ℕ) → net.nets ≤ 48 → found ≡ position answered table → found ≡ Some m
       → (m < length (sets_of_class k (2 ^ 48))) × OnlyAnswer net k vectors answered (at (sets_of_class k (2 ^ 48)) m)
   found_only answered m found most f e =
-      let r = read_found net k vectors words count (2 ^ net.nets) seen answered m (sym f ∙ e) in
+      let r = read_found net k vectors table (2 ^ net.nets) seen answered m (sym f ∙ e) in
       let up : 2 ^ net.nets ≤ 2 ^ 48 = pow_mono {i = net.nets} {j = 48} most in (
         omega (arith, r.0, sets_grow k (2 ^ net.nets) (2 ^ 48) up),
         λ set d q. apart set _ d (of_class m r.0) (sequential_alike net vectors set _ (q ∙ sym r.1))
             ∙ sets_front k (2 ^ net.nets) (2 ^ 48) m up r.0,
       )
 
-  pub missing_none : (answered reach : ℕ) (found : Search) → found ≡ position answered (take count words) → found ≡ Missing
+  pub missing_none : (answered reach : ℕ) (found : Option ℕ) → found ≡ position answered table → found ≡ None
       → OnlyAnswer net k vectors answered reach
   unfolding sets_of_class
   missing_none answered reach found f e set d q =
@@ -63,4 +55,4 @@ module _ (net : Network) (k : ℕ) (vectors words : List ℕ) (count : ℕ) (see
       entry_of _ (2 ^ net.nets) set d.inside few in
       let inside = count_grows_past (λ z. leb (ones z) k) set (2 ^ net.nets) d.inside few in
       contrary (eq-eqb _ _ (ap (sequential_response net vectors) here ∙ q))
-      (read_missing net k vectors words count (2 ^ net.nets) seen answered (sym f ∙ e) (length (sets_of_class k set)) inside)
+      (read_missing net k vectors table (2 ^ net.nets) seen answered (sym f ∙ e) (length (sets_of_class k set)) inside)

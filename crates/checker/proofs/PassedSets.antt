@@ -1,12 +1,9 @@
 -- Passed test sets: the rule passes a set exactly where the test does; such a set tells the sets of the class apart, so
 -- that a search of them passes too; and it stays passed with more vectors.
-use mathlib.Core.Path.{◌≡◌, refl, ap, ◌∙◌, subst}
-use mathlib.Core.Bool.{not, true≢false, false≢true}
-use mathlib.Core.List.{List}
-use Prim.Native.Nat.{ℕ, ◌^◌, ◌≤◌, ◌<◌}
-use lib.ListN.{length}
+use Rattle.std.proofs.Common.{◌≡◌, refl, ap, ◌∙◌, subst, true, not, true≢false, List, ℕ, ◌^◌, ◌≤◌, ◌<◌, length}
+use mathlib.Core.Bool.{false≢true}
 use borrow.Author.Tests.{not-false}
-use Rattle.words.specs.Answers.{full, ByTable, Decides}
+use Rattle.words.specs.Answers.{full, ByTable, Decides, NoneHolds}
 use Rattle.words.specs.Bits.{at}
 use Rattle.words.proofs.Tests.{decides_not, test_fails}
 use Rattle.words.proofs.Answers.{table_full, table_none_holds}
@@ -32,6 +29,10 @@ module _ (net : Network) (k : ℕ) (vectors : List ℕ) where
       go Pass r = (λ _. r, λ e _. true≢false e)
       go (Pair a b) r =
           (λ e. absurd (false≢true e), λ _ p. pair_not_pass (rule_determined net k vectors (Pair a b) Pass r p))
+
+  -- what a value of `PassedSet` says of its set
+  pub passed_by : NoneHolds (SetRows net k vectors) → passes net k vectors ≡ true → Passed net k vectors
+  passed_by none e = (none, decides_pass.0 e)
 
   pub decides_row_13 : Decides (not (passes net k vectors)) (Row13 net k vectors)
   decides_row_13 = decides_not decides_pass

@@ -1,12 +1,6 @@
 -- With the readings of all driver sets, what a look at those of the sets below one finds.
-use mathlib.Core.Path.{◌≡◌, ap, ◌∙◌}
-use mathlib.Core.Bool.{◌&&◌}
-use mathlib.Core.List.{List}
-use Prim.Native.Nat.{ℕ, ◌^◌, ◌≤◌, ◌<◌}
-use native.Mathlib.Omega.{arith}
-use lib.Dec.{eqb}
-use lib.ListN.{length, take}
-use lib.Seq.{length-take-le, get_or-take}
+use Rattle.std.proofs.Common.{◌≡◌, ap, ◌∙◌, ◌&&◌, List, ℕ, ◌^◌, ◌≤◌, ◌<◌, arith, eqb, length, take, length-take-le}
+use Rattle.std.proofs.Common.{get_or-take}
 use Rattle.words.specs.Bits.{at}
 use Rattle.words.specs.Searching.{least}
 use Rattle.words.proofs.Searching.{least_same}

@@ -1,13 +1,8 @@
 -- What a verdict of the rule shows: pass tells the sets of the class apart, so that at most one state fits a response;
 -- a pair is two sets that no vector tells apart, and two states with equal responses.
-use mathlib.Core.Path.{◌≡◌, refl, sym, ap, ◌∙◌, subst}
-use mathlib.Core.Bool.{true}
-use mathlib.Core.Logic.{◌⊎◌, inl, inr, ⊎_elim, ◌≢◌}
-use mathlib.Core.List.{List}
-use Prim.Native.Nat.{ℕ, zero, suc, ◌-◌, ◌^◌, ◌≤◌, ◌<◌, zero-le}
-use native.Mathlib.Omega.{arith}
-use lib.ListN.{length, replicate, length-replicate, get_or-replicate, get_or-eq_default}
-use lib.Pow.{pow_pos}
+use Rattle.std.proofs.Common.{◌≡◌, refl, sym, ap, ◌∙◌, subst, true, ◌⊎◌, inl, inr, ⊎_elim, ◌≢◌, List, ℕ, zero, suc}
+use Rattle.std.proofs.Common.{◌-◌, ◌^◌, ◌≤◌, ◌<◌, zero-le, arith, length, replicate, pow_pos}
+use lib.ListN.{length-replicate, get_or-replicate, get_or-eq_default}
 use Rattle.words.specs.Bits.{has, at}
 use Rattle.words.proofs.Tests.{contrary, three_ways, less_or_not}
 use Rattle.words.proofs.Bits.{has_zero}

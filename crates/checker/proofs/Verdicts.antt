@@ -1,14 +1,10 @@
 -- The computed verdict is the rule's, and the rule allows no other.
-use mathlib.Core.Path.{◌≡◌, refl, sym, ap, ap₂, ◌∙◌}
-use mathlib.Core.Bool.{Bool, true, false, not, ◌&&◌, cond, false≢true}
-use mathlib.Core.Logic.{◌⊎◌, inl, inr}
-use mathlib.Core.List.{List}
-use Prim.Native.Nat.{ℕ, ◌^◌, ◌≤◌, ◌<◌, zero-le}
-use native.Mathlib.Omega.{arith}
-use lib.Dec.{eqb}
-use borrow.Author.Tests.{eq-eqb, eqb-true, eqb-false, not-true, not-false}
-use Rattle.words.specs.declared.Search.{Search}
-use Rattle.words.specs.declared.Search.TheVariants.{Found, Missing}
+use Rattle.std.proofs.Common.{◌≡◌, refl, sym, ap, ap₂, ◌∙◌, Bool, true, false, not, ◌&&◌, cond, ◌⊎◌, inl, inr, List}
+use Rattle.std.proofs.Common.{ℕ, ◌^◌, ◌≤◌, ◌<◌, zero-le, arith, eqb, eq-eqb, eqb-true}
+use mathlib.Core.Bool.{false≢true}
+use borrow.Author.Tests.{eqb-false, not-true, not-false}
+use Rattle.std.specs.Prelude.{Option}
+use Rattle.std.specs.Prelude.{Some, None}
 use Rattle.words.specs.Searching.{least, is_found, among}
 use Rattle.words.proofs.Tests.{contrary, and_left, and_right, and_both, three_ways}
 use Rattle.words.proofs.Searching.{Least, first, nowhere, least_below, decides_among}
@@ -58,26 +54,26 @@ module _ (net : Network) (k : ℕ) (vectors : List ℕ) where
   unfolding confused_test is_found
   passes_confused a b h = and_both (few_drivers_of net k b h.second_set) (go (smaller_alike net k vectors b) (smaller_is b))
     where
-      go : (s : Search) → Least (smaller_test b) 0 b s → is_found s ≡ true
-      go (Found x) r = refl
-      go Missing (nowhere none) = contrary (passes_smaller a b h) (none a zero-le h.smaller)
+      go : (s : Option ℕ) → Least (smaller_test b) 0 b s → is_found s ≡ true
+      go (Some x) r = refl
+      go None (nowhere none) = contrary (passes_smaller a b h) (none a zero-le h.smaller)
 
   pub bounded_rule : BoundedRule net k vectors (bounded_verdict net k vectors)
   unfolding bounded_verdict confused_test is_found
   bounded_rule = go (least (2 ^ net.nets) 0 confused_test) (least_below confused_test (2 ^ net.nets))
     where
       at : (b : ℕ) → b < 2 ^ net.nets → confused_test b ≡ true → ((z : ℕ) → 0 ≤ z → z < b → confused_test z ≡ false)
-          → (s : Search) → Least (smaller_test b) 0 b s → is_found s ≡ true → BoundedRule net k vectors (pair_with s b)
-      at b l e none (Found a) (first x y z smallest) f = (
+          → (s : Option ℕ) → Least (smaller_test b) 0 b s → is_found s ≡ true → BoundedRule net k vectors (pair_with s b)
+      at b l e none (Some a) (first x y z smallest) f = (
         confused a b y l (and_left (few_drivers net k b) _ e) z,
         λ c d m h. contrary (passes_confused c d h) (none d zero-le m),
         λ c m h. contrary (passes_smaller c b h) (smallest c zero-le m),
       )
-      at b l e none Missing r f = absurd (false≢true f)
+      at b l e none None r f = absurd (false≢true f)
 
-      go : (s : Search) → Least confused_test 0 (2 ^ net.nets) s → BoundedRule net k vectors (pair_at s (smaller_alike net k vectors))
-      go (Found b) (first x y z none) = at b y z none (smaller_alike net k vectors b) (smaller_is b) (and_right (few_drivers net k b) _ z)
-      go Missing (nowhere none) = λ a b h. contrary (passes_confused a b h) (none b zero-le h.second_set.inside)
+      go : (s : Option ℕ) → Least confused_test 0 (2 ^ net.nets) s → BoundedRule net k vectors (pair_at s (smaller_alike net k vectors))
+      go (Some b) (first x y z none) = at b y z none (smaller_alike net k vectors b) (smaller_is b) (and_right (few_drivers net k b) _ z)
+      go None (nowhere none) = λ a b h. contrary (passes_confused a b h) (none b zero-le h.second_set.inside)
 
   bounded_determined : (u v : Verdict) → BoundedRule net k vectors u → BoundedRule net k vectors v → u ≡ v
   bounded_determined Pass Pass p q = refl
@@ -120,9 +116,9 @@ module _ (net : Network) (vectors : List ℕ) where
   unfolding full_verdict lacks
   full_rule = go (extra_missing net vectors) refl
     where
-      by_net : extra_missing net vectors ≡ false → (s : Search) → Least lacks 0 net.nets s
+      by_net : extra_missing net vectors ≡ false → (s : Option ℕ) → Least lacks 0 net.nets s
           → FullRule net vectors (pair_without net s)
-      by_net e (Found i) (first x y z none) =
+      by_net e (Some i) (first x y z none) =
           inr (
             extra_there e,
             (
@@ -135,7 +131,7 @@ module _ (net : Network) (vectors : List ℕ) where
               refl,
             ),
           )
-      by_net e Missing (nowhere none) =
+      by_net e None (nowhere none) =
           (extra_there e, λ i l. present (walking_vector net i) (not-false _ (none i zero-le l)))
 
       go : (t : Bool) → extra_missing net vectors ≡ t

@@ -1,16 +1,10 @@
 -- The verdict for k = n, from one pass over the vectors.
-use mathlib.Core.Path.{◌≡◌, sym, ap, ap₂, ◌∙◌}
-use mathlib.Core.Bool.{Bool, true, false, not, ◌||◌}
-use mathlib.Core.List.{List}
-use Prim.Native.Nat.{ℕ, ◌+◌, ◌-◌, ◌^◌, ◌≤◌, ◌<◌}
-use native.Mathlib.Nat.{not-suc-le-zero, lt_of_not-le}
-use native.Mathlib.Omega.{arith}
-use lib.Bits.{bit_or, or_lt}
+use Rattle.std.proofs.Common.{◌≡◌, sym, ap, ap₂, ◌∙◌, Bool, true, false, not, ◌||◌, List, ℕ, ◌+◌, ◌-◌, ◌^◌, ◌≤◌, ◌<◌}
+use Rattle.std.proofs.Common.{not-suc-le-zero, lt_of_not-le, arith, bit_or, eqb, length, pow_pos, pow_mono, eq-eqb}
+use Rattle.std.proofs.Common.{eqb-true}
+use lib.Bits.{or_lt}
 use lib.Count.{count_trailing_zeros}
-use lib.Dec.{eqb}
-use lib.ListN.{length}
-use lib.Pow.{pow_pos, pow_mono}
-use borrow.Author.Tests.{eq-eqb, eqb-true, not-true}
+use borrow.Author.Tests.{not-true}
 use Rattle.words.specs.Bits.{has, at}
 use Rattle.words.specs.Searching.{position, any, among}
 use Rattle.words.proofs.Bits.{has_zero, has_or, has_all_less}

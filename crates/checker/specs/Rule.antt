@@ -2,8 +2,8 @@
 use Rattle.std.specs.Prelude.{ℕ, ◌-◌, ◌^◌, ◌<◌, ◌≡◌, ◌⊎◌, ◌≢◌, Bool, true, not, ◌&&◌, cond, List, ◌∷◌, eqb, length, replicate}
 use Rattle.words.specs.Bits.{at}
 use Rattle.words.specs.Searching.{least, is_found, among}
-use Rattle.words.specs.declared.Search.{Search}
-use Rattle.words.specs.declared.Search.TheVariants.{Found, Missing}
+use Rattle.std.specs.Prelude.{Option}
+use Rattle.std.specs.Prelude.{Some, None}
 use Rattle.network.specs.declared.Network.{Network}
 use Rattle.network.specs.Reading.{all_drivers, all_but, walking_vector, extra_vector, needs_extra, ReadAlike, sequential_response}
 use Rattle.network.specs.States.{DriverSet, few_drivers}
@@ -63,26 +63,26 @@ shown_state m set = set ∷ replicate (m - 1) 0
 -- ---- the rule computed
 
 -- the smallest set of the class, below b, that reads as b does
-unfoldable pub smaller_alike : Network → ℕ → List ℕ → ℕ → Search
+unfoldable pub smaller_alike : Network → ℕ → List ℕ → ℕ → Option ℕ
 smaller_alike net k vectors b =
     least b 0 (λ a. few_drivers net k a && eqb (sequential_response net vectors a) (sequential_response net vectors b))
 
-abbrev pub pair_with : Search → ℕ → Verdict
-pair_with (Found a) b = Pair a b
-pair_with Missing b = Pass
+abbrev pub pair_with : Option ℕ → ℕ → Verdict
+pair_with (Some a) b = Pair a b
+pair_with None b = Pass
 
-abbrev pub pair_at : Search → (ℕ → Search) → Verdict
-pair_at (Found b) smaller = pair_with (smaller b) b
-pair_at Missing smaller = Pass
+abbrev pub pair_at : Option ℕ → (ℕ → Option ℕ) → Verdict
+pair_at (Some b) smaller = pair_with (smaller b) b
+pair_at None smaller = Pass
 
 -- k below n
 unfoldable pub bounded_verdict : Network → ℕ → List ℕ → Verdict
 bounded_verdict net k vectors =
     pair_at (least (2 ^ net.nets) 0 (λ b. few_drivers net k b && is_found (smaller_alike net k vectors b))) (smaller_alike net k vectors)
 
-abbrev pub pair_without : Network → Search → Verdict
-pair_without net (Found i) = Pair (all_but net i) (all_drivers net)
-pair_without net Missing = Pass
+abbrev pub pair_without : Network → Option ℕ → Verdict
+pair_without net (Some i) = Pair (all_but net i) (all_drivers net)
+pair_without net None = Pass
 
 -- there is an extra vector, and it is not among the vectors
 unfoldable pub extra_missing : Network → List ℕ → Bool

@@ -6,7 +6,6 @@ ghost use Rattle.checker.specs.Seen.{AllRead, first_alike};
 
 use crate::Verdict;
 use network::Network;
-use words::Search;
 
 // There are so many sets of 10 drivers.
 const ALL: usize = 1024;
@@ -16,30 +15,24 @@ fn fill_readings(net: Network, vectors: &[u64], words: &mut [u64])
     requires { (length vectors.now ≤ 64) × (net.nets ≤ 10) × (2 ^ net.nets ≤ length words.old) }
     ensures { AllRead net vectors.now words.new }
 {
-    let end = words::sets::bit_word(net.nets) as usize;
-    let mut next: usize = 0;
-    while next < end {
-        let response = network::receivers::sequential_response(net, vectors, next as u64);
-        words[next] = response.0;
-        next += 1;
+    let end = words::sets::bit_word(net.nets);
+    for set in 0..end {
+        let response = network::receivers::sequential_response(net, vectors, set);
+        words[set as usize] = response.0;
     }
 }
 
 // Of the sets whose readings are given, the smallest of the class that reads so.
-fn first_alike(net: Network, class: u64, words: &[u64], word: u64) -> Search
+fn first_alike(net: Network, class: u64, words: &[u64], word: u64) -> Option<u64>
     requires { length words.now ≤ 2 ^ net.nets }
     ensures { result ≡ first_alike net class words.now word }
 {
-    let mut set: usize = 0;
-    while set < words.len() {
-        if words[set] == word {
-            if network::refusals::few_drivers(net, class, set as u64) {
-                return Search::Found(set as u64);
-            }
+    for (set, &read) in words.iter().enumerate() {
+        if read == word && network::refusals::few_drivers(net, class, set as u64) {
+            return Some(set as u64);
         }
-        set += 1;
     }
-    Search::Missing
+    None
 }
 
 // Each set of the class in ascending order, compared with all that are smaller.
@@ -50,16 +43,12 @@ pub fn plain_verdict(net: Network, class: u64, vectors: &[u64]) -> Verdict
     let end = words::sets::bit_word(net.nets) as usize;
     let mut words = [0u64; ALL];
     fill_readings(net, vectors, &mut words);
-    let mut b: usize = 0;
-    while b < end {
+    for b in 0..end {
         if network::refusals::few_drivers(net, class, b as u64) {
-            let word = words[b];
-            let found = first_alike(net, class, &words[..b], word);
-            if let Search::Found(a) = found {
+            if let Some(a) = first_alike(net, class, &words[..b], words[b]) {
                 return Verdict::Pair(a, b as u64);
             }
         }
-        b += 1;
     }
     Verdict::Pass
 }

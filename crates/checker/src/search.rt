@@ -1,125 +1,136 @@
 // The search through the sets of a class in ascending order, by their highest drivers: the sets whose highest driver is
-// c are that driver alone, and with it each set of one driver less below c. Helpers: there is room for all sets.
-ghost use Rattle.std.specs.Prelude.{◌+◌, ◌-◌, ◌^◌, ◌≤◌, length};
+// c are that driver alone, and with it each set of one driver less below c. Helpers: the table has room for all sets.
+ghost use Rattle.std.specs.Prelude.{◌≡◌, ◌+◌, ◌-◌, ◌^◌, ◌<◌, ◌≤◌, [], OnOk, IfErr, IfSome, IfNone, length};
 ghost use Rattle.std.specs.Int.Count.{ones};
 ghost use Rattle.words.specs.Searching.{sets_of_class};
-ghost use Rattle.chains.specs.Chains.{Chains};
-ghost use Rattle.checker.specs.Seen.{Seen, Branch, Outcome, Searchable};
+ghost use Rattle.words.specs.Turning.{Columns};
+ghost use Rattle.checker.specs.declared.Verdict.TheVariants.{Pair};
+ghost use Rattle.checker.specs.Rule.{bounded_verdict};
+ghost use Rattle.checker.specs.Seen.{Seen, Branch};
 
+use chains::Table;
 use network::Network;
-use words::{Search, Stv};
+use network::admitting::TestSet;
+use words::{Ptv, Stv};
 
-// What a visit of some sets comes to: a set that reads as a smaller one does, after the index of that, or how many sets
-// there are by now.
+// What is searched: the sets of a class up to 3, by what they read of these vectors.
 #[derive(Clone, Copy)]
-pub enum Visited {
-    Confused(u64, u64),
-    Count(usize),
+pub struct Search<'a> {
+    pub net: Network,
+    pub class: u64,
+    pub vectors: &'a [u64],
+    ghost vectors_most: { length vectors.now ≤ 64 },
+    ghost nets_most: { net.nets ≤ 48 },
+    ghost class_some: { 0 < class },
+    ghost class_most: { class ≤ 3 },
 }
 
-// Visits `set` with one driver more, and the sets that have up to `left` - 1 more below it. `word` is what the drivers
-// of `set` drive, and one driver more is one column more.
-#[cycle(visit_below_visit_with)]
-fn visit_with(
-    net: Network,
-    class: u64,
-    vectors: &[u64],
-    columns: &[u64; 64],
-    left: u64,
-    driver: u64,
-    set: u64,
-    word: u64,
-    words: &mut [u64],
-    links: &mut [u16],
-    heads: &mut [u16],
-    count: usize,
-) -> Visited
-    requires { Branch net class vectors.now columns.now left (driver + 1) set word
-        × Seen net class vectors.now words.old count (set + 2 ^ driver)
-        × Chains words.old links.old heads.old count
-        × (length (sets_of_class class (set + 2 ^ (driver + 1))) ≤ length words.old)
-        × (length (sets_of_class class (set + 2 ^ (driver + 1))) ≤ length links.old) }
-    ensures { Outcome net class vectors.now words.new links.new heads.new
-        (set + 2 ^ (driver + 1)) result }
-{
-    let next = set + words::sets::bit_word(driver);
-    let column = words::turning::sequential_word(columns, driver);
-    let driven = network::receivers::with_driver(net, Stv(word), column);
-    let found = chains::add(driven.0, words, links, heads, count);
-    if let Search::Found(at) = found {
-        return Visited::Confused(at, next);
-    }
-    let seen = count + 1;
-    if left == 1 {
-        return Visited::Count(seen);
-    }
-    visit_below(
-        net, class, vectors, columns, driver, next, driven.0, words, links, heads, seen,
-    )
-}
-
-// Visits the sets of the class that have the drivers of `set` and at least one more, all of these below `limit`. How
-// many at most is decided by the count of ones of `set`.
-#[cycle(visit_below_visit_with)]
-pub fn visit_below(
-    net: Network,
-    class: u64,
-    vectors: &[u64],
-    columns: &[u64; 64],
-    limit: u64,
-    set: u64,
-    word: u64,
-    words: &mut [u64],
-    links: &mut [u16],
-    heads: &mut [u16],
-    count: usize,
-) -> Visited
-    requires { Branch net class vectors.now columns.now (class - ones set) limit set word
-        × Seen net class vectors.now words.old count (set + 1)
-        × Chains words.old links.old heads.old count
-        × (length (sets_of_class class (set + 2 ^ limit)) ≤ length words.old)
-        × (length (sets_of_class class (set + 2 ^ limit)) ≤ length links.old) }
-    ensures { Outcome net class vectors.now words.new links.new heads.new
-        (set + 2 ^ limit) result }
-{
-    let left = class - words::sets::count_of_ones(set);
-    let mut seen = count;
-    let mut driver: u64 = 0;
-    while driver < limit {
-        let visited = visit_with(
-            net, class, vectors, columns, left, driver, set, word, words, links, heads, seen,
-        );
-        match visited {
-            Visited::Confused(at, other) => {
-                return Visited::Confused(at, other);
-            }
-            Visited::Count(all) => {
-                seen = all;
-            }
+impl<'a> Search<'a> {
+    // The search of a test set, where its class is up to 3.
+    pub fn of(set: TestSet<'a>) -> Option<Search<'a>>
+        ensures small { IfSome result (λ search. (search.net ≡ set.entry.nets.network)
+            × (search.class ≡ set.entry.class) × (search.vectors.now ≡ set.entry.vectors.now)) }
+        ensures large { IfNone result (3 < set.entry.class) }
+    {
+        if 3 < set.class {
+            return None;
         }
-        driver += 1;
+        Some(Search {
+            net: set.nets.network,
+            class: set.class,
+            vectors: set.vectors,
+        })
     }
-    Visited::Count(seen)
+}
+
+// A search with the sequential words of its nets.
+#[derive(Clone, Copy)]
+struct Visits<'a> {
+    search: Search<'a>,
+    columns: &'a [u64; 64],
+    ghost turned: { Columns search.net.nets search.vectors.now columns.now },
+}
+
+impl<'a> Visits<'a> {
+    // Visits `set` with one driver more, and the sets that have up to `left` - 1 more below it. `word` is what the
+    // drivers of `set` drive, and one driver more is one column more. A set that reads as a smaller one does ends the
+    // search, with that one before it.
+    #[cycle(visit_below_visit_with)]
+    fn visit_with<const WORDS: usize, const SLOTS: usize>(
+        &self,
+        table: &mut Table<WORDS, SLOTS>,
+        left: u64,
+        driver: u64,
+        set: u64,
+        word: Stv,
+    ) -> Result<(), (u64, u64)>
+        requires { let s = self.now.search in
+            Branch s.net s.class s.vectors.now left (driver + 1) set word.0
+            × Seen s.net s.class s.vectors.now table.old (set + 2 ^ driver)
+            × (length (sets_of_class s.class (set + 2 ^ (driver + 1))) ≤ WORDS) }
+        ensures seen { let s = self.now.search in
+            OnOk result (Seen s.net s.class s.vectors.now table.new (set + 2 ^ (driver + 1))) }
+        ensures confused { let s = self.now.search in
+            IfErr result (λ pair. bounded_verdict s.net s.class s.vectors.now ≡ Pair pair.0 pair.1) }
+    {
+        let next = set + words::sets::bit_word(driver);
+        let column = words::turning::turned_word::<Ptv>(self.columns, driver);
+        let driven = network::receivers::with_driver(self.search.net, word, column);
+        if let Some(at) = table.add(driven.0) {
+            return Err((words::ranks::set_at(self.search.class, at), next));
+        }
+        if left == 1 {
+            return Ok(());
+        }
+        self.visit_below(table, driver, next, driven)
+    }
+
+    // Visits the sets of the class that have the drivers of `set` and at least one more, all of these below `limit`. How
+    // many at most is decided by the count of ones of `set`.
+    #[cycle(visit_below_visit_with)]
+    fn visit_below<const WORDS: usize, const SLOTS: usize>(
+        &self,
+        table: &mut Table<WORDS, SLOTS>,
+        limit: u64,
+        set: u64,
+        word: Stv,
+    ) -> Result<(), (u64, u64)>
+        requires { let s = self.now.search in
+            Branch s.net s.class s.vectors.now (s.class - ones set) limit set word.0
+            × Seen s.net s.class s.vectors.now table.old (set + 1)
+            × (length (sets_of_class s.class (set + 2 ^ limit)) ≤ WORDS) }
+        ensures seen { let s = self.now.search in
+            OnOk result (Seen s.net s.class s.vectors.now table.new (set + 2 ^ limit)) }
+        ensures confused { let s = self.now.search in
+            IfErr result (λ pair. bounded_verdict s.net s.class s.vectors.now ≡ Pair pair.0 pair.1) }
+    {
+        let left = self.search.class - words::sets::count_of_ones(set);
+        for driver in 0..limit {
+            self.visit_with(table, left, driver, set, word)?;
+        }
+        Ok(())
+    }
 }
 
 // Visits all sets of the class. The empty one comes first: it reads what a floating receiver does.
-pub fn visit_all(
-    net: Network,
-    class: u64,
-    vectors: &[u64],
-    words: &mut [u64],
-    links: &mut [u16],
-    heads: &mut [u16],
-) -> Visited
-    requires { Searchable net class vectors.now words.old links.old heads.old }
-    ensures { Outcome net class vectors.now words.new links.new heads.new
-        (2 ^ net.nets) result }
+pub fn visit_all<const WORDS: usize, const SLOTS: usize>(
+    search: Search,
+    table: &mut Table<WORDS, SLOTS>,
+) -> Result<(), (u64, u64)>
+    requires { (table.old ≡ [])
+        × (length (sets_of_class search.class (2 ^ search.net.nets)) ≤ WORDS) }
+    ensures seen { let s = search.entry in
+        OnOk result (Seen s.net s.class s.vectors.now table.new (2 ^ s.net.nets)) }
+    ensures confused { let s = search.entry in
+        IfErr result (λ pair. bounded_verdict s.net s.class s.vectors.now ≡ Pair pair.0 pair.1) }
 {
-    let columns = words::turning::columns(vectors, net.nets);
-    let floating = network::receivers::sequential_response(net, vectors, 0);
-    let none = network::receivers::no_drivers(net, vectors);
-    chains::add(floating.0, words, links, heads, 0);
-    visit_below(
-        net, class, vectors, &columns, net.nets, 0, none.0, words, links, heads, 1,
-    )
+    let columns = words::turning::columns::<Ptv>(search.vectors, search.net.nets);
+    let floating = network::receivers::sequential_response(search.net, search.vectors, 0);
+    let none = network::receivers::no_drivers(search.net, search.vectors);
+    table.add(floating.0);
+    let visits = Visits {
+        search,
+        columns: &columns,
+    };
+    visits.visit_below(table, search.net.nets, 0, none)
 }

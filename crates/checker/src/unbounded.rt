@@ -6,7 +6,7 @@ ghost use Rattle.network.specs.Reading.{walking_vector, extra_vector};
 ghost use Rattle.checker.specs.Rule.{full_verdict};
 
 use crate::Verdict;
-use network::Network;
+use network::admitting::Nets;
 
 // Whether the extra vector is there, and the drivers whose walking vectors are.
 #[derive(Clone, Copy)]
@@ -16,36 +16,29 @@ struct Walked {
 }
 
 // What one pass over the vectors finds.
-fn walked_by(net: Network, vectors: &[u64]) -> Walked
-    requires { net.nets ≤ 48 }
-    ensures { (result.extra ≡ among (extra_vector net) vectors.now)
-        × (result.drivers < 2 ^ net.nets)
-        × ((i : ℕ) → i < net.nets → has result.drivers i ≡ among (walking_vector net i) vectors.now) }
+fn walked_by(nets: Nets, vectors: &[u64]) -> Walked
+    ensures { (result.extra ≡ among (extra_vector nets.network) vectors.now)
+        × (result.drivers < 2 ^ nets.network.nets)
+        × ((i : ℕ) → i < nets.network.nets
+        → has result.drivers i ≡ among (walking_vector nets.network i) vectors.now) }
 {
-    let none = network::drivers::extra_vector(net);
+    let none = nets.extra_vector();
     let mut extra = false;
     let mut drivers: u64 = 0;
-    let mut t: usize = 0;
-    while t < vectors.len() {
-        let vector = vectors[t];
-        extra = extra | (vector == none.0);
-        drivers |= network::drivers::walked_driver(net, vector);
-        t += 1;
+    for &vector in vectors {
+        extra |= vector == none.0;
+        drivers |= nets.walked_driver(vector);
     }
-    Walked {
-        extra: extra,
-        drivers: drivers,
-    }
+    Walked { extra, drivers }
 }
 
 // Whether the extra vector, if there is one, and the walking vector of each net are there.
-pub fn full_verdict(net: Network, vectors: &[u64]) -> Verdict
-    requires { net.nets ≤ 48 }
-    ensures { result ≡ full_verdict net vectors.now }
+pub fn full_verdict(nets: Nets, vectors: &[u64]) -> Verdict
+    ensures { result ≡ full_verdict nets.network vectors.now }
 {
-    let all = network::drivers::all_drivers(net);
-    let needed = network::drivers::needs_extra(net);
-    let there = walked_by(net, vectors);
+    let all = nets.all_drivers();
+    let needed = network::drivers::needs_extra(nets.network);
+    let there = walked_by(nets, vectors);
     if needed & !there.extra {
         return Verdict::Pair(0, all);
     }
@@ -54,5 +47,5 @@ pub fn full_verdict(net: Network, vectors: &[u64]) -> Verdict
         return Verdict::Pass;
     }
     let i = words::sets::lowest_net(missing);
-    Verdict::Pair(network::drivers::all_but(net, i), all)
+    Verdict::Pair(nets.all_but(i), all)
 }

@@ -1,75 +1,54 @@
--- Laws of numbers in base ten.
-use Prim.Native.Nat.{ℕ, zero, suc, ◌-◌, ◌/◌, ◌%◌, ◌<◌, ◌≤◌, ◌^◌, zero-le}
-use native.Mathlib.Nat.{not-suc-le-zero, le_of_suc-le-suc}
-use native.Mathlib.Omega.{arith}
-use mathlib.Core.Path.{◌≡◌, refl, sym, ap, ◌∙◌}
-use mathlib.Core.Logic.{◌≢◌}
-use mathlib.Core.Bool.{Bool, true, false, cond}
-use mathlib.Core.List.{List, [], ◌∷◌, ◌++◌, append_assoc}
-use lib.Dec.{eqb, ltb}
-use lib.ListN.{length, length-append, drop, set, drop_of_length-le}
-use borrow.Author.Tests.{ne_eqb, ltb-true, ltb-false}
-use Rattle.decimal.specs.Decimal.{digit_byte, digits, decimal}
+-- Laws of numbers in base ten, and how long they are.
+use Rattle.std.proofs.Common.{ℕ, zero, suc, ◌+◌, ◌*◌, ◌/◌, ◌%◌, ◌<◌, ◌≤◌, ◌^◌, ◌≡◌, ◌≢◌, refl, sym, ap, ◌∙◌, arith}
+use Rattle.std.proofs.Common.{zero-le, Bool, true, false, List, [], ◌∷◌, ◌++◌, length, drop, get_or, length-append}
+use Rattle.std.proofs.Common.{drop-cons, ltb, ltb-true, ltb-false}
+use Rattle.decimal.specs.Decimal.{digit_byte, digits, decimal, spaced, numbers_end}
 
--- the digits of a number, and none for 0
-abbrev pub higher : ℕ → ℕ → List ℕ
-higher most n = cond (eqb n 0) [] (digits most n)
-
--- a number is its higher digits and then its last one
-digits_step : (most n : ℕ) → digits (suc most) n ≡ higher most (n / 10) ++ digit_byte (n % 10) ∷ []
+-- the last digit stands alone, or after those of the rest
+short : (most n : ℕ) → n < 10 → digits (suc most) n ≡ digit_byte n ∷ []
 unfolding digits
-digits_step most n = go (ltb n 10) refl
+short most n l = go (ltb n 10) refl
   where
     go : (b : Bool) → ltb n 10 ≡ b
-        → elim b as (λ _. List ℕ) [
-          | true ↦ digit_byte n ∷ []
-          | false ↦ digits most (n / 10) ++ digit_byte (n % 10)
-              ∷ []
-        ] ≡ higher most (n / 10) ++ digit_byte (n % 10) ∷ []
-    go true e =
-        let l = ltb-true n 10 e in
-        let q : n / 10 ≡ 0 = omega arith in
-        let r : n % 10 ≡ n = omega arith in rw (q, r)
-    go false e =
-        let l = ltb-false n 10 e in
-        let q : n / 10 ≢ 0 = λ z. (omega arith) in rw (ne_eqb (n / 10) 0 q)
+        → elim b as (λ _. List ℕ) [ true ↦ digit_byte n ∷ [] | false ↦ digits most (n / 10) ++ digit_byte (n % 10) ∷ [] ]
+        ≡ digit_byte n ∷ []
+    go true e = refl
+    go false e = let m = ltb-false n 10 e in absurd (omega arith)
 
-higher_step : (most n : ℕ) → n ≢ 0 → higher (suc most) n ≡ higher most (n / 10) ++ digit_byte (n % 10) ∷ []
-higher_step most n d = rw (ne_eqb n 0 d) (digits_step most n)
+long : (most n : ℕ) → 10 ≤ n → digits (suc most) n ≡ digits most (n / 10) ++ digit_byte (n % 10) ∷ []
+unfolding digits
+long most n l = go (ltb n 10) refl
+  where
+    go : (b : Bool) → ltb n 10 ≡ b
+        → elim b as (λ _. List ℕ) [ true ↦ digit_byte n ∷ [] | false ↦ digits most (n / 10) ++ digit_byte (n % 10) ∷ [] ]
+        ≡ digits most (n / 10) ++ digit_byte (n % 10) ∷ []
+    go true e = let m = ltb-true n 10 e in absurd (omega arith)
+    go false e = refl
 
--- the list from an entry on, after that entry is set
-drop_set : (list : List ℕ) (i x : ℕ) → i < length list → drop i (set list i x) ≡ x ∷ drop (suc i) list
-drop_set [] i x l = absurd (not-suc-le-zero l)
-drop_set (y ∷ list) zero x l = refl
-drop_set (y ∷ list) (suc i) x l = drop_set list i x (le_of_suc-le-suc l)
+-- one digit more is allowed in vain, where there are enough
+enough : (most n : ℕ) → n < 10 ^ most → n ≢ 0 → digits (suc most) n ≡ digits most n
+enough zero n l some = absurd (some (omega arith))
+enough (suc most) n l some = go (ltb n 10) refl (enough most (n / 10))
+  where
+    go : (b : Bool) → ltb n 10 ≡ b → (n / 10 < 10 ^ most → n / 10 ≢ 0 → digits (suc most) (n / 10) ≡ digits most (n / 10))
+        → digits (suc (suc most)) n ≡ digits (suc most) n
+    go true e more = let m = ltb-true n 10 e in short (suc most) n m ∙ sym (short most n m)
+    go false e more =
+        let m = ltb-false n 10 e in
+        let q : n / 10 ≢ 0 = λ z. (omega arith) in
+        let low : n / 10 < 10 ^ most = omega arith in
+        long (suc most) n m ∙ ap (λ (high : List ℕ). high ++ digit_byte (n % 10) ∷ []) (more low q) ∙ sym (long most n m)
 
--- one turn of the loop that puts digits from the end on: where it stands, and the digits put
-module _ (text buffer : List ℕ) (size : length buffer ≡ 20) where
-  pub next_digit : (start rest : ℕ) → start ≤ 19 → rest < 10 ^ start → rest ≢ 0 → text ≡ higher start rest ++ drop start buffer
-      → (1 ≤ start) × (rest / 10 < 10 ^ (start - 1))
-      × (text ≡ higher (start - 1) (rest / 10)
-      ++ drop (start - 1) (set buffer (start - 1) (digit_byte (rest % 10))))
-  next_digit zero rest short low some e = absurd (some (omega arith))
-  next_digit (suc m) rest short low some e =
-      let less : suc m - 1 ≡ m = omega arith in
-      let tenth : rest / 10 < 10 ^ m = omega arith in
-      let digit : drop m (set buffer m (digit_byte (rest % 10))) ≡ digit_byte (rest % 10) ∷ drop (suc m) buffer =
-      drop_set buffer m _ (omega (arith, size)) in (
-        omega arith,
-        rw less tenth,
-        rw (less, digit)
-            (e ∙ ap (λ (high : List ℕ). high ++ drop (suc m) buffer) (higher_step m rest some)
-            ∙ append_assoc (higher m (rest / 10)) (digit_byte (rest % 10) ∷ []) (drop (suc m) buffer)),
-      )
-
--- before the loop: the last digit stands at the end
-pub first_digit : (n : ℕ) (buffer : List ℕ) → length buffer ≡ 20
-    → decimal n ≡ higher 19 (n / 10) ++ drop 19 (set buffer 19 (digit_byte (n % 10)))
+pub decimal_digit : (n : ℕ) → n < 10 → decimal n ≡ digit_byte n ∷ []
 unfolding decimal
-first_digit n buffer size =
-    let rest : drop 20 buffer ≡ [] = drop_of_length-le buffer {i = 20} (omega (arith, size)) in
-    digits_step 19 n ∙ sym (ap (λ (low : List ℕ). higher 19 (n / 10) ++ low)
-    (drop_set buffer 19 _ (omega (arith, size)) ∙ ap (λ (after : List ℕ). digit_byte (n % 10) ∷ after) rest))
+decimal_digit n l = short 19 n l
+
+pub decimal_step : (n : ℕ) → 10 ≤ n → n < 2 ^ 64 → decimal n ≡ decimal (n / 10) ++ digit_byte (n % 10) ∷ []
+unfolding decimal
+decimal_step n l fits =
+    let low : n / 10 < 10 ^ 19 = omega arith in
+    let some : n / 10 ≢ 0 = λ z. (omega arith) in
+    long 19 n l ∙ ap (λ (high : List ℕ). high ++ digit_byte (n % 10) ∷ []) (sym (enough 19 (n / 10) low some))
 
 -- ---- lengths
 
@@ -91,3 +70,19 @@ digits_most (suc most) n = go (ltb n 10) (digits_most most (n / 10))
 pub decimal_most : (n : ℕ) → length (decimal n) ≤ 20
 unfolding decimal
 decimal_most n = digits_most 20 n
+
+pub numbers_most : (numbers : List ℕ) → length (numbers_end numbers) ≤ 21 * length numbers + 1
+unfolding numbers_end
+numbers_most [] = omega arith
+numbers_most (n ∷ ns) =
+    let most = decimal_most n in
+    let more = numbers_most ns in
+    let both = length-append (spaced n) (numbers_end ns) in
+    omega arith
+
+-- ---- a line of numbers, from an index on
+
+pub numbers_next : (numbers : List ℕ) (i : ℕ) → i < length numbers
+    → numbers_end (drop i numbers) ≡ spaced (get_or numbers i 0) ++ numbers_end (drop (i + 1) numbers)
+unfolding numbers_end
+numbers_next numbers i l = let one : i + 1 ≡ suc i = omega arith in rw (one, drop-cons numbers i 0 l)

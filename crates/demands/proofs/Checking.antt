@@ -1,9 +1,5 @@
 -- A program whose verdict is document 01's rule keeps demand 3's first half; ours is one, and there is no other.
-use mathlib.Core.Path.{◌≡◌, refl, sym}
-use mathlib.Core.List.{List}
-use Prim.Native.Nat.{ℕ, ◌≤◌}
-use native.Mathlib.Omega.{arith}
-use lib.ListN.{length}
+use Rattle.std.proofs.Common.{◌≡◌, refl, sym, List, ℕ, ◌≤◌, arith, length}
 use Rattle.words.specs.Answers.{NoneHolds}
 use Rattle.words.proofs.Answers.{table_implies}
 use Rattle.network.specs.declared.Network.{Network}

@@ -1,8 +1,5 @@
 -- The cases of classes: which there are by the row's own words, the rest by computation.
-use mathlib.Core.Path.{◌≡◌, refl}
-use mathlib.Core.Logic.{◌⊎◌, inl, inr, ⊎_elim}
-use Prim.Native.Nat.{ℕ, ◌≤◌, ◌<◌}
-use native.Mathlib.Omega.{arith}
+use Rattle.std.proofs.Common.{◌≡◌, refl, ◌⊎◌, inl, inr, ⊎_elim, ℕ, ◌≤◌, ◌<◌, arith}
 use Rattle.words.proofs.Tests.{less_or_not, three_ways}
 use Rattle.network.specs.declared.Network.{Network}
 use Rattle.network.specs.Rows.{NamedClass, Row6}

@@ -1,8 +1,5 @@
 -- Our answers to *write clocks* and *read clocks* keep their promises, and no other programs do.
-use mathlib.Core.Path.{◌≡◌, refl, sym, ◌∙◌}
-use mathlib.Core.List.{List}
-use Prim.Native.Nat.{ℕ}
-use lib.ListN.{length}
+use Rattle.std.proofs.Common.{◌≡◌, refl, sym, ◌∙◌, List, ℕ, length}
 use Rattle.words.specs.Answers.{Answer, ByTable}
 use Rattle.words.proofs.Answers.{fills_determined, table_determined}
 use Rattle.scan_chain.specs.Scans.{all_zero, clocks}

@@ -1,12 +1,6 @@
 -- Demand 1, of all our calls.
-use Prim.Native.Nat.{ℕ}
-use native.Mathlib.Omega.{arith}
-use mathlib.Core.Path.{◌≡◌, refl, sym, ap, ap₂, ◌∙◌, subst}
-use mathlib.Core.Logic.{◌⊎◌, ◌≢◌, ◌↔◌, inl, inr, ⊎_elim}
-use mathlib.Core.Bool.{Bool, true, false, cond}
-use mathlib.Core.List.{List, [], ◌∷◌, ◌++◌, map}
-use lib.Dec.{eqb}
-use lib.ListN.{length}
+use Rattle.std.proofs.Common.{ℕ, arith, ◌≡◌, refl, sym, ap, ap₂, ◌∙◌, subst, ◌⊎◌, ◌≢◌, ◌↔◌, inl, inr, ⊎_elim, Bool}
+use Rattle.std.proofs.Common.{true, false, cond, List, [], ◌∷◌, ◌++◌, map, eqb, length}
 use Rattle.words.specs.Answers.{Answer, refused, full, ByTable, NoneHolds, lent_after, count_of, Filled, FillsByTable}
 use Rattle.words.proofs.Tests.{cases, contrary}
 use Rattle.words.proofs.Answers.{table_implies, front_written}

@@ -1,10 +1,6 @@
 -- Our answer to *diagnosis* keeps demand 2, and no other program does.
-use mathlib.Core.Path.{◌≡◌, refl, sym, ap, ◌∙◌, subst}
-use mathlib.Core.Logic.{◌⊎◌, inl, inr, ◌↔◌}
-use mathlib.Core.Bool.{false}
-use mathlib.Core.List.{List, [], ◌∷◌}
-use Prim.Native.Nat.{ℕ}
-use lib.ListN.{length, take, replicate}
+use Rattle.std.proofs.Common.{◌≡◌, refl, sym, ap, ◌∙◌, subst, ◌⊎◌, inl, inr, ◌↔◌, false, List, [], ◌∷◌, ℕ, length}
+use Rattle.std.proofs.Common.{take, replicate}
 use Rattle.words.specs.Answers.{Answer, refused, full, ByTable, NoneHolds, lent_after, count_of}
 use Rattle.words.proofs.Answers.{table_full, table_skip, none_front, none_rest, front_written, fills_determined, refused_not_full}
 use Rattle.network.specs.declared.Network.{Network}

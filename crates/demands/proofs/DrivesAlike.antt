@@ -1,10 +1,5 @@
 -- The part to drive: nothing is left open.
-use Prim.Native.Nat.{ℕ}
-use native.Mathlib.Omega.{arith}
-use mathlib.Core.Path.{◌≡◌, sym, ◌∙◌, subst}
-use mathlib.Core.Logic.{inl, inr, ⊎_elim}
-use mathlib.Core.Bool.{true, false}
-use mathlib.Core.List.{List, []}
+use Rattle.std.proofs.Common.{ℕ, arith, ◌≡◌, sym, ◌∙◌, subst, inl, inr, ⊎_elim, true, false, List, []}
 use Rattle.words.proofs.Tests.{cases, contrary}
 use Rattle.session.specs.declared.Session.{Session}
 use Rattle.session.specs.Record.{awaits_first, awaits_second}

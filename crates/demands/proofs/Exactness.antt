@@ -1,15 +1,9 @@
 -- The reader accepts exactly the writer's files and returns their content.
-use mathlib.Core.Path.{◌≡◌, refl, sym, ap, ap₂, ◌∙◌, subst}
-use mathlib.Core.Bool.{Bool, true, false, not, cond, ◌&&◌, ◌||◌, false≢true}
-use mathlib.Core.Logic.{inl, inr, ⊎_elim}
-use mathlib.Core.List.{List, [], ◌∷◌, ◌++◌}
-use Prim.Native.Nat.{ℕ, ◌+◌, ◌^◌, ◌≤◌, ◌<◌}
-use native.Mathlib.Nat.{not-suc-le-zero}
-use native.Mathlib.Omega.{arith}
-use lib.Dec.{eqb}
-use lib.ListN.{length, take}
-use lib.Pow.{pow_mono}
-use borrow.Author.Tests.{eqb-true, eq-eqb, le-ltb, not-false}
+use Rattle.std.proofs.Common.{◌≡◌, refl, sym, ap, ap₂, ◌∙◌, subst, Bool, true, false, not, cond, ◌&&◌, ◌||◌, inl, inr}
+use Rattle.std.proofs.Common.{⊎_elim, List, [], ◌∷◌, ◌++◌, ℕ, ◌+◌, ◌^◌, ◌≤◌, ◌<◌, not-suc-le-zero, arith, eqb, length}
+use Rattle.std.proofs.Common.{take, pow_mono, eqb-true, eq-eqb, le-ltb}
+use mathlib.Core.Bool.{false≢true}
+use borrow.Author.Tests.{not-false}
 use Rattle.words.specs.Bits.{at}
 use Rattle.words.specs.Answers.{Answer, full, by_tests, NoneHolds, Decided}
 use Rattle.words.proofs.Tests.{cases, test_passes, test_fails, equal_if_not_unequal}

@@ -1,5 +1,5 @@
 -- The example files and the bounds of job files, by computation.
-use mathlib.Core.Path.{refl}
+use Rattle.std.proofs.Common.{refl}
 use Rattle.reader.specs.Open.{open_reader}
 use Rattle.writer.specs.Open.{open_writer}
 use Rattle.listing.specs.Open.{open_listing}

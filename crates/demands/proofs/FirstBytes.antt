@@ -1,13 +1,7 @@
 -- What follows the first bytes of a file does not change its report: a file with more is refused by its mark or as too
 -- long.
-use Prim.Native.Nat.{ℕ, ◌<◌}
-use native.Mathlib.Omega.{arith}
-use mathlib.Core.Path.{◌≡◌, sym, ap, ◌∙◌}
-use mathlib.Core.Logic.{⊎_elim}
-use mathlib.Core.Bool.{true, not, cond}
-use mathlib.Core.List.{List}
-use lib.ListN.{length, take}
-use lib.Seq.{take-take, take_all, length-take-le}
+use Rattle.std.proofs.Common.{ℕ, ◌<◌, arith, ◌≡◌, sym, ap, ◌∙◌, ⊎_elim, true, not, cond, List, length, take}
+use Rattle.std.proofs.Common.{take-take, take_all, length-take-le}
 use Rattle.words.specs.Answers.{Answer, refused, by_tests}
 use Rattle.words.proofs.Tests.{less_or_not, test_passes}
 use Rattle.jobfile.specs.Layout.{mark, most_bytes, same_bytes, bad_layout}

@@ -1,8 +1,5 @@
 -- What a call that fills a list returned and wrote, and its answer: each from the other.
-use mathlib.Core.Path.{◌≡◌, sym, ap, ◌∙◌}
-use mathlib.Core.List.{List}
-use Prim.Native.Nat.{ℕ}
-use lib.ListN.{length, take}
+use Rattle.std.proofs.Common.{◌≡◌, sym, ap, ◌∙◌, List, ℕ, length, take}
 use Rattle.words.specs.Answers.{Answer, full, lent_after, count_of}
 use Rattle.words.proofs.Answers.{counted_full, front_written}
 

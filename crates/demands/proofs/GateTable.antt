@@ -1,14 +1,7 @@
 -- The cases of the gate: reading, clear nets and row 20 by laws, the rest by computation.
-use Prim.Native.Nat.{ℕ, ◌+◌, ◌-◌, ◌≤◌, ◌<◌}
-use mathlib.Core.Path.{◌≡◌, refl, sym, ap, ◌∙◌, subst}
-use mathlib.Core.Bool.{true, false, not}
-use mathlib.Core.Logic.{⊎_elim, ◌≢◌}
-use mathlib.Core.List.{List}
-use native.Mathlib.Nat.{not-suc-le-zero}
-use native.Mathlib.Omega.{arith}
-use lib.Dec.{eqb}
-use lib.ListN.{length}
-use borrow.Author.Tests.{eqb-true, eqb-false, ne_eqb, not-true, not-false}
+use Rattle.std.proofs.Common.{ℕ, ◌+◌, ◌-◌, ◌≤◌, ◌<◌, ◌≡◌, refl, sym, ap, ◌∙◌, subst, true, false, not, ⊎_elim, ◌≢◌}
+use Rattle.std.proofs.Common.{List, not-suc-le-zero, arith, eqb, length, eqb-true, ne_eqb}
+use borrow.Author.Tests.{eqb-false, not-true, not-false}
 use Rattle.words.specs.Bits.{has, at}
 use Rattle.words.proofs.Tests.{cases, not_not, same_truth, less_or_not}
 use Rattle.network.specs.declared.Network.{Network}

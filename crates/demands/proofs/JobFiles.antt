@@ -1,8 +1,5 @@
 -- Our reader and our writer keep the promises on job files, and no other programs do.
-use Prim.Native.Nat.{ℕ, ◌≤◌}
-use mathlib.Core.Path.{◌≡◌, refl, sym, ap, ap₂, ◌∙◌}
-use mathlib.Core.List.{List}
-use lib.ListN.{length, take}
+use Rattle.std.proofs.Common.{ℕ, ◌≤◌, ◌≡◌, refl, sym, ap, ap₂, ◌∙◌, List, length, take}
 use Rattle.words.specs.Answers.{Answer, full, lent_after}
 use Rattle.words.proofs.Answers.{front_written, fills_determined}
 use Rattle.network.specs.declared.Network.{Network}

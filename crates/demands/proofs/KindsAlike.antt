@@ -1,12 +1,7 @@
 -- The two kinds of job files: one content is read alike and reported alike, how long a file can be, and that the words
 -- of kind 4 are turned.
-use mathlib.Core.Path.{◌≡◌, refl, sym, ap, ◌∙◌, subst, subst₂}
-use mathlib.Core.Bool.{Bool, true, false}
-use mathlib.Core.List.{List, [], ◌∷◌}
-use Prim.Native.Nat.{ℕ}
-use native.Mathlib.Omega.{arith}
-use lib.ListN.{length}
-use borrow.Author.Tests.{eq-eqb}
+use Rattle.std.proofs.Common.{◌≡◌, refl, sym, ap, ◌∙◌, subst, subst₂, Bool, true, false, List, [], ◌∷◌, ℕ, arith}
+use Rattle.std.proofs.Common.{length, eq-eqb}
 use Rattle.words.specs.Answers.{Answer, full, lent_after, by_tests}
 use Rattle.words.proofs.Answers.{none_passed}
 use Rattle.words.proofs.Columns.{transpose_size}

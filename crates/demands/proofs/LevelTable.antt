@@ -1,6 +1,5 @@
 -- The cases of the soft level, by computation.
-use mathlib.Core.Path.{refl, sym, ◌∙◌}
-use native.Mathlib.Omega.{arith}
+use Rattle.std.proofs.Common.{refl, sym, ◌∙◌, arith}
 use Rattle.network.specs.Reading.{network_with}
 use Rattle.network.proofs.Reading.{reads_driven}
 use Rattle.network.proofs.Rows.{is_bit, above_bits}

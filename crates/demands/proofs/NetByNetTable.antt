@@ -1,8 +1,5 @@
 -- The cases of turning and of sets stored net by net, by computation.
-use mathlib.Core.Path.{◌≡◌, refl}
-use mathlib.Core.Logic.{◌≢◌, ⊎_elim}
-use mathlib.Core.List.{List}
-use Prim.Native.Nat.{ℕ}
+use Rattle.std.proofs.Common.{◌≡◌, refl, ◌≢◌, ⊎_elim, List, ℕ}
 use Rattle.words.specs.Answers.{refused, by_tests}
 use Rattle.words.proofs.Tests.{decides_not, test_passes}
 use Rattle.network.specs.declared.Network.{Network}

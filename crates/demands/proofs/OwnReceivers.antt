@@ -1,8 +1,5 @@
 -- Our answer to *own receivers* keeps its promise, and no other program does.
-use mathlib.Core.Path.{◌≡◌, refl}
-use mathlib.Core.List.{List}
-use Prim.Native.Nat.{ℕ}
-use lib.ListN.{length}
+use Rattle.std.proofs.Common.{◌≡◌, refl, List, ℕ, length}
 use Rattle.words.proofs.Answers.{fills_determined}
 use Rattle.network.specs.OwnReceivers.{OwnReceivers, OwnReceiversRows, own_receivers_answer}
 use Rattle.network.proofs.OwnReceivers.{own_receivers_by_table, own_receivers_determined}

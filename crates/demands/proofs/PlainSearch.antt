@@ -1,5 +1,5 @@
 -- The plain search and the call *check* agree.
-use mathlib.Core.Path.{◌≡◌, sym, ap, ◌∙◌}
+use Rattle.std.proofs.Common.{◌≡◌, sym, ap, ◌∙◌}
 use Rattle.words.specs.Answers.{full}
 use Rattle.network.proofs.Rows.{admitted_set}
 use Rattle.checker.specs.declared.Verdict.TheVariants.{Pass}

@@ -1,9 +1,5 @@
 -- What our clocks do, played into a chain, and what is read and diagnosed of a board behind it.
-use mathlib.Core.Path.{◌≡◌, refl, sym, subst, ap, ◌∙◌}
-use mathlib.Core.List.{List}
-use Prim.Native.Nat.{ℕ, ◌≤◌, ◌<◌, ◌^◌}
-use native.Mathlib.Omega.{arith}
-use lib.ListN.{length, take}
+use Rattle.std.proofs.Common.{◌≡◌, refl, sym, subst, ap, ◌∙◌, List, ℕ, ◌≤◌, ◌<◌, ◌^◌, arith, length, take}
 use Rattle.words.specs.Answers.{full, ByTable, NoneHolds, lent_after}
 use Rattle.words.specs.Bits.{at}
 use Rattle.words.proofs.Answers.{table_none_holds}

@@ -1,10 +1,8 @@
 -- Bytes, numbers, words and entries read from a file: what was put is read, and what is read is what stands there.
-use mathlib.Core.Path.{◌≡◌, refl, sym, ap, ap₂, ◌∙◌}
-use mathlib.Core.List.{List, [], ◌∷◌, ◌++◌, append_assoc}
-use Prim.Native.Nat.{ℕ, zero, suc, ◌+◌, ◌*◌, ◌-◌, ◌^◌, ◌≤◌, ◌<◌, suc-le-suc}
-use native.Mathlib.Omega.{arith}
-use lib.ListN.{length, take, drop, take-append-drop, length-drop}
-use lib.Seq.{length-take-le, take_at, drop_at, drop-drop, drop-cons, get_or-take, get_or-drop}
+use Rattle.std.proofs.Common.{◌≡◌, refl, sym, ap, ap₂, ◌∙◌, List, [], ◌∷◌, ◌++◌, append_assoc, ℕ, zero, suc, ◌+◌, ◌*◌}
+use Rattle.std.proofs.Common.{◌-◌, ◌^◌, ◌≤◌, ◌<◌, suc-le-suc, arith, length, take, drop, take-append-drop}
+use Rattle.std.proofs.Common.{length-drop, length-take-le, take_at, drop_at, drop-drop, drop-cons, get_or-take}
+use Rattle.std.proofs.Common.{get_or-drop}
 use Rattle.words.specs.Bits.{at}
 use Rattle.words.specs.Turning.{tabulate}
 use Rattle.jobfile.specs.Bytes.{number_of, bytes_of, word_bytes, number_at, words_at, AllBytes}

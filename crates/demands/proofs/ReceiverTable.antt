@@ -1,7 +1,5 @@
 -- The cases of several receivers on a net: that none of 64 bits is too high by a law, the rest by computation.
-use mathlib.Core.Path.{refl}
-use mathlib.Core.List.{[], ◌∷◌}
-use native.Mathlib.Omega.{arith}
+use Rattle.std.proofs.Common.{refl, [], ◌∷◌, arith}
 use Rattle.findings.specs.Open.{open_findings}
 use Rattle.steps.proofs.BothSteps.{decides_clear}
 use Rattle.session.specs.Open.{open_session}

@@ -1,10 +1,5 @@
 -- Each wrong program fails its demand at one small input.
-use mathlib.Core.Path.{◌≡◌, refl, sym, ap}
-use mathlib.Core.Logic.{◌≢◌}
-use mathlib.Core.List.{List, [], ◌∷◌}
-use Prim.Native.Nat.{ℕ}
-use native.Mathlib.Omega.{arith}
-use lib.ListN.{length}
+use Rattle.std.proofs.Common.{◌≡◌, refl, sym, ap, ◌≢◌, List, [], ◌∷◌, ℕ, arith, length}
 use Rattle.words.specs.Answers.{refused, full, Filled, NoneHolds}
 use Rattle.words.specs.Bits.{at}
 use Rattle.words.proofs.Answers.{let_through, table_full, table_not_refused}

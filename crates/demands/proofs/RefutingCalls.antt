@@ -1,9 +1,5 @@
 -- Each of two programs fails demand 1 at one small input that it refuses.
-use Prim.Native.Nat.{ℕ}
-use native.Mathlib.Omega.{arith}
-use mathlib.Core.Path.{◌≡◌, refl, ap}
-use mathlib.Core.Logic.{⊎_elim}
-use mathlib.Core.List.{List, [], ◌∷◌}
+use Rattle.std.proofs.Common.{ℕ, arith, ◌≡◌, refl, ap, ⊎_elim, List, [], ◌∷◌}
 use Rattle.words.specs.Bits.{at}
 use Rattle.words.proofs.Answers.{refused_not_full}
 use Rattle.session.specs.declared.Session.{Session}

@@ -1,10 +1,5 @@
 -- Each wrong program for the clocks of a chain fails its promise at one input.
-use Prim.Native.Nat.{ℕ, ◌<◌}
-use native.Mathlib.Omega.{arith}
-use mathlib.Core.Path.{◌≡◌, refl, sym, ap, ◌∙◌}
-use mathlib.Core.List.{List, [], ◌∷◌, ◌++◌}
-use lib.ListN.{length, replicate}
-use borrow.Author.Tests.{eq-eqb}
+use Rattle.std.proofs.Common.{ℕ, ◌<◌, arith, ◌≡◌, refl, sym, ap, ◌∙◌, List, [], ◌∷◌, ◌++◌, length, replicate, eq-eqb}
 use Rattle.words.specs.Answers.{Answer, refused, full, Filled}
 use Rattle.words.specs.Bits.{at}
 use Rattle.words.proofs.Answers.{refused_not_full}

@@ -1,10 +1,5 @@
 -- Each wrong program for *findings* leaves another table than ours at one small input.
-use mathlib.Core.Path.{◌≡◌, ap}
-use mathlib.Core.Logic.{◌≢◌}
-use mathlib.Core.List.{List, [], ◌∷◌}
-use Prim.Native.Nat.{ℕ}
-use native.Mathlib.Omega.{arith}
-use lib.ListN.{get_or}
+use Rattle.std.proofs.Common.{◌≡◌, ap, ◌≢◌, List, [], ◌∷◌, ℕ, arith, get_or}
 use Rattle.words.specs.Answers.{Filled}
 use Rattle.findings.specs.declared.Finding.{Finding}
 use Rattle.findings.specs.Open.{open_findings}

@@ -1,13 +1,6 @@
 -- Each wrong program for turning and for the kinds of job files fails its promise at one input.
-use Prim.Native.Nat.{ℕ, zero, suc, ◌^◌}
-use native.Mathlib.Nat.{not-suc-le-zero, le_of_suc-le-suc}
-use native.Mathlib.Omega.{arith}
-use mathlib.Core.Path.{◌≡◌, refl, ap}
-use mathlib.Core.Bool.{Bool, true, false, ◌&&◌, true≢false}
-use mathlib.Core.List.{List, [], ◌∷◌, ◌++◌}
-use lib.Dec.{ltb}
-use lib.ListN.{length, replicate}
-use borrow.Author.Tests.{ltb-true}
+use Rattle.std.proofs.Common.{ℕ, zero, suc, ◌^◌, not-suc-le-zero, le_of_suc-le-suc, arith, ◌≡◌, refl, ap, Bool, true}
+use Rattle.std.proofs.Common.{false, ◌&&◌, true≢false, List, [], ◌∷◌, ◌++◌, ltb, length, replicate, ltb-true}
 use Rattle.words.specs.Answers.{Answer, refused, full, Filled}
 use Rattle.words.specs.Bits.{at}
 use Rattle.words.proofs.Tests.{and_left, and_right}

@@ -1,9 +1,5 @@
 -- Each wrong program for *shorten* differs from ours at one small input.
-use Prim.Native.Nat.{ℕ, suc, ◌-◌}
-use native.Mathlib.Omega.{arith}
-use mathlib.Core.Path.{ap}
-use mathlib.Core.Logic.{◌≢◌}
-use mathlib.Core.List.{List, [], ◌∷◌}
+use Rattle.std.proofs.Common.{ℕ, suc, ◌-◌, arith, ap, ◌≢◌, List, [], ◌∷◌}
 use Rattle.words.specs.Answers.{Answer, refused, full}
 use Rattle.words.specs.Bits.{at}
 use Rattle.network.specs.Reading.{network_of}

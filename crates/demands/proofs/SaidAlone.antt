@@ -1,14 +1,10 @@
 -- One receiver a net: every list of calls on a session, and the whole theorem.
-use mathlib.Core.Path.{◌≡◌, refl, ap, ap₂, ◌∙◌}
-use mathlib.Core.List.{List, [], ◌∷◌, map}
-use Prim.Native.Nat.{ℕ}
-use lib.ListN.{length}
+use Rattle.std.proofs.Common.{◌≡◌, refl, ap, ap₂, ◌∙◌, List, [], ◌∷◌, map, ℕ, length}
 use Rattle.words.specs.Answers.{Answer, full, lent_after}
 use Rattle.network.specs.declared.Network.{Network}
 use Rattle.findings.specs.declared.Finding.{Finding}
 use Rattle.session.specs.declared.Session.{Session}
-use Rattle.session.specs.declared.Stepped.{Stepped}
-use Rattle.session.specs.Calls.{stepped}
+use Rattle.session.specs.Calls.{Stepped, stepped}
 use Rattle.demands.specs.SessionCalls.{Did}
 use Rattle.demands.specs.Programs.{our_sessions}
 use Rattle.demands.specs.SaidAlone.{SessionAlone, stepped_alone, with_own, stepped_own, awaiting_first_alone, begin_alone}

@@ -1,10 +1,6 @@
 -- One receiver a net: row 21 never holds of own receivers where row 5 does not; response from a state and diagnosis
 -- answer as they do without receivers.
-use mathlib.Core.Path.{◌≡◌, refl}
-use mathlib.Core.Bool.{Bool, true, false, cond}
-use mathlib.Core.List.{List, ◌∷◌, ◌++◌}
-use Prim.Native.Nat.{ℕ}
-use lib.ListN.{length}
+use Rattle.std.proofs.Common.{◌≡◌, refl, Bool, true, false, cond, List, ◌∷◌, ◌++◌, ℕ, length}
 use Rattle.words.specs.Answers.{refused, by_tests}
 use Rattle.words.proofs.Tests.{test_fails}
 use Rattle.network.specs.declared.Network.{Network}

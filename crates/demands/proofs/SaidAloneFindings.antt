@@ -1,11 +1,7 @@
 -- One receiver a net: findings answer as they do without receivers. In a wiring state the partners of receiver i are
 -- those of net i.
-use mathlib.Core.Path.{◌≡◌, refl, ap, ap₂}
-use mathlib.Core.Bool.{Bool, true, false, ◌&&◌, cond}
-use mathlib.Core.List.{List, [], ◌∷◌, map}
-use Prim.Native.Nat.{ℕ, suc, ◌<◌}
-use native.Mathlib.Omega.{arith}
-use lib.ListN.{length}
+use Rattle.std.proofs.Common.{◌≡◌, refl, ap, ap₂, Bool, true, false, ◌&&◌, cond, List, [], ◌∷◌, map, ℕ, suc, ◌<◌}
+use Rattle.std.proofs.Common.{arith, length}
 use Rattle.words.specs.Answers.{Decides, refused, full, by_tests}
 use Rattle.words.specs.Bits.{has, word, at}
 use Rattle.words.specs.Searching.{any}

@@ -1,15 +1,9 @@
 -- One receiver a net: a record with its own receivers waits for what the record without them waits for, and accepted
 -- calls leave such records.
-use mathlib.Core.Path.{◌≡◌, refl, sym, ap, ap₂, ◌∙◌, subst}
-use mathlib.Core.Bool.{Bool, true, false, not, cond}
-use mathlib.Core.Logic.{◌≢◌, ⊎_elim}
-use mathlib.Core.List.{List, [], ◌∷◌, ◌++◌, append_assoc}
-use Prim.Native.Nat.{ℕ, ◌+◌, ◌-◌, ◌≤◌, ◌<◌}
-use native.Mathlib.Omega.{arith}
-use lib.Dec.{eqb}
-use lib.ListN.{length, take, replicate, length-append, length-replicate, get_or-replicate, replicate-append-replicate, get_or-append}
-use lib.Seq.{get_or-append-add}
-use borrow.Author.Tests.{eqb-true, eq-eqb}
+use Rattle.std.proofs.Common.{◌≡◌, refl, sym, ap, ap₂, ◌∙◌, subst, Bool, true, false, not, cond, ◌≢◌, ⊎_elim, List}
+use Rattle.std.proofs.Common.{[], ◌∷◌, ◌++◌, append_assoc, ℕ, ◌+◌, ◌-◌, ◌≤◌, ◌<◌, arith, eqb, length, take, replicate}
+use Rattle.std.proofs.Common.{length-append, get_or-append-add, eqb-true, eq-eqb}
+use lib.ListN.{length-replicate, get_or-replicate, replicate-append-replicate, get_or-append}
 use Rattle.words.specs.Answers.{Decides, first_number}
 use Rattle.words.specs.Bits.{at}
 use Rattle.words.proofs.Tests.{and_left, same_truth, test_passes, decides_equal, decides_not, decides_and, less_or_not}

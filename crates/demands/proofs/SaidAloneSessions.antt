@@ -1,10 +1,5 @@
 -- One receiver a net: the calls on a session answer and leave as they do without receivers, call by call.
-use mathlib.Core.Path.{◌≡◌, refl, ap, ap₂, ◌∙◌}
-use mathlib.Core.Bool.{Bool, true}
-use mathlib.Core.List.{List, [], ◌∷◌, ◌++◌}
-use Prim.Native.Nat.{ℕ, ◌≤◌}
-use native.Mathlib.Omega.{arith}
-use lib.ListN.{length}
+use Rattle.std.proofs.Common.{◌≡◌, refl, ap, ap₂, ◌∙◌, Bool, true, List, [], ◌∷◌, ◌++◌, ℕ, ◌≤◌, arith, length}
 use borrow.Author.Tests.{not-false}
 use Rattle.words.specs.Answers.{Answer, refused, full}
 use Rattle.words.proofs.Answers.{none_passed}

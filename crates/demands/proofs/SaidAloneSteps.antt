@@ -1,12 +1,6 @@
 -- One receiver a net: the same nets are clear, step two has the same vectors, and the fault-free state is the same.
-use mathlib.Core.Path.{◌≡◌, sym, ap, ◌∙◌}
-use mathlib.Core.Bool.{not, ◌&&◌}
-use mathlib.Core.Logic.{◌≢◌}
-use mathlib.Core.List.{List}
-use Prim.Native.Nat.{ℕ, ◌^◌, ◌<◌}
-use lib.Dec.{eqb}
-use lib.ListN.{length, length-map}
-use lib.Seq.{ext_get_or}
+use Rattle.std.proofs.Common.{◌≡◌, sym, ap, ◌∙◌, not, ◌&&◌, ◌≢◌, List, ℕ, ◌^◌, ◌<◌, eqb, length, ext_get_or}
+use lib.ListN.{length-map}
 use Rattle.words.specs.Answers.{Decides}
 use Rattle.words.specs.Bits.{at}
 use Rattle.words.specs.Turning.{column, transpose}

@@ -1,14 +1,7 @@
 -- Demand 3's second half, of our session calls; row 4 and the part to drive beside it.
-use Prim.Native.Nat.{ℕ}
-use native.Mathlib.Nat.{le_refl}
-use native.Mathlib.Omega.{arith}
-use mathlib.Core.Path.{◌≡◌, refl, sym, ap, ap₂, ◌∙◌, subst}
-use mathlib.Core.Logic.{◌≢◌, inl, inr, ⊎_elim}
-use mathlib.Core.Bool.{Bool, true, false, cond}
-use mathlib.Core.List.{List, [], ◌∷◌}
-use lib.Dec.{leb}
-use lib.ListN.{length, take}
-use borrow.Author.Tests.{eq-eqb, le-ltb, leb-true, leb-false}
+use Rattle.std.proofs.Common.{ℕ, le_refl, arith, ◌≡◌, refl, sym, ap, ap₂, ◌∙◌, subst, ◌≢◌, inl, inr, ⊎_elim, Bool}
+use Rattle.std.proofs.Common.{true, false, cond, List, [], ◌∷◌, leb, length, take, eq-eqb, le-ltb, leb-true}
+use Rattle.std.proofs.Common.{leb-false}
 use Rattle.words.specs.Answers.{Answer, refused, full, ByTable, NoneHolds, by_tests, lent_after}
 use Rattle.words.proofs.Tests.{cases}
 use Rattle.words.proofs.Answers.{front_written, table_full, table_not_refused}

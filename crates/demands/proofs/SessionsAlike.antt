@@ -1,8 +1,6 @@
 -- Two programs that keep demand 3's second half answer, write and report the same.
-use Prim.Native.Nat.{ℕ}
-use mathlib.Core.Path.{◌≡◌, refl, sym, ap, ap₂, ◌∙◌, subst₂}
-use mathlib.Core.List.{List, [], ◌∷◌, ◌++◌}
-use lib.ListN.{length, take, take-append-drop}
+use Rattle.std.proofs.Common.{ℕ, ◌≡◌, refl, sym, ap, ap₂, ◌∙◌, subst₂, List, [], ◌∷◌, ◌++◌, length, take}
+use Rattle.std.proofs.Common.{take-append-drop}
 use Rattle.words.specs.Answers.{Answer, lent_after}
 use Rattle.words.proofs.Answers.{table_determined}
 use Rattle.network.specs.declared.Network.{Network}

@@ -1,9 +1,5 @@
 -- Our answer to *shorten* keeps its promise, no other program does, and the vectors kept are as promised.
-use mathlib.Core.Path.{◌≡◌, refl, sym, ap, ap₂, ◌∙◌, subst}
-use mathlib.Core.List.{List}
-use Prim.Native.Nat.{ℕ, ◌≤◌}
-use native.Mathlib.Omega.{arith}
-use lib.ListN.{length, take}
+use Rattle.std.proofs.Common.{◌≡◌, refl, sym, ap, ap₂, ◌∙◌, subst, List, ℕ, ◌≤◌, arith, length, take}
 use Rattle.words.specs.Answers.{Answer, full, ByTable, NoneHolds, lent_after}
 use Rattle.words.proofs.Answers.{front_written, none_front, none_rest, table_full, table_none_holds}
 use Rattle.network.specs.declared.Network.{Network}

@@ -1,8 +1,5 @@
 -- The cases of shorter sets: those of the order by its definition, the others by computation.
-use mathlib.Core.Path.{refl}
-use mathlib.Core.Logic.{inl, inr}
-use mathlib.Core.List.{[], ◌∷◌}
-use native.Mathlib.Omega.{arith}
+use Rattle.std.proofs.Common.{refl, inl, inr, [], ◌∷◌, arith}
 use Rattle.shorter.specs.Shorter.{InOrder}
 use Rattle.shorter.specs.Open.{open_shorter}
 use Rattle.packing.specs.Packed.{shorter_words}

@@ -1,15 +1,10 @@
 -- A file that the reader's rows admit is the writer's file of its content.
-use mathlib.Core.Path.{◌≡◌, refl, sym, ap, ap₂, ◌∙◌}
-use mathlib.Core.Logic.{⊎_elim}
-use mathlib.Core.List.{List, [], ◌∷◌, ◌++◌, append_assoc, append-nil}
-use Prim.Native.Nat.{ℕ, suc, ◌+◌, ◌*◌, ◌/◌, ◌%◌, ◌≤◌, ◌<◌}
-use native.Mathlib.Omega.{arith}
-use lib.ListN.{length, take, drop, take-append-drop, drop_of_length-le}
-use lib.Seq.{drop-cons}
+use Rattle.std.proofs.Common.{◌≡◌, refl, sym, ap, ap₂, ◌∙◌, ⊎_elim, List, [], ◌∷◌, ◌++◌, append_assoc, append-nil, ℕ}
+use Rattle.std.proofs.Common.{suc, ◌+◌, ◌*◌, ◌/◌, ◌%◌, ◌≤◌, ◌<◌, arith, length, take, drop, take-append-drop}
+use Rattle.std.proofs.Common.{drop_of_length-le, drop-cons, true, false}
 use Rattle.words.specs.Turning.{tabulate}
 use Rattle.words.specs.Bits.{at}
 use Rattle.words.proofs.Tests.{cases}
-use mathlib.Core.Bool.{true, false}
 use Rattle.network.specs.declared.Network.{Network}
 use Rattle.jobfile.specs.Bytes.{word_bytes, AllBytes}
 use Rattle.jobfile.specs.Layout.{mark, entry_count, bodies_at, entry_kind, body_offset, body_length, nets_bytes}

@@ -1,6 +1,5 @@
 -- The starred cases, the bounds and the cases of partners, by computation; and that nothing is left open.
-use mathlib.Core.Path.{◌≡◌, refl, subst₂}
-use mathlib.Core.List.{[], ◌∷◌}
+use Rattle.std.proofs.Common.{◌≡◌, refl, subst₂, [], ◌∷◌}
 use Rattle.words.specs.Turning.{tabulate}
 use Rattle.network.specs.OwnReceivers.{own_receivers}
 use Rattle.findings.specs.Open.{open_findings}

@@ -1,13 +1,9 @@
 -- The record that our calls leave tells the session, and they answer by its rows.
-use Prim.Native.Nat.{ℕ, ◌+◌, ◌-◌, ◌≤◌}
-use native.Mathlib.Omega.{arith}
-use mathlib.Core.Path.{◌≡◌, refl, sym, ap, ap₂, ◌∙◌, subst}
-use mathlib.Core.Logic.{◌≢◌, inl, ⊎_elim}
-use mathlib.Core.Bool.{Bool, true, false}
-use mathlib.Core.List.{List, [], ◌∷◌, ◌++◌}
-use lib.ListN.{length, length-append, replicate, get_or-append}
+use Rattle.std.proofs.Common.{ℕ, ◌+◌, ◌-◌, ◌≤◌, arith, ◌≡◌, refl, sym, ap, ap₂, ◌∙◌, subst, ◌≢◌, inl, ⊎_elim, Bool}
+use Rattle.std.proofs.Common.{true, false, List, [], ◌∷◌, ◌++◌, length, length-append, replicate, eqb-true}
+use lib.ListN.{get_or-append}
 use lib.Seq.{drop-append_seam, take-append_seam}
-use borrow.Author.Tests.{eqb-true, not-false}
+use borrow.Author.Tests.{not-false}
 use Rattle.words.specs.Answers.{Answer, refused, full, ByTable, NoneHolds, by_tests, Decides, Decided, lent_after}
 use Rattle.words.specs.Bits.{at}
 use Rattle.words.proofs.Tests.{cases, contrary, test_fails}

@@ -1,13 +1,8 @@
 -- Through the C interface the session's calls are the calls on the record.
-use borrow.Author.Tests.{eqb-true, leb-true, not-false}
-use native.Mathlib.Omega.{arith}
-use Prim.Native.Nat.{ℕ, ◌^◌, ◌≤◌}
-use mathlib.Core.Path.{◌≡◌, refl, sym, ap, ◌∙◌, subst}
-use mathlib.Core.Bool.{Bool, true, false, cond}
-use mathlib.Core.List.{List, [], ◌∷◌}
-use lib.Dec.{eqb, leb}
-use lib.ListN.{length, take, length-map}
-use lib.Seq.{length-take-le}
+use Rattle.std.proofs.Common.{eqb-true, leb-true, arith, ℕ, ◌^◌, ◌≤◌, ◌≡◌, refl, sym, ap, ◌∙◌, subst, Bool, true}
+use Rattle.std.proofs.Common.{false, cond, List, [], ◌∷◌, eqb, leb, length, take, length-take-le}
+use borrow.Author.Tests.{not-false}
+use lib.ListN.{length-map}
 use Rattle.words.specs.Bits.{at}
 use Rattle.words.specs.Answers.{Answer, refused, full, by_tests, lent_after}
 use Rattle.words.proofs.Answers.{none_passed, Numbered}

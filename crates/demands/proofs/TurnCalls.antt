@@ -1,8 +1,5 @@
 -- Our answers to *turn* and *turn back* keep their promises, and no other programs do.
-use mathlib.Core.Path.{◌≡◌, refl, ap, ◌∙◌, subst}
-use mathlib.Core.List.{List}
-use Prim.Native.Nat.{ℕ, ◌≤◌}
-use lib.ListN.{length}
+use Rattle.std.proofs.Common.{◌≡◌, refl, ap, ◌∙◌, subst, List, ℕ, ◌≤◌, length}
 use Rattle.words.proofs.Answers.{fills_determined}
 use Rattle.turning.specs.Turn.{Exchanged, TurnRows, TurnBackRows, turn_answer, turn_back_answer}
 use Rattle.turning.proofs.TurnLaws.{turn_by_table, turn_determined, turn_back_by_table, turn_back_determined}

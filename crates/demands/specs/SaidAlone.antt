@@ -20,9 +20,8 @@ use Rattle.findings.specs.FindingsTable.{table_tests}
 use Rattle.steps.specs.FirstStep.{word_length, sequential_words, first_vectors}
 use Rattle.steps.specs.SecondStep.{settling_vectors}
 use Rattle.session.specs.declared.Session.{Session}
-use Rattle.session.specs.declared.Stepped.{Stepped}
 use Rattle.session.specs.Record.{pad, is_zeros, all_hold}
-use Rattle.session.specs.Calls.{stepped, begin_answer, begun, first_answer, first_answered, second_answer, second_answered}
+use Rattle.session.specs.Calls.{Stepped, stepped, begin_answer, begun, first_answer, first_answered, second_answer, second_answered}
 use Rattle.session.specs.Drive.{front, to_drive}
 use Rattle.demands.specs.SessionCalls.{Call, begin as begin_with, first as first_with, second as second_with, Did}
 use Rattle.demands.specs.Programs.{our_response, our_diagnosis, our_findings, our_sessions}

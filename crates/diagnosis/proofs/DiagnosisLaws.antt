@@ -1,8 +1,5 @@
 -- The call *diagnosis* answers as its rows and its result say, and nothing is left open.
-use mathlib.Core.Path.{◌≡◌, refl}
-use mathlib.Core.List.{List, ◌++◌}
-use Prim.Native.Nat.{ℕ}
-use lib.ListN.{length}
+use Rattle.std.proofs.Common.{◌≡◌, refl, List, ◌++◌, ℕ, length}
 use Rattle.words.specs.Answers.{Answer, ByTable, NoneHolds, Decided}
 use Rattle.words.proofs.Tests.{test_fails, equal_if_not_unequal}
 use Rattle.words.proofs.Answers.{none_front, none_rest, decided_append, tests_by_table, table_determined}

@@ -1,14 +1,7 @@
 -- Reading back for k = n: the drivers gathered from the answers to the walking vectors.
-use mathlib.Core.Path.{◌≡◌, refl, sym, ap, ap₂, ◌∙◌, subst}
-use mathlib.Core.Bool.{Bool, true, false, not, ◌&&◌, ◌||◌}
-use mathlib.Core.Logic.{◌⊎◌, inl, inr, ⊎_elim, ◌≢◌}
-use mathlib.Core.List.{List}
-use Prim.Native.Nat.{ℕ, ◌-◌, ◌^◌, ◌<◌}
-use lib.Bits.{bit_or, or_lt}
-use lib.Dec.{eqb}
-use lib.ListN.{length}
-use lib.Pow.{pow_pos}
-use borrow.Author.Tests.{eq-eqb, eqb-true}
+use Rattle.std.proofs.Common.{◌≡◌, refl, sym, ap, ap₂, ◌∙◌, subst, Bool, true, false, not, ◌&&◌, ◌||◌, ◌⊎◌, inl, inr}
+use Rattle.std.proofs.Common.{⊎_elim, ◌≢◌, List, ℕ, ◌-◌, ◌^◌, ◌<◌, bit_or, eqb, length, pow_pos, eq-eqb, eqb-true}
+use lib.Bits.{or_lt}
 use Rattle.words.specs.Bits.{has, at}
 use Rattle.words.proofs.Tests.{cases, contrary, or_false, or_cases, or_right, same_truth}
 use Rattle.words.proofs.Bits.{words_equal, has_zero, has_power, has_without, has_or}

@@ -1,14 +1,7 @@
 -- Reading back by one pass over all driver sets: each set of the class noted for the receivers that answered so.
-use mathlib.Core.Path.{◌≡◌, refl, sym, ap, ◌∙◌}
-use mathlib.Core.Bool.{Bool, true, false, cond}
-use mathlib.Core.Logic.{⊎_elim}
-use mathlib.Core.List.{List}
-use Prim.Native.Nat.{ℕ, ◌+◌, ◌^◌, ◌<◌}
-use native.Mathlib.Nat.{not-suc-le-zero}
-use native.Mathlib.Omega.{arith}
-use lib.Dec.{eqb}
-use lib.ListN.{length}
-use borrow.Author.Tests.{eqb-true, eqb-false}
+use Rattle.std.proofs.Common.{◌≡◌, refl, sym, ap, ◌∙◌, Bool, true, false, cond, ⊎_elim, List, ℕ, ◌+◌, ◌^◌, ◌<◌}
+use Rattle.std.proofs.Common.{not-suc-le-zero, arith, eqb, length, eqb-true}
+use borrow.Author.Tests.{eqb-false}
 use Rattle.words.specs.Bits.{at}
 use Rattle.words.proofs.Tests.{contrary, less_or_not}
 use Rattle.network.specs.declared.Network.{Network}

@@ -1,17 +1,10 @@
 -- What is read back is the state that fits, and there is none exactly where the test says so.
-use mathlib.Core.Path.{◌≡◌, sym, ap, ◌∙◌, subst}
-use mathlib.Core.Bool.{Bool, true, false, not, ◌&&◌, false≢true}
-use mathlib.Core.Logic.{⊎_elim}
-use mathlib.Core.List.{List}
-use Prim.Native.Nat.{ℕ, ◌^◌, ◌≤◌, ◌<◌, zero-le}
-use native.Mathlib.Nat.{le_refl}
-use native.Mathlib.Omega.{arith}
-use lib.Dec.{eqb}
-use lib.ListN.{length}
-use lib.Seq.{ext_get_or}
-use borrow.Author.Tests.{eq-eqb, eqb-true, not-false}
-use Rattle.words.specs.declared.Search.{Search}
-use Rattle.words.specs.declared.Search.TheVariants.{Found, Missing}
+use Rattle.std.proofs.Common.{◌≡◌, sym, ap, ◌∙◌, subst, Bool, true, false, not, ◌&&◌, ⊎_elim, List, ℕ, ◌^◌, ◌≤◌, ◌<◌}
+use Rattle.std.proofs.Common.{zero-le, le_refl, arith, eqb, length, ext_get_or, eq-eqb, eqb-true}
+use mathlib.Core.Bool.{false≢true}
+use borrow.Author.Tests.{not-false}
+use Rattle.std.specs.Prelude.{Option}
+use Rattle.std.specs.Prelude.{Some, None}
 use Rattle.words.specs.Answers.{Decides}
 use Rattle.words.specs.Bits.{has, at}
 use Rattle.words.specs.Searching.{is_found, or_zero, any}
@@ -106,13 +99,13 @@ module _ (net : Network) (m k : ℕ) (vectors responses : List ℕ) where
   unfolding is_found reach_test
   explained i e = go (reach_read net k vectors (column responses i)) (reach_is i) e
     where
-      go : (s : Search) → Least (reach_test i) 0 (2 ^ net.nets) s → is_found s ≡ true
+      go : (s : Option ℕ) → Least (reach_test i) 0 (2 ^ net.nets) s → is_found s ≡ true
           → DriverSet net k (or_zero s) × (sequential_response net vectors (or_zero s) ≡ column responses i)
-      go (Found set) (first x y z w) f = (
+      go (Some set) (first x y z w) f = (
         record { inside = y; few = few_drivers_at net k set (and_left (few_drivers net k set) _ z) },
         eqb-true _ _ (and_right (few_drivers net k set) _ z),
       )
-      go Missing r f = absurd (false≢true f)
+      go None r f = absurd (false≢true f)
 
   pub read_back_fits : length responses ≡ length vectors → ((t : ℕ) → t < length responses → at responses t < 2 ^ m)
       → no_state_fits net m k vectors responses ≡ false
@@ -152,7 +145,7 @@ module _ (net : Network) (m k : ℕ) (vectors responses : List ℕ) where
       inside : (i : ℕ) → i < m → i < length state
       inside i l = rw h.of_class.size l
 
-      reached : (i : ℕ) → i < m → reach_read net k vectors (column responses i) ≡ Found (at state i)
+      reached : (i : ℕ) → i < m → reach_read net k vectors (column responses i) ≡ Some (at state i)
       reached i l = go (reach_read net k vectors (column responses i)) (reach_is i)
         where
           passes : reach_test i (at state i) ≡ true
@@ -160,8 +153,8 @@ module _ (net : Network) (m k : ℕ) (vectors responses : List ℕ) where
               and_both (few_drivers_of net k (at state i) (h.of_class.reach i (inside i l)))
               (eq-eqb _ _ (fits_answers net vectors responses size m k state h i (inside i l)))
 
-          go : (s : Search) → Least (reach_test i) 0 (2 ^ net.nets) s → s ≡ Found (at state i)
-          go (Found set) (first x y z w) =
+          go : (s : Option ℕ) → Least (reach_test i) 0 (2 ^ net.nets) s → s ≡ Some (at state i)
+          go (Some set) (first x y z w) =
               let d : DriverSet net k set = record { inside = y; few = few_drivers_at net k set (and_left (few_drivers net k set) _ z) } in
               let alike : ReadAlike net vectors set (at state i) =
               sequential_alike net vectors set (at state i)
@@ -169,8 +162,8 @@ module _ (net : Network) (m k : ℕ) (vectors responses : List ℕ) where
               ∙ sym (fits_answers net vectors responses size m k state h i (inside i l))) in
               let up : at state i ≤ set = smallest i set l d alike in
               let down : at state i < set → ⊥ = λ less. contrary passes (w (at state i) zero-le less) in
-              let q : set ≡ at state i = omega (arith, up, down) in ap Found q
-          go Missing (nowhere w) = contrary passes (w (at state i) zero-le (h.of_class.reach i (inside i l)).inside)
+              let q : set ≡ at state i = omega (arith, up, down) in ap Some q
+          go None (nowhere w) = contrary passes (w (at state i) zero-le (h.of_class.reach i (inside i l)).inside)
 
       same : read_back net m k vectors responses ≡ state
       same =

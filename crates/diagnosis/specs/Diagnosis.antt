@@ -1,13 +1,11 @@
 -- The call *diagnosis*: rows 5, 21, 6, 17, 20, 7, 8, 9, 10, 12, 13, 14, then the state.
 use Rattle.std.specs.Prelude.{ℕ, Bool, not, List, [], ◌∷◌, ◌++◌, length}
-use Rattle.words.specs.Answers.{Answer, refused, full, by_tests}
+use Rattle.words.specs.Answers.{Answer, by_tests}
 use Rattle.network.specs.declared.Network.{Network}
 use Rattle.network.specs.States.{Fits}
 use Rattle.network.specs.Rows.{BoardSetRows, Row9, HighBit, Row12, board_set_tests, bad_response_count, has_high_bit}
 use Rattle.network.specs.Rows.{no_room}
 use Rattle.checker.specs.Passed.{Row13, passes}
-use Rattle.diagnosis.specs.declared.Diagnosed.{Diagnosed}
-use Rattle.diagnosis.specs.declared.Diagnosed.TheVariants.{Wrote, Refused}
 use Rattle.diagnosis.specs.ReadBack.{read_back, no_state_fits}
 
 -- fit: no state of the class fits
@@ -47,8 +45,3 @@ unfoldable pub diagnosis_answer : Network → (owners : List ℕ) → ℕ → (v
 diagnosis_answer net owners k vectors responses room =
     by_tests (board_set_tests net owners k vectors ++ own_tests net (length owners) k vectors responses room)
     (read_back net (length owners) k vectors responses)
-
--- document 01's number and values for each case of the answer
-abbrev pub meaning : Diagnosed → Answer ℕ
-meaning (Wrote count) = full count
-meaning (Refused number) = refused number

@@ -2,13 +2,13 @@
 use Rattle.std.specs.Prelude.{ℕ, ◌^◌, Bool, not, ◌&&◌, ◌||◌, List, eqb}
 use Rattle.words.specs.Searching.{least, is_found, or_zero, any}
 use Rattle.words.specs.Turning.{tabulate, column}
-use Rattle.words.specs.declared.Search.{Search}
+use Rattle.std.specs.Prelude.{Option}
 use Rattle.network.specs.declared.Network.{Network}
 use Rattle.network.specs.Reading.{sequential_response}
 use Rattle.network.specs.States.{few_drivers, has_conflict}
 
 -- the smallest set of the class that reads as a receiver answered, its sequential word (SRV) given
-unfoldable pub reach_read : Network → ℕ → List ℕ → ℕ → Search
+unfoldable pub reach_read : Network → ℕ → List ℕ → ℕ → Option ℕ
 reach_read net k vectors answered =
     least (2 ^ net.nets) 0 (λ set. few_drivers net k set && eqb (sequential_response net vectors set) answered)
 

@@ -14,7 +14,7 @@ pub fn answers_of(receivers: usize, responses: &[u64]) -> [u64; 64]
     requires { (receivers ≤ 64) × (length responses.now ≤ 64) }
     ensures { (length result ≡ 64) × Columns receivers responses.now result }
 {
-    words::turning::columns(responses, receivers as u64)
+    words::turning::columns::<Ptv>(responses, receivers as u64)
 }
 
 // The state's response compared with the whole response.
@@ -23,13 +23,7 @@ pub fn gives_response(net: Network, vectors: &[u64], state: &[u64], responses: &
         × ((i : ℕ) → i < length state.now → at state.now i < 2 ^ net.nets) }
     ensures { Decides result (response net state.now vectors.now ≡ responses.now) }
 {
-    let mut t: usize = 0;
-    while t < vectors.len() {
-        let word = network::receivers::response_word(net, state, Ptv(vectors[t]));
-        if word.0 != responses[t] {
-            return false;
-        }
-        t += 1;
-    }
-    true
+    vectors.iter().zip(responses).all(|(&vector, &response)| {
+        network::receivers::response_word(net, state, Ptv(vector)).0 == response
+    })
 }

@@ -7,70 +7,65 @@ ghost use Rattle.words.specs.Bits.{at};
 ghost use Rattle.words.specs.Answers.{count_of, lent_after};
 ghost use Rattle.words.specs.Turning.{column};
 ghost use Rattle.network.specs.Rows.{HighBit};
+ghost use Rattle.network.specs.Refusing.{answer_of};
 ghost use Rattle.checker.specs.Seen.{OnlyAnswer};
-ghost use Rattle.checker.specs.Passed.{Passed};
-ghost use Rattle.diagnosis.specs.Diagnosis.{fit_answer, diagnosis_answer, meaning};
+ghost use Rattle.diagnosis.specs.Diagnosis.{fit_answer, diagnosis_answer};
 
 mod classes;
 pub mod fit;
 pub mod walking;
 
-use checker::Verdict;
-use network::{Admission, Network};
-
-// What the call *diagnosis* answers: how many words it wrote, or the refusal.
-#[derive(Clone, Copy)]
-pub enum Diagnosed {
-    Wrote(u64),
-    Refused(u64),
-}
+use arrayvec::ArrayVec;
+use checker::{PassedSet, Verdict};
+use network::Network;
+use network::admitting::admit_board_set;
+use network::refusal::{Refusal, refuse_if};
 
 // The only reaches that can have answered so.
-fn candidate(
-    net: Network,
-    receivers: usize,
-    class: u64,
-    vectors: &[u64],
-    responses: &[u64],
-) -> [u64; 64]
-    requires { (receivers ≤ 64) × (length responses.now ≡ length vectors.now) × Passed net class vectors.now }
-    ensures { (length result ≡ 64)
-        × ((i : ℕ) → i < receivers
-        → OnlyAnswer net class vectors.now (column responses.now i) (at result i)) }
+fn candidate(passed: PassedSet, receivers: usize, responses: &[u64]) -> ArrayVec<u64, 64>
+    requires { (receivers ≤ 64) × (length responses.now ≡ length passed.set.vectors.now) }
+    ensures size { length result.items ≡ receivers }
+    ensures only { (i : ℕ) → i < receivers
+        → OnlyAnswer passed.entry.set.nets.network passed.entry.set.class passed.entry.set.vectors.now
+        (column responses.now i) (at result.items i) }
 {
-    let answers = fit::answers_of(receivers, responses);
-    if class == net.nets {
-        return walking::walking_reaches(net, vectors, &answers[..receivers]);
+    let columns = fit::answers_of(receivers, responses);
+    let answers = &columns[..receivers];
+    if passed.set.class == passed.set.nets.network.nets {
+        return walking::walking_reaches(passed, answers);
     }
-    classes::class_reaches(net, class, vectors, &answers[..receivers])
+    classes::class_reaches(passed, answers)
 }
 
 // Row 14, or the state into the front of `out`. The rows before it do not hold.
 fn read_back(
-    net: Network,
+    passed: PassedSet,
     receivers: usize,
-    class: u64,
-    vectors: &[u64],
     responses: &[u64],
     out: &mut [u64],
-) -> Diagnosed
-    requires { (receivers ≤ 64) × Passed net class vectors.now × (length responses.now ≡ length vectors.now)
+) -> Result<u64, Refusal>
+    requires { (receivers ≤ 64) × (length responses.now ≡ length passed.set.vectors.now)
         × (HighBit receivers responses.now → ⊥) × (receivers ≤ length out.old) }
-    ensures answer { meaning result
-        ≡ count_of (fit_answer net receivers class vectors.now responses.now) }
+    ensures answer { answer_of result
+        ≡ count_of (fit_answer passed.entry.set.nets.network receivers passed.entry.set.class
+        passed.entry.set.vectors.now responses.now) }
     ensures list { out.new
-        ≡ lent_after (fit_answer net receivers class vectors.now responses.now)
-        out.old }
+        ≡ lent_after (fit_answer passed.entry.set.nets.network receivers passed.entry.set.class
+        passed.entry.set.vectors.now responses.now) out.old }
 {
-    let state = candidate(net, receivers, class, vectors, responses);
-    if network::refusals::not_a_state(net, receivers, class, &state[..receivers]) {
-        return Diagnosed::Refused(14);
-    }
-    if !fit::gives_response(net, vectors, &state[..receivers], responses) {
-        return Diagnosed::Refused(14);
-    }
-    words::lists::copy_words(&state[..receivers], out);
-    Diagnosed::Wrote(receivers as u64)
+    let test = passed.set;
+    let found = candidate(passed, receivers, responses);
+    let state = found.as_slice();
+    refuse_if(
+        test.nets.not_a_state(receivers, test.class, state),
+        Refusal::NoStateFits,
+    )?;
+    refuse_if(
+        !fit::gives_response(test.nets.network, test.vectors, state, responses),
+        Refusal::NoStateFits,
+    )?;
+    words::lists::copy_words(state, out);
+    Ok(receivers as u64)
 }
 
 // The call *diagnosis*: the state of the class that gave the response, into the front of `out`. `receivers` has the net
@@ -82,30 +77,29 @@ pub fn diagnose(
     vectors: &[u64],
     responses: &[u64],
     out: &mut [u64],
-) -> Diagnosed
-    ensures answer { meaning result
+) -> Result<u64, Refusal>
+    ensures answer { answer_of result
         ≡ count_of (diagnosis_answer net receivers.now class vectors.now responses.now
         (length out.old)) }
     ensures list { out.new
         ≡ lent_after (diagnosis_answer net receivers.now class vectors.now
         responses.now (length out.old)) out.old }
 {
-    let admission = network::refusals::admit_board(net, receivers, class, vectors);
-    if let Admission::Refused(number) = admission {
-        return Diagnosed::Refused(number);
-    }
-    if network::refusals::bad_response_count(vectors.len(), responses.len()) {
-        return Diagnosed::Refused(9);
-    }
-    if network::refusals::has_high_bit(receivers.len() as u64, responses) {
-        return Diagnosed::Refused(10);
-    }
-    if network::refusals::no_room(receivers.len(), out.len()) {
-        return Diagnosed::Refused(12);
-    }
-    let verdict = checker::verdict_of(net, class, vectors);
+    let board = admit_board_set(net, receivers, class, vectors)?;
+    let m = receivers.len();
+    refuse_if(
+        network::refusals::bad_response_count(vectors.len(), responses.len()),
+        Refusal::ResponseCount,
+    )?;
+    refuse_if(
+        network::refusals::has_high_bit(m as u64, responses),
+        Refusal::ResponseBits,
+    )?;
+    refuse_if(network::refusals::no_room(m, out.len()), Refusal::Room)?;
+    let verdict = Verdict::of(board.set);
     let Verdict::Pass = verdict else {
-        return Diagnosed::Refused(13);
+        return Err(Refusal::NotPassed);
     };
-    read_back(net, receivers.len(), class, vectors, responses, out)
+    let passed = PassedSet { set: board.set };
+    read_back(passed, m, responses, out)
 }

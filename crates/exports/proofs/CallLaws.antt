@@ -1,22 +1,18 @@
 -- What an exported call owes: the number returned, and the lists lent.
-use Prim.Native.Nat.{ℕ}
-use mathlib.Core.Path.{◌≡◌, refl, sym, ap, ◌∙◌}
-use mathlib.Core.List.{List, [], ◌∷◌}
-use lib.ListN.{length}
+use Rattle.std.proofs.Common.{ℕ, ◌≡◌, refl, sym, ap, ◌∙◌, List, length}
+use Rattle.std.specs.Prelude.{Result, Ok, Err}
+use Rattle.network.specs.declared.refusal.Refusal.{Refusal}
+use Rattle.network.specs.Refusing.{answer_of}
 use Rattle.words.specs.Answers.{Answer, refused, full, lent_after, count_of}
 use Rattle.words.proofs.Answers.{counted_full}
-use Rattle.shorter.specs.declared.Shortened.{Shortened}
 use Rattle.shorter.specs.Shorten as Shorten
-use Rattle.shorter.proofs.ShortenTable as ShortenTable
 use Rattle.session.specs.declared.Session.{Session}
-use Rattle.session.specs.declared.Stepped.{Stepped}
-use Rattle.session.specs.Calls.{stepped}
-use Rattle.reader.specs.declared.Job.{Job}
+use Rattle.session.specs.Calls.{Stepped, stepped, code_of}
 use Rattle.reader.specs.Reader.{JobContent, counted}
-use Rattle.reader.proofs.ReaderAnswers.{read_counted_full}
 use Rattle.packing.specs.Packed.{size_words, shorter_words, job_words, session_size, session_words, session_of}
 use Rattle.packing.proofs.Words.{session_there}
 use Rattle.exports.specs.Exported.{code, in_words, fixed_after}
+use Rattle.exports.specs.Exported.{returned_shorter_words, returned_job_words, returned_size_words}
 
 -- ---- a refusal, and a result
 
@@ -29,10 +25,6 @@ module _ {A : Type 0} (a : Answer A) (number : ℕ) (e : a ≡ refused number) w
   unfolding in_words lent_after
   words_refused words lent = rw e
 
-  pub fixed_refused : (words : A → List ℕ) (lent : List ℕ) → lent ≡ fixed_after (in_words words a) lent
-  unfolding in_words fixed_after
-  fixed_refused words lent = rw e
-
 module _ {A : Type 0} (a : Answer A) (x : A) (e : a ≡ full x) where
   pub code_full : 0 ≡ code a
   unfolding code
@@ -43,10 +35,6 @@ module _ {A : Type 0} (a : Answer A) (x : A) (e : a ≡ full x) where
   unfolding in_words
   words_full words lent list l = rw e l
 
-  pub fixed_full : (words : A → List ℕ) (lent : List ℕ) → words x ≡ fixed_after (in_words words a) lent
-  unfolding in_words fixed_after
-  fixed_full words lent = rw e
-
 -- ---- a call that returns how much it wrote
 
 pub code_counted : {A : Type 0} (a : Answer (List A)) (n : Answer ℕ) → n ≡ count_of a → code n ≡ code a
@@ -54,42 +42,46 @@ unfolding code count_of
 code_counted (refused number) n said = ap code said
 code_counted (full xs) n said = ap code said
 
-pub fixed_size : (a : Answer (List ℕ)) (count : ℕ) (lent : List ℕ) → full count ≡ count_of a
-    → count ∷ [] ≡ fixed_after (in_words size_words a) lent
-fixed_size a count lent said =
-    let r = counted_full a count (sym said) in
-    ap (λ (n : ℕ). n ∷ []) (sym r.2) ∙ fixed_full a r.0 r.1 size_words lent
+-- ---- what a call returns, in words
 
-pub code_read : (a : Answer JobContent) (n : Answer Job) → n ≡ counted a → code n ≡ code a
-unfolding code
-code_read (refused number) n said = ap code said
-code_read (full job) n said = ap code said
+code_words : {A : Type 0} (words : A → List ℕ) (a : Answer A) → code (in_words words a) ≡ code a
+unfolding code in_words
+code_words words (refused number) = refl
+code_words words (full x) = refl
 
-pub fixed_read : (a : Answer JobContent) (job : Job) (lent : List ℕ) → full job ≡ counted a
-    → job.network.nets ∷ job.network.level ∷ job.network.gate ∷ job.class ∷ job.kind ∷ job.vectors ∷ job.responses ∷ []
-    ≡ fixed_after (in_words job_words a) lent
-unfolding job_words
-fixed_read a job lent said =
-    let r = read_counted_full a job (sym said) in
-    ap (λ (j : Job). j.network.nets ∷ j.network.level ∷ j.network.gate ∷ j.class ∷ j.kind ∷ j.vectors ∷ j.responses ∷ [])
-    (sym r.2)
-    ∙ fixed_full a r.0 r.1 job_words lent
+-- the words of what it returns are those of its answer: then so are the number, and a list lent for the words
+module _ {A B : Type 0} (words : A → List ℕ) (returned : B → List ℕ) (a : Answer A) (n counted : Answer B) (e : n ≡ counted)
+    (same : in_words words a ≡ in_words returned counted) where
+  pub code_returned : code n ≡ code a
+  code_returned = ap code e ∙ sym (code_words returned counted) ∙ ap code (sym same) ∙ code_words words a
 
-pub code_shortened : (a : Answer Shorten.Shorter) (n : Answer Shortened) → n ≡ Shorten.counted a → code n ≡ code a
-unfolding code
-code_shortened (refused number) n said = ap code said
-code_shortened (full result) n said = ap code said
+  pub fixed_returned : (lent after : List ℕ) → after ≡ fixed_after (in_words returned n) lent
+      → after ≡ fixed_after (in_words words a) lent
+  fixed_returned lent after said =
+      said ∙ ap (λ (written : Answer (List ℕ)). fixed_after written lent) (ap (in_words returned) e ∙ sym same)
 
-pub fixed_shortened : (a : Answer Shorten.Shorter) (counts : Shortened) (lent : List ℕ)
-    → full counts ≡ Shorten.counted a
-    → counts.kept ∷ counts.checks ∷ counts.floor ∷ [] ≡ fixed_after (in_words shorter_words a) lent
-unfolding shorter_words
-fixed_shortened a counts lent said =
-    let r = ShortenTable.counted_full a counts (sym said) in
-    ap (λ (c : Shortened). c.kept ∷ c.checks ∷ c.floor ∷ []) (sym r.2)
-    ∙ fixed_full a r.0 r.1 shorter_words lent
+pub shortened_in_words : (a : Answer Shorten.Shorter)
+    → in_words shorter_words a ≡ in_words returned_shorter_words (Shorten.counted a)
+unfolding in_words shorter_words
+shortened_in_words (refused number) = refl
+shortened_in_words (full result) = refl
+
+pub read_in_words : (a : Answer JobContent) → in_words job_words a ≡ in_words returned_job_words (counted a)
+unfolding in_words job_words
+read_in_words (refused number) = refl
+read_in_words (full job) = refl
+
+pub wrote_in_words : (a : Answer (List ℕ)) → in_words size_words a ≡ in_words returned_size_words (count_of a)
+unfolding in_words count_of
+wrote_in_words (refused number) = refl
+wrote_in_words (full bytes) = refl
 
 -- ---- a call on a session
+
+pub answered_code : {A : Type 0} (r : Result A Refusal) → code (answer_of r) ≡ code_of r
+unfolding code
+answered_code (Ok x) = refl
+answered_code (Err refusal) = refl
 
 pub stepped_code : (a : Answer (List ℕ)) (new old : Session) → (stepped a new old).code ≡ code a
 unfolding stepped code

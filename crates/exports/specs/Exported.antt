@@ -1,7 +1,9 @@
 -- The calls for C and Rust: a number returned, and lists lent.
-use Rattle.std.specs.Prelude.{ℕ, ◌/◌, List, length}
+use Rattle.std.specs.Prelude.{ℕ, ◌/◌, List, [], ◌∷◌, length}
 use Rattle.words.specs.Answers.{Answer, refused, full}
 use Rattle.network.specs.declared.Network.{Network}
+use Rattle.shorter.specs.declared.Shortened.{Shortened}
+use Rattle.reader.specs.declared.Job.{Job}
 use Rattle.findings.specs.declared.Finding.{Finding}
 use Rattle.findings.specs.FindingsTable.{findings_answer}
 use Rattle.session.specs.Calls.{begin_answer, begun, first_answer, first_answered, second_answer, second_answered}
@@ -24,6 +26,21 @@ in_words words (full x) = full (words x)
 unfoldable pub fixed_after : Answer (List ℕ) → List ℕ → List ℕ
 fixed_after (refused number) lent = lent
 fixed_after (full words) lent = words
+
+-- ---- what calls return besides the lists that they fill
+
+-- what *shorten* returns: how many vectors are kept, the checks made, the floor
+abbrev pub returned_shorter_words : Shortened → List ℕ
+returned_shorter_words counts = counts.kept ∷ counts.checks ∷ counts.floor ∷ []
+
+-- what the reader returns: nets, level, gate, class, kind, number of vectors, number of responses
+abbrev pub returned_job_words : Job → List ℕ
+returned_job_words job = job.network.nets ∷ job.network.level ∷ job.network.gate ∷ job.class ∷ job.kind ∷ job.vectors
+    ∷ job.responses ∷ []
+
+-- what the writer returns: how many bytes it wrote
+abbrev pub returned_size_words : ℕ → List ℕ
+returned_size_words count = count ∷ []
 
 -- ---- a table's room, a session's words, a count to drive
 

@@ -8,6 +8,7 @@ ghost use Rattle.std.specs.Prelude.{◌≡◌, length};
 ghost use Rattle.words.specs.Answers.{lent_after};
 ghost use Rattle.network.specs.Reading.{network_with};
 ghost use Rattle.network.specs.Respond.{response_answer};
+ghost use Rattle.network.specs.Refusing.{answer_of};
 ghost use Rattle.network.specs.OwnReceivers.{own_receivers_answer};
 ghost use Rattle.turning.specs.Turn.{turn_answer, turn_back_answer};
 ghost use Rattle.scan_chain.specs.Calls.{write_answer as clocks_written, read_answer as clocks_read};
@@ -22,14 +23,22 @@ ghost use Rattle.packing.specs.Packed.{verdict_words, shorter_words, finding_wor
 ghost use Rattle.exports.specs.Exported.{code, in_words, fixed_after, findings_exported, session_begun};
 ghost use Rattle.exports.specs.Exported.{session_first, session_second, drive_count};
 
-use checker::Checked;
-use diagnosis::Diagnosed;
-use network::{Network, Responded};
-use reader::ReadJob;
-use scan_chain::Clocked;
-use shorter::Shortening;
-use turning::Turned;
-use writer::Wrote;
+use findings::Finding;
+use in_words::code_in_words;
+use network::Network;
+use network::refusal::Refusal;
+
+pub mod in_words;
+
+// What a call returns: 0 if it was accepted, or the number of its refusal.
+fn code_of<T: Copy>(answered: Result<T, Refusal>) -> u64
+    ensures { result ≡ code (answer_of answered) }
+{
+    match answered {
+        Ok(_) => 0,
+        Err(refusal) => u64::from(refusal),
+    }
+}
 
 // The call *check*. The verdict's 3 words: 0 0 0 for pass, or 1 and the pair. Rows 5, 6, 17, 20, 7, 8.
 pub fn fontarelga_check(
@@ -45,22 +54,8 @@ pub fn fontarelga_check(
         ≡ fixed_after (in_words verdict_words (check_answer (network_with nets level gate) class vectors.now))
         verdict.old }
 {
-    let net = Network {
-        nets: nets,
-        level: level,
-        gate: gate,
-    };
-    match checker::check(net, class, vectors) {
-        Checked::Pass => {
-            *verdict = [0, 0, 0];
-            0
-        }
-        Checked::Pair(a, b) => {
-            *verdict = [1, a, b];
-            0
-        }
-        Checked::Refused(number) => number,
-    }
+    let net = Network { nets, level, gate };
+    code_in_words(checker::check(net, class, vectors), verdict)
 }
 
 // The call *shorten*: the vectors kept of a passed set into the front of `kept`, with at most `allowed` checks. The 3
@@ -86,18 +81,11 @@ pub fn fontarelga_shorten(
         ≡ fixed_after (in_words shorter_words (shorten_answer (network_with nets level gate) class
         vectors.now allowed (length kept.old))) shortened.old }
 {
-    let net = Network {
-        nets: nets,
-        level: level,
-        gate: gate,
-    };
-    match shorter::shorten(net, class, vectors, allowed, kept) {
-        Shortening::Kept(counts) => {
-            *shortened = [counts.kept, counts.checks, counts.floor];
-            0
-        }
-        Shortening::Refused(number) => number,
-    }
+    let net = Network { nets, level, gate };
+    code_in_words(
+        shorter::shorten(net, class, vectors, allowed, kept),
+        shortened,
+    )
 }
 
 // The call *own receivers*: the list of receivers where each net has one, of its own number, into the front of
@@ -107,10 +95,7 @@ pub fn fontarelga_own_receivers(nets: u64, receivers: &mut [u64]) -> u64
     ensures receivers { receivers.new
         ≡ lent_after (own_receivers_answer nets (length receivers.old)) receivers.old }
 {
-    match network::own_receivers(nets, receivers) {
-        Responded::Wrote(_) => 0,
-        Responded::Refused(number) => number,
-    }
+    code_of(network::own_receivers(nets, receivers))
 }
 
 // The call *response from a state*: one response word a vector into the front of `response`. Here and below `receivers`
@@ -132,15 +117,8 @@ pub fn fontarelga_respond(
         ≡ lent_after (response_answer (network_with nets level gate) receivers.now class
         vectors.now state.now (length response.old)) response.old }
 {
-    let net = Network {
-        nets: nets,
-        level: level,
-        gate: gate,
-    };
-    match network::response_from_state(net, receivers, class, vectors, state, response) {
-        Responded::Wrote(_) => 0,
-        Responded::Refused(number) => number,
-    }
+    let net = Network { nets, level, gate };
+    code_of(network::response_from_state(net, receivers, class, vectors, state, response))
 }
 
 // The call *diagnosis*: the state that gave the responses, into the front of `state`. Rows 5, 21, 6, 17, 20, 7, 8, 9,
@@ -162,15 +140,8 @@ pub fn fontarelga_diagnose(
         ≡ lent_after (diagnosis_answer (network_with nets level gate) receivers.now class
         vectors.now responses.now (length state.old)) state.old }
 {
-    let net = Network {
-        nets: nets,
-        level: level,
-        gate: gate,
-    };
-    match diagnosis::diagnose(net, receivers, class, vectors, responses, state) {
-        Diagnosed::Wrote(_) => 0,
-        Diagnosed::Refused(number) => number,
-    }
+    let net = Network { nets, level, gate };
+    code_of(diagnosis::diagnose(net, receivers, class, vectors, responses, state))
 }
 
 // The call *findings*: kind, reach and partners of each receiver into the front of `table`. Rows 5, 21, 17, 20, 11 with
@@ -191,21 +162,20 @@ pub fn fontarelga_findings(
         (findings_exported (network_with nets level gate) receivers.now state.now
         (length table.old))) table.old }
 {
-    let net = Network {
-        nets: nets,
-        level: level,
-        gate: gate,
-    };
-    let done = findings::by_value(net, receivers, state);
-    if done.code != 0 {
-        return done.code;
+    let net = Network { nets, level, gate };
+    let mut records = [Finding {
+        kind: 0,
+        reach: 0,
+        partners: 0,
+    }; 64];
+    if let Err(refusal) = findings::findings(net, receivers, state, &mut records) {
+        return u64::from(refusal);
     }
     let m = receivers.len();
     if network::refusals::no_room(m, table.len() / 3) {
-        return 12;
+        return u64::from(Refusal::Room);
     }
-    let records = done.table;
-    packing::table::put_findings(records, m, table);
+    packing::table::put_findings(&records[..m], table);
     0
 }
 
@@ -227,16 +197,11 @@ pub fn fontarelga_begin(
         ≡ lent_after (begin_answer (network_with nets level gate) receivers.now
         (length first.old)) first.old }
 {
-    let held = packing::record::session_of(session);
-    let net = Network {
-        nets: nets,
-        level: level,
-        gate: gate,
-    };
-    let done = session::by_value::begin(held, net, receivers, first);
-    let words = packing::record::words_of(done.session);
-    *session = words;
-    done.code
+    let mut held = packing::record::session_of(session);
+    let net = Network { nets, level, gate };
+    let answered = session::begin(&mut held, net, receivers, first);
+    *session = packing::record::words_of(held);
+    code_of(answered)
 }
 
 // The call *first answers*: the vectors of step two into the front of `second`, if a net is unclear. Rows 4, 9, 10 and
@@ -256,11 +221,10 @@ pub fn fontarelga_first_answers(
         ≡ lent_after (first_answer (session_of session.old) answers.now
         (length second.old)) second.old }
 {
-    let held = packing::record::session_of(session);
-    let done = session::by_value::first_answers(held, answers, second);
-    let words = packing::record::words_of(done.session);
-    *session = words;
-    done.code
+    let mut held = packing::record::session_of(session);
+    let answered = session::first_answers(&mut held, answers, second);
+    *session = packing::record::words_of(held);
+    code_of(answered)
 }
 
 // The call *second answers*: the only state that fits both steps, into the session. Rows 4, 9, 10 and 14.
@@ -269,11 +233,10 @@ pub fn fontarelga_second_answers(session: &mut [u64; 142], answers: &[u64]) -> u
     ensures session { session.new
         ≡ fixed_after (session_second session.old answers.now) session.old }
 {
-    let held = packing::record::session_of(session);
-    let done = session::by_value::second_answers(held, answers);
-    let words = packing::record::words_of(done.session);
-    *session = words;
-    done.code
+    let mut held = packing::record::session_of(session);
+    let answered = session::second_answers(&mut held, answers);
+    *session = packing::record::words_of(held);
+    code_of(answered)
 }
 
 // How many words to drive next, from the start of `first` in step 1 or of `second` in step 2; 0 if none.
@@ -291,10 +254,7 @@ pub fn fontarelga_turn(nets: u64, vectors: &[u64], words: &mut [u64]) -> u64
     ensures words { words.new
         ≡ lent_after (turn_answer nets vectors.now (length words.old)) words.old }
 {
-    match turning::turn(nets, vectors, words) {
-        Turned::Wrote(_) => 0,
-        Turned::Refused(number) => number,
-    }
+    code_of(turning::turn(nets, vectors, words))
 }
 
 // The call *turn back*: from sequential words, one for each net, the vectors, as many as `count` says, into the front
@@ -306,10 +266,7 @@ pub fn fontarelga_turn_back(nets: u64, count: u64, words: &[u64], vectors: &mut 
         ≡ lent_after (turn_back_answer nets count words.now (length vectors.old))
         vectors.old }
 {
-    match turning::turn_back(nets, count, words, vectors) {
-        Turned::Wrote(_) => 0,
-        Turned::Refused(number) => number,
-    }
+    code_of(turning::turn_back(nets, count, words, vectors))
 }
 
 // The call *write clocks*: the clocks for a test set on a boundary-scan chain, one byte each, TMS in bit 0 and TDI in bit
@@ -331,7 +288,7 @@ pub fn fontarelga_write_clocks(
         ≡ lent_after (clocks_written nets receivers.now vectors.now cells driver_cells.now
         receiver_cells.now (length clocks.old)) clocks.old }
 {
-    match scan_chain::write_clocks(
+    code_of(scan_chain::write_clocks(
         nets,
         receivers,
         vectors,
@@ -339,10 +296,7 @@ pub fn fontarelga_write_clocks(
         driver_cells,
         receiver_cells,
         clocks,
-    ) {
-        Clocked::Wrote(_) => 0,
-        Clocked::Refused(number) => number,
-    }
+    ))
 }
 
 // The call *read clocks*: the responses to as many vectors as `count` says, from the TDO bits of their clocks, a byte 0
@@ -364,7 +318,7 @@ pub fn fontarelga_read_clocks(
         ≡ lent_after (clocks_read nets receivers.now count cells driver_cells.now
         receiver_cells.now tdo.now (length responses.old)) responses.old }
 {
-    match scan_chain::read_clocks(
+    code_of(scan_chain::read_clocks(
         nets,
         receivers,
         count,
@@ -373,10 +327,7 @@ pub fn fontarelga_read_clocks(
         receiver_cells,
         tdo,
         responses,
-    ) {
-        Clocked::Wrote(_) => 0,
-        Clocked::Refused(number) => number,
-    }
+    ))
 }
 
 // The call *read a job file*. The job's 7 words: nets, level, gate, class, kind, number of vectors, number of
@@ -402,21 +353,7 @@ pub fn fontarelga_read_job(
         (read_answer file.now (length vectors.old) (length responses.old)))
         job.old }
 {
-    match reader::read_job(file, vectors, responses) {
-        ReadJob::Content(content) => {
-            *job = [
-                content.network.nets,
-                content.network.level,
-                content.network.gate,
-                content.class,
-                content.kind,
-                content.vectors as u64,
-                content.responses as u64,
-            ];
-            0
-        }
-        ReadJob::Refused(number) => number,
-    }
+    code_in_words(reader::read_job(file, vectors, responses), job)
 }
 
 // The call *write a job file*. The size's only word: how many bytes were written. Rows 2, 5, 6, 17, 20, 7, 8, 9, 10
@@ -443,16 +380,9 @@ pub fn fontarelga_write_job(
         (write_answer kind (network_with nets level gate) class vectors.now responses.now
         (length file.old))) size.old }
 {
-    let net = Network {
-        nets: nets,
-        level: level,
-        gate: gate,
-    };
-    match writer::write_job(kind, net, class, vectors, responses, file) {
-        Wrote::Bytes(count) => {
-            *size = [count];
-            0
-        }
-        Wrote::Refused(number) => number,
-    }
+    let net = Network { nets, level, gate };
+    code_in_words(
+        writer::write_job(kind, net, class, vectors, responses, file),
+        size,
+    )
 }

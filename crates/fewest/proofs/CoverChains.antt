@@ -1,16 +1,10 @@
 -- Of more than C(q, q/2 rounded down) words of q bits one covers another: the words fall into chains, of any two words
 -- of a chain one covers the other, and there are that many chains. A chain is known by its smallest word.
-use mathlib.Core.Path.{◌≡◌, refl, sym, ap, ◌∙◌}
-use mathlib.Core.Bool.{Bool, not, false, true}
-use mathlib.Core.Logic.{◌⊎◌, inl, inr}
-use mathlib.Core.List.{List}
-use Prim.Native.Nat.{ℕ, zero, suc, ◌+◌, ◌*◌, ◌/◌, ◌%◌, ◌^◌, ◌≤◌, ◌<◌, zero-le}
-use native.Mathlib.Nat.{not-suc-le-zero, mod-lt}
-use native.Mathlib.Omega.{arith}
+use Rattle.std.proofs.Common.{◌≡◌, refl, sym, ap, ◌∙◌, Bool, not, false, true, ◌⊎◌, inl, inr, List, ℕ, zero, suc, ◌+◌}
+use Rattle.std.proofs.Common.{◌*◌, ◌/◌, ◌%◌, ◌^◌, ◌≤◌, ◌<◌, zero-le, not-suc-le-zero, mod-lt, arith, eqb, length}
+use Rattle.std.proofs.Common.{eq-eqb, eqb-true}
 use lib.Arith.{lt-one}
-use lib.Dec.{eqb}
-use lib.ListN.{length}
-use borrow.Author.Tests.{eq-eqb, eqb-true, not-false}
+use borrow.Author.Tests.{not-false}
 use Rattle.words.specs.Bits.{has, at}
 use Rattle.words.specs.Searching.{any, passing}
 use Rattle.words.specs.Open.{open_words}

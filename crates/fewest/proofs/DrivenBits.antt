@@ -1,11 +1,7 @@
 -- No receiver reads the bits of a vector at or above n.
-use mathlib.Core.Path.{◌≡◌, refl, ap, ap₂, ◌∙◌}
-use mathlib.Core.Bool.{Bool, ◌&&◌}
-use mathlib.Core.List.{List, [], ◌∷◌, map}
-use Prim.Native.Nat.{ℕ, ◌^◌, ◌<◌}
-use native.Mathlib.Nat.{mod-lt}
-use lib.Bits.{bit_and, and_mask}
-use lib.Pow.{pow_pos}
+use Rattle.std.proofs.Common.{◌≡◌, refl, ap, ap₂, ◌∙◌, Bool, ◌&&◌, List, [], ◌∷◌, map, ℕ, ◌^◌, ◌<◌, mod-lt, bit_and}
+use Rattle.std.proofs.Common.{pow_pos}
+use lib.Bits.{and_mask}
 use Rattle.words.specs.Bits.{has, at}
 use Rattle.words.proofs.Tests.{and_true}
 use Rattle.words.proofs.Bits.{has_and}

@@ -1,14 +1,7 @@
 -- The cases, computed or by the claims, and the false claims, each by a list that breaks it.
-use mathlib.Core.Path.{◌≡◌, refl, sym, ap, ◌∙◌}
-use mathlib.Core.Bool.{false, not}
-use mathlib.Core.List.{List, map}
-use mathlib.Core.Logic.{⊎_elim}
-use Prim.Native.Nat.{ℕ, suc, ◌+◌, ◌≤◌, ◌<◌}
-use native.Mathlib.Omega.{arith}
-use lib.Bits.{bit_or}
-use lib.Dec.{eqb, ltb}
-use lib.ListN.{length}
-use borrow.Author.Tests.{eqb-true, ltb-true, not-false}
+use Rattle.std.proofs.Common.{◌≡◌, refl, sym, ap, ◌∙◌, false, not, List, map, ⊎_elim, ℕ, suc, ◌+◌, ◌≤◌, ◌<◌, arith}
+use Rattle.std.proofs.Common.{bit_or, eqb, ltb, length, eqb-true, ltb-true}
+use borrow.Author.Tests.{not-false}
 use Rattle.words.specs.Answers.{refused}
 use Rattle.words.specs.Bits.{has, at}
 use Rattle.words.specs.Searching.{any}

@@ -1,11 +1,5 @@
 -- No first step is shorter than the session's.
-use mathlib.Core.Path.{◌≡◌, subst}
-use mathlib.Core.Bool.{true, false}
-use mathlib.Core.Logic.{◌≢◌}
-use mathlib.Core.List.{List}
-use Prim.Native.Nat.{ℕ, ◌^◌, ◌<◌}
-use native.Mathlib.Omega.{arith}
-use lib.ListN.{length}
+use Rattle.std.proofs.Common.{◌≡◌, subst, true, false, ◌≢◌, List, ℕ, ◌^◌, ◌<◌, arith, length}
 use Rattle.words.specs.Bits.{has, at}
 use Rattle.words.specs.Turning.{transpose}
 use Rattle.words.proofs.Tests.{contrary, not_less}

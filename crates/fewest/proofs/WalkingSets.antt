@@ -1,13 +1,7 @@
 -- No set that is passed for k = n is smaller than the walking vectors with the extra vector, if there is one.
-use mathlib.Core.Path.{◌≡◌, refl, sym, ap, ◌∙◌, subst}
-use mathlib.Core.Bool.{true, false}
-use mathlib.Core.Logic.{inl, inr, ⊎_elim, ◌≢◌}
-use mathlib.Core.List.{List, map}
-use Prim.Native.Nat.{ℕ, ◌+◌, ◌-◌, ◌^◌, ◌≤◌, ◌<◌}
-use native.Mathlib.Nat.{not-suc-le-zero}
-use native.Mathlib.Omega.{arith}
-use lib.ListN.{length, length-map}
-use borrow.Author.Tests.{eq-eqb, eqb-true}
+use Rattle.std.proofs.Common.{◌≡◌, refl, sym, ap, ◌∙◌, subst, true, false, inl, inr, ⊎_elim, ◌≢◌, List, map, ℕ, ◌+◌}
+use Rattle.std.proofs.Common.{◌-◌, ◌^◌, ◌≤◌, ◌<◌, not-suc-le-zero, arith, length, eq-eqb, eqb-true}
+use lib.ListN.{length-map}
 use Rattle.words.specs.Bits.{has, at}
 use Rattle.words.specs.Turning.{tabulate}
 use Rattle.words.proofs.Tests.{cases, contrary, less_or_not, not_less}

@@ -1,12 +1,9 @@
 -- The call *findings* answers as its rows and its result say, and nothing is left open. A table of 64 records, and a
 -- table as a loop fills it.
-use mathlib.Core.Path.{◌≡◌, refl, sym, ap, ◌∙◌, subst}
-use mathlib.Core.Bool.{Bool, false, cond}
-use mathlib.Core.List.{List, [], ◌∷◌, ◌++◌, map}
-use Prim.Native.Nat.{ℕ, zero, suc, ◌+◌, ◌-◌, ◌≤◌, ◌<◌}
-use native.Mathlib.Omega.{arith}
-use lib.ListN.{length, take, drop, set, get_or, length-map, length-append, length-drop}
-use lib.Seq.{ext_get_or, length-take-le, get_or-take}
+use Rattle.std.proofs.Common.{◌≡◌, refl, sym, ap, ◌∙◌, subst, Bool, false, cond, List, [], ◌∷◌, ◌++◌, map, ℕ, ◌+◌}
+use Rattle.std.proofs.Common.{◌-◌, ◌≤◌, ◌<◌, arith, length, take, drop, set, get_or, length-append, length-drop}
+use Rattle.std.proofs.Common.{ext_get_or, length-take-le, get_or-take}
+use lib.ListN.{length-map}
 use Rattle.words.specs.Answers.{Answer, refused, full, ByTable, NoneHolds, by_tests, Decided, lent_after, count_of}
 use Rattle.words.specs.Bits.{at}
 use Rattle.words.specs.Turning.{tabulate}
@@ -18,6 +15,9 @@ use Rattle.words.proofs.Tests.{test_fails}
 use Rattle.words.proofs.Making.{map_at, map_fill, map_filled}
 use Rattle.words.proofs.Columns.{length_tabulate, tabulate_at}
 use Rattle.network.specs.declared.Network.{Network}
+use Rattle.std.specs.Prelude.{Result, Ok, Err}
+use Rattle.network.specs.declared.refusal.Refusal.{Refusal}
+use Rattle.network.specs.Refusing.{row_number}
 use Rattle.network.specs.States.{State, not_a_state}
 use Rattle.network.specs.Rows.{BoardRows, AdmittedBoard, board_tests, no_room}
 use Rattle.network.proofs.States.{test→state, decides_not_a_state}
@@ -124,29 +124,26 @@ module _ (net : Network) (owners state : List ℕ) (room : ℕ) where
       (FindingsRows net owners state room) records allowed).one_a_receiver in
       omega (arith, size, ok.fits)
 
-  accepted_0 : table_meaning (length owners) 0 ≡ count_of (findings_answer net owners state room)
+  -- accepted
+  pub table_accepted : {A : Type 0} (result : Result A Refusal) (x : A) → result ≡ Ok x
+      → table_meaning (length owners) result ≡ count_of (findings_answer net owners state room)
       → Accepted net owners state room
   unfolding table_meaning findings_answer
-  accepted_0 said =
+  table_accepted (Ok x) y e said =
       let counted = counted_full (findings_answer net owners state room) (length owners) (sym said) in
       none_holds_accepted (let_through (FindingsRows net owners state room) (findings_tests net owners state room)
       (findings net owners state) counted.0 (decides_rows net owners state room) counted.1)
+  table_accepted (Err refusal) y e said = absurd cc
 
-  -- 0: accepted
-  pub table_accepted : (number : ℕ) → number ≡ 0
-      → table_meaning (length owners) number ≡ count_of (findings_answer net owners state room)
-      → Accepted net owners state room
-  table_accepted number z said =
-      accepted_0 (subst (λ (n : ℕ). table_meaning (length owners) n
-      ≡ count_of (findings_answer net owners state room)) z said)
-
-  -- any other number: the refusal
-  pub table_refused : (number : ℕ) → ¬ (number ≡ 0)
-      → table_meaning (length owners) number ≡ count_of (findings_answer net owners state room)
-      → findings_answer net owners state room ≡ refused number
+  -- or the refusal
+  pub table_refused : {A : Type 0} (result : Result A Refusal) (refusal : Refusal) → result ≡ Err refusal
+      → table_meaning (length owners) result ≡ count_of (findings_answer net owners state room)
+      → findings_answer net owners state room ≡ refused (row_number refusal)
   unfolding table_meaning
-  table_refused zero n said = absurd (n refl)
-  table_refused (suc k) n said = counted_refused (findings_answer net owners state room) (suc k) (sym said)
+  table_refused (Ok x) refusal e said = absurd cc
+  table_refused (Err other) refusal e said =
+      let same : other ≡ refusal = cc in
+      counted_refused (findings_answer net owners state room) (row_number refusal) (sym said ∙ ap (λ r. refused (row_number r)) same)
 
 -- ---- a table of 64 records, with room for the receivers of every board
 

@@ -1,15 +1,9 @@
 -- What kinds 0 and 1 say of a receiver r, on net i. Whether it has partners is decided by which drivers reach it and
 -- what the driver of its own net reaches; the rest of the rule says which further nets are named.
-use mathlib.Core.Path.{◌≡◌, refl, sym, ap, ◌∙◌, subst}
-use mathlib.Core.Bool.{Bool, true, false, not}
-use mathlib.Core.Logic.{◌≢◌, ◌↔◌, inl, inr, ⊎_elim}
-use mathlib.Core.List.{List}
-use Prim.Native.Nat.{ℕ, ◌+◌, ◌*◌, ◌^◌, ◌<◌}
-use native.Mathlib.Omega.{arith}
-use lib.Dec.{eqb}
-use lib.ListN.{length}
-use lib.Pow.{pow_pos, pow-lt}
-use borrow.Author.Tests.{eqb-true, eqb-false, ne_eqb, not-false}
+use Rattle.std.proofs.Common.{◌≡◌, refl, sym, ap, ◌∙◌, subst, Bool, true, false, not, ◌≢◌, ◌↔◌, inl, inr, ⊎_elim}
+use Rattle.std.proofs.Common.{List, ℕ, ◌+◌, ◌*◌, ◌^◌, ◌<◌, arith, eqb, length, pow_pos, eqb-true, ne_eqb}
+use lib.Pow.{pow-lt}
+use borrow.Author.Tests.{eqb-false, not-false}
 use Rattle.words.specs.Bits.{has, bit_value, at}
 use Rattle.words.proofs.Tests.{cases, contrary, not_equal, test_fails, equal_if_not_unequal}
 use Rattle.words.proofs.Bits.{words_equal, has_zero, has_power, has_own, has_only, some_bit, bit_value_is}

@@ -1,10 +1,5 @@
 -- The kind of a finding as a sum: open counts 1, short counts 2.
-use mathlib.Core.Path.{◌≡◌, refl, sym}
-use mathlib.Core.Bool.{Bool, true, false, not, ◌&&◌}
-use mathlib.Core.List.{List}
-use Prim.Native.Nat.{ℕ, ◌+◌, ◌*◌}
-use lib.Dec.{eqb}
-use borrow.Author.Tests.{eqb-true}
+use Rattle.std.proofs.Common.{◌≡◌, refl, sym, Bool, true, false, not, ◌&&◌, List, ℕ, ◌+◌, ◌*◌, eqb, eqb-true}
 use Rattle.words.specs.Bits.{has, bit_value, at}
 use Rattle.words.proofs.Tests.{passes_either_way}
 use Rattle.network.specs.declared.Network.{Network}

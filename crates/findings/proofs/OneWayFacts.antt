@@ -1,7 +1,5 @@
 -- What is no code with one way through it, and no code of numbers alone: facts by computation.
-use mathlib.Core.Path.{◌≡◌, refl}
-use mathlib.Core.Bool.{true, false}
-use mathlib.Core.List.{[], ◌∷◌, map}
+use Rattle.std.proofs.Common.{◌≡◌, refl, true, false, [], ◌∷◌, map}
 use lib.Ieee.{binary64}
 use mir.Syntax.{ty_int, ty_bool, ty_float, ty_ptr, ty_ref, ty_array, ty_unit, ty_struct, ty_enum, ty_param, ty_const}
 use mir.Syntax.{ty_array_p, ty_named, tnil, ttnil, tcons, dnil, dcons, erased, imm, w64, local, given, detached, rattle_abi, c_bool}

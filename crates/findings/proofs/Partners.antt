@@ -1,10 +1,6 @@
 -- The partners of a receiver: the test says what document 02's words say, and what a reader may ask of the rule.
-use mathlib.Core.Path.{◌≡◌, refl, sym, ap, ◌∙◌, subst}
-use mathlib.Core.Bool.{true, false}
-use mathlib.Core.Logic.{◌⊎◌, ◌≢◌, ◌↔◌, inl, inr}
-use mathlib.Core.List.{List}
-use Prim.Native.Nat.{ℕ, ◌<◌, ◌^◌}
-use lib.ListN.{length}
+use Rattle.std.proofs.Common.{◌≡◌, refl, sym, ap, ◌∙◌, subst, true, false, ◌⊎◌, ◌≢◌, ◌↔◌, inl, inr, List, ℕ, ◌<◌, ◌^◌}
+use Rattle.std.proofs.Common.{length}
 use Rattle.words.specs.Answers.{Decides}
 use Rattle.words.specs.Bits.{has, at}
 use Rattle.words.specs.Turning.{tabulate}

@@ -1,8 +1,10 @@
 -- The call *findings*: rows 5, 21, 17, 20, 11 with k = n, and 12, then a record a receiver.
-use Rattle.std.specs.Prelude.{ℕ, zero, suc, ◌<◌, ◌≡◌, Bool, List, [], ◌∷◌, ◌++◌, map, length, get_or, replicate}
+use Rattle.std.specs.Prelude.{ℕ, ◌<◌, ◌≡◌, Bool, Result, Ok, Err, List, [], ◌∷◌, ◌++◌, map, length, get_or, replicate}
 use Rattle.words.specs.Answers.{Answer, refused, full, by_tests}
 use Rattle.words.specs.Turning.{tabulate}
 use Rattle.network.specs.declared.Network.{Network}
+use Rattle.network.specs.declared.refusal.Refusal.{Refusal}
+use Rattle.network.specs.Refusing.{row_number}
 use Rattle.network.specs.States.{not_a_state}
 use Rattle.network.specs.Rows.{BoardRows, Row11, Row12, board_tests, no_room}
 use Rattle.findings.specs.declared.Finding.{Finding}
@@ -34,11 +36,10 @@ findings net owners state = map (finding net owners state) (tabulate (length sta
 unfoldable pub findings_answer : Network → (owners state : List ℕ) → ℕ → Answer (List Finding)
 findings_answer net owners state room = by_tests (findings_tests net owners state room) (findings net owners state)
 
--- document 01's number and values for the number returned: 0 is accepted, m records, one a receiver; any other number
--- is the refusal
-unfoldable pub table_meaning : (m number : ℕ) → Answer ℕ
-table_meaning m zero = full m
-table_meaning m (suc number) = refused (suc number)
+-- what the call returns, as its answer: accepted, m records, one a receiver; or the refusal, by its row's number
+unfoldable pub table_meaning : {A : Type 0} (m : ℕ) → Result A Refusal → Answer ℕ
+table_meaning m (Ok accepted) = full m
+table_meaning m (Err refusal) = refused (row_number refusal)
 
 -- a record with nothing in it, and a table of 64
 abbrev pub blank : Finding

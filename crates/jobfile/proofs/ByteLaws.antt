@@ -1,10 +1,9 @@
 -- Numbers as bytes there and back.
-use mathlib.Core.Path.{◌≡◌, refl, ap, ap₂, ◌∙◌}
-use mathlib.Core.List.{List, [], ◌∷◌}
-use Prim.Native.Nat.{ℕ, zero, suc, ◌+◌, ◌*◌, ◌/◌, ◌%◌, ◌^◌, ◌<◌, suc-le-suc}
-use native.Mathlib.Nat.{pow-suc, le_of_suc-le-suc, not-suc-le-zero}
-use native.Mathlib.Omega.{arith}
-use lib.ListN.{length, length-append}
+use Rattle.std.proofs.Common.{◌≡◌, refl, sym, ap, ap₂, ◌∙◌, List, [], ◌∷◌, ℕ, zero, suc, ◌+◌, ◌*◌, ◌/◌, ◌%◌, ◌^◌, ◌<◌}
+use Rattle.std.proofs.Common.{◌≤◌, suc-le-suc, pow-suc, le_of_suc-le-suc, not-suc-le-zero, arith, length, take}
+use Rattle.std.proofs.Common.{length-append}
+use native.Mathlib.Nat.{div-div-eq-div-mul}
+use Rattle.std.specs.Int.{w64, byte_at, bytes_low_first, to_le_bytes}
 use Rattle.jobfile.specs.Bytes.{number_of, bytes_of, word_bytes, AllBytes}
 
 -- a list of bytes, byte by byte
@@ -30,6 +29,27 @@ number_there (suc count) number l =
     let fits : number < 256 ^ count * 256 = rw (pow-suc 256 count) at l in
     let rest : number_of (bytes_of count (number / 256)) ≡ number / 256 = number_there count (number / 256) (omega arith) in
     omega arith
+
+-- the library's bytes of a number, low byte first: from byte i on, and the lowest of eight
+low_first : (i count number : ℕ) → bytes_low_first i count number ≡ bytes_of count (number / 256 ^ i)
+unfolding bytes_of
+low_first i zero number = refl
+low_first zero (suc count) number =
+    ap₂ (λ (x : ℕ) (xs : List ℕ). x ∷ xs) (omega arith) (low_first 1 count number ∙ ap (bytes_of count) (omega arith))
+low_first (suc i) (suc count) number =
+    let next : number / 256 ^ suc (suc i) ≡ number / 256 ^ suc i / 256 =
+    ap (λ (p : ℕ). number / p) (pow-suc 256 (suc i)) ∙ sym (div-div-eq-div-mul number (256 ^ suc i) 256) in
+    ap (λ (xs : List ℕ). number / 256 ^ suc i % 256 ∷ xs) (low_first (suc (suc i)) count number ∙ ap (bytes_of count) next)
+
+take_low : (i count all number : ℕ) → count ≤ all → take count (bytes_low_first i all number) ≡ bytes_low_first i count number
+take_low i zero all number l = refl
+take_low i (suc count) zero number l = absurd (not-suc-le-zero l)
+take_low i (suc count) (suc all) number l =
+    ap (λ (xs : List ℕ). byte_at i number ∷ xs) (take_low (suc i) count all number (le_of_suc-le-suc l))
+
+pub low_bytes : (count number : ℕ) → count ≤ 8 → take count (to_le_bytes w64 number) ≡ bytes_of count number
+low_bytes count number l =
+    take_low 0 count 8 number l ∙ low_first 0 count number ∙ ap (bytes_of count) (omega arith)
 
 -- and bytes are those of the number they make
 pub bytes_there : (bytes : List ℕ) → AllBytes bytes → bytes_of (length bytes) (number_of bytes) ≡ bytes

@@ -1,17 +1,15 @@
 -- The tests of the file's rows decide them.
-use mathlib.Core.Path.{◌≡◌, refl, sym, ap, ap₂, ◌∙◌}
-use mathlib.Core.Logic.{◌⊎◌, ◌≢◌, ⊎_elim}
-use mathlib.Core.Bool.{Bool, true, false, not, cond, ◌&&◌, ◌||◌, true≢false, false≢true}
-use mathlib.Core.List.{List, [], ◌∷◌}
-use Prim.Native.Nat.{ℕ, zero, suc, ◌+◌, ◌-◌, ◌%◌, ◌≤◌, ◌<◌}
-use native.Mathlib.Omega.{arith}
-use lib.Dec.{eqb, ltb}
-use lib.ListN.{length, take}
-use borrow.Author.Tests.{eqb-true, eq-eqb, ne_eqb, ltb-false, le-ltb, not-false}
+use Rattle.std.proofs.Common.{◌≡◌, refl, sym, ap, ap₂, ◌∙◌, ◌⊎◌, ◌≢◌, ⊎_elim, Bool, true, false, not, cond, ◌&&◌}
+use Rattle.std.proofs.Common.{◌||◌, true≢false, List, [], ◌∷◌, ℕ, zero, suc, ◌+◌, ◌-◌, ◌%◌, ◌≤◌, ◌<◌, arith, eqb, ltb}
+use Rattle.std.proofs.Common.{length, take, eqb-true, eq-eqb, ne_eqb, ltb-false, le-ltb}
+use mathlib.Core.Bool.{false≢true}
+use borrow.Author.Tests.{not-false}
+use Rattle.std.specs.List.{starts_with}
+use Rattle.std.proofs.lemmas.Slice.Eq.{bytes_eq-Decides}
 use Rattle.words.specs.Answers.{Decides}
 use Rattle.words.specs.Searching.{any}
 use Rattle.words.proofs.Tests.{cases, contrary, and_left, and_right, and_both, and_false, neither, decides_less}
-use Rattle.words.proofs.Tests.{decides_equal, decides_not, decides_or, decides_and, test_passes, test_fails}
+use Rattle.words.proofs.Tests.{decides_equal, decides_not, decides_or, decides_and, test_passes}
 use Rattle.words.proofs.Searching.{any_none, any_false, decides_any}
 use Rattle.jobfile.specs.Layout.{mark, most_bytes, entry_count, bodies_at, entry_kind, body_offset, body_length}
 use Rattle.jobfile.specs.Layout.{Row1, Layout, Row2, Row3, same_bytes, bad_mark, bad_entry, bad_layout}
@@ -40,8 +38,15 @@ same_if_equal xs ys q = ap (same_bytes xs) (sym q) ∙ same_itself xs
 pub decides_same_bytes : (xs ys : List ℕ) → Decides (same_bytes xs ys) (xs ≡ ys)
 decides_same_bytes xs ys = (same_is xs ys, λ e q. contrary (same_if_equal xs ys q) e)
 
-pub not_same_if_unequal : (xs ys : List ℕ) → xs ≢ ys → same_bytes xs ys ≡ false
-not_same_if_unequal xs ys n = test_fails (decides_same_bytes xs ys) n
+-- the library's test of a file's first bytes is this one
+pub starts_same : (file : List ℕ) → starts_with eqb file mark ≡ same_bytes (take 4 file) mark
+starts_same file =
+    let first = take 4 file in
+    let d = bytes_eq-Decides mark first in
+    let s = decides_same_bytes first mark in
+    ⊎_elim (λ e. d.1 (sym (s.0 e)) ∙ sym e)
+    (λ e. ⊎_elim (λ q. absurd (s.1 e (sym (d.0 q)))) (λ q. q) (cases (starts_with eqb file mark)) ∙ sym e)
+    (cases (same_bytes first mark))
 
 pub decides_row_1 : (file : List ℕ) → Decides (bad_mark file) (Row1 file)
 decides_row_1 file = decides_not (decides_same_bytes (take 4 file) mark)

@@ -1,13 +1,7 @@
 -- Laws of the vectors' body: how long it is, that its words and the vectors are each other's, and that the rows asked
 -- of its words are those of the vectors.
-use mathlib.Core.Path.{◌≡◌, refl, sym, ap, ◌∙◌, subst}
-use mathlib.Core.Bool.{true, false}
-use mathlib.Core.Logic.{◌⊎◌, inl, inr, ⊎_elim}
-use mathlib.Core.List.{List, [], ◌∷◌}
-use Prim.Native.Nat.{ℕ, ◌+◌, ◌*◌, ◌^◌, ◌≤◌, ◌<◌}
-use native.Mathlib.Omega.{arith}
-use lib.ListN.{length, length-append}
-use borrow.Author.Tests.{eqb-true, eq-eqb}
+use Rattle.std.proofs.Common.{◌≡◌, refl, sym, ap, ◌∙◌, subst, true, false, ◌⊎◌, inl, inr, ⊎_elim, List, [], ◌∷◌, ℕ}
+use Rattle.std.proofs.Common.{◌+◌, ◌*◌, ◌^◌, ◌≤◌, ◌<◌, arith, length, length-append, eqb-true, eq-eqb}
 use Rattle.words.specs.Answers.{full, NoneHolds, Decides, Decided}
 use Rattle.words.proofs.Answers.{decided_append, let_through}
 use Rattle.words.specs.Bits.{at}

@@ -2,3 +2,4 @@ pub mod Bytes
 pub mod VectorsBody
 pub mod Layout
 pub mod Open
+pub mod BodyKind

@@ -1,36 +1,29 @@
 -- What the report's parts say of one another: the reader's answer and the diagnosis, and how long line one is.
-use Prim.Native.Nat.{ℕ, ◌≤◌}
-use native.Mathlib.Omega.{arith}
-use mathlib.Core.Path.{◌≡◌, refl, sym, ap, ap₂, ◌∙◌, subst, subst₂}
-use mathlib.Core.Logic.{◌≢◌}
-use mathlib.Core.List.{List, [], ◌∷◌}
-use lib.ListN.{length, take, replicate, length-append}
+use Rattle.std.proofs.Common.{ℕ, ◌≤◌, arith, ◌≡◌, refl, sym, ap, ap₂, ◌∙◌, subst, subst₂, ◌≢◌, List, [], ◌∷◌, length}
+use Rattle.std.proofs.Common.{take, replicate, length-append}
 use Rattle.words.specs.Answers.{Answer, refused, full, ByTable, NoneHolds, lent_after, count_of}
 use Rattle.words.proofs.Classes.{ones_at_most}
 use Rattle.words.proofs.Answers.{table_full, front_written, written_fits, counted_refused, counted_full, table_none_holds}
-use Rattle.words.proofs.Answers.{none_front, none_both}
+use Rattle.words.proofs.Answers.{none_front}
 use Rattle.network.specs.declared.Network.{Network}
 use Rattle.network.specs.States.{State, Fits}
-use Rattle.network.specs.Rows.{SetRows, BoardRows, BoardSetRows, AdmittedBoard}
+use Rattle.network.specs.Rows.{SetRows, BoardSetRows, AdmittedBoard}
 use Rattle.network.specs.OwnReceivers.{own_receivers}
-use Rattle.network.proofs.Rows.{receivers_of_board}
 use Rattle.network.proofs.OwnReceivers.{own_size}
 use Rattle.checker.specs.declared.Verdict.{Verdict}
 use Rattle.checker.specs.declared.Verdict.TheVariants.{Pass, Pair}
-use Rattle.diagnosis.specs.declared.Diagnosed.{Diagnosed}
-use Rattle.diagnosis.specs.declared.Diagnosed.TheVariants.{Wrote, Refused}
-use Rattle.diagnosis.specs.Diagnosis.{OwnRows, DiagnosisRows, diagnosis_answer, meaning}
+use Rattle.checker.specs.Rule.{verdict}
+use Rattle.diagnosis.specs.Diagnosis.{OwnRows, DiagnosisRows, diagnosis_answer}
 use Rattle.diagnosis.proofs.DiagnosisLaws.{diagnosis_by_table}
-use Rattle.findings.specs.FindingsTable.{TableRows, FindingsRows}
 use Rattle.reader.specs.declared.Job.{Job}
-use Rattle.reader.specs.declared.ReadJob.{ReadJob}
-use Rattle.reader.specs.declared.ReadJob.TheVariants.{Content, Refused as Stopped}
+use Rattle.std.specs.Prelude.{Result, Ok, Err}
+use Rattle.network.specs.declared.refusal.Refusal.{Refusal}
+use Rattle.network.specs.Refusing.{row_number, answer_of}
 use Rattle.reader.specs.Reader.{JobContent, content, FileBodyRows, ListRows, ReaderRows, read_answer, vectors_read, responses_read, counted}
-use Rattle.reader.specs.Reader.{meaning as read_meaning}
 use Rattle.reader.proofs.ReaderLaws.{read_by_table, set_of_file}
 use Rattle.reader.proofs.ReaderAnswers.{read_counted_refused, read_counted_full}
-use Rattle.decimal.specs.Decimal.{spaced, numbers_end}
-use Rattle.decimal.proofs.Numerals.{decimal_most}
+use Rattle.decimal.proofs.Numerals.{numbers_most}
+use Rattle.listing.proofs.NetsPut.{lines_most}
 use Rattle.listing.specs.Report.{refused_line, verdict_line, diagnosis_text, responses_text, content_text, job_text, report}
 
 -- ---- the diagnosis
@@ -59,23 +52,24 @@ board_of_set net owners k vectors (five, (receivers, (_, (level, (gate, _))))) =
     (five, (receivers, (level, (gate, tt))))
 
 -- the call's answer, for nets with one receiver each
-module _ (net : Network) (k : ℕ) (vectors responses lent list : List ℕ) (answer : Diagnosed) where
+module _ (net : Network) (k : ℕ) (vectors responses lent list : List ℕ) (answer : Result ℕ Refusal) where
   abbrev own : List ℕ
   own = own_receivers net.nets
 
   abbrev outcome : Answer (List ℕ)
   outcome = diagnosis_answer net own k vectors responses (length lent)
 
-  pub diagnosis_refused : (number : ℕ) → meaning answer ≡ count_of outcome → answer ≡ Refused number → outcome ≡ refused number
-  diagnosis_refused number e r = counted_refused outcome number (sym e ∙ ap meaning r)
+  pub diagnosis_refused : (refusal : Refusal) → answer_of answer ≡ count_of outcome → answer ≡ Err refusal
+      → outcome ≡ refused (row_number refusal)
+  diagnosis_refused refusal e r = counted_refused outcome (row_number refusal) (sym e ∙ ap answer_of r)
 
-  -- an accepted diagnosis: what was written is a state, and *findings* accepts it
-  pub diagnosis_wrote : (count : ℕ) → meaning answer ≡ count_of outcome → list ≡ lent_after outcome lent → answer ≡ Wrote count
-      → (outcome ≡ full (take net.nets list)) × NoneHolds (FindingsRows net own (take net.nets list) 64)
+  -- an accepted diagnosis: what was written is a state of the board
+  pub diagnosis_wrote : (count : ℕ) → answer_of answer ≡ count_of outcome → list ≡ lent_after outcome lent → answer ≡ Ok count
+      → (outcome ≡ full (take net.nets list)) × AdmittedBoard net own × State net (length own) net.nets (take net.nets list)
   diagnosis_wrote count e l w =
       let m = length own in
       let rows = DiagnosisRows net own k vectors responses (length lent) in
-      let found = counted_full outcome count (sym e ∙ ap meaning w) in
+      let found = counted_full outcome count (sym e ∙ ap answer_of w) in
       let state : List ℕ = found.0 in
       let allowed : ByTable rows (Fits net m k vectors responses) (full state) =
       subst (ByTable rows (Fits net m k vectors responses)) found.1
@@ -91,38 +85,20 @@ module _ (net : Network) (k : ℕ) (vectors responses lent list : List ℕ) (ans
       let board = board_of_set net own k vectors
       (none_front (BoardSetRows net own k vectors) (OwnRows net m k vectors responses (length lent))
       (table_none_holds (Fits net m k vectors responses) rows state allowed)) in
-      let most : m ≤ 64 = (receivers_of_board net own board).most in
-      let table : NoneHolds (TableRows net m (take net.nets list) 64) =
-      (λ eleven. eleven is_state, (λ twelve. omega (arith, most, twelve), tt)) in (
-        found.1 ∙ ap full (sym front),
-        none_both (BoardRows net own) (TableRows net m (take net.nets list) 64) board table,
-      )
+      (found.1 ∙ ap full (sym front), board, is_state)
 
 -- ---- line one
 
 -- it has at most 110 bytes
-pub verdict_most : (net : Network) (k count : ℕ) (verdict : Verdict) → length (verdict_line net k count verdict) ≤ 110
-unfolding verdict_line numbers_end
-verdict_most net k count Pass =
-    let a = decimal_most net.nets in
-    let b = decimal_most k in
-    let c = decimal_most count in
-    let one = length-append (spaced net.nets) (numbers_end (k ∷ count ∷ [])) in
-    let two = length-append (spaced k) (numbers_end (count ∷ [])) in
-    let three = length-append (spaced count) (numbers_end []) in
-    omega arith
-verdict_most net k count (Pair x y) =
-    let a = decimal_most net.nets in
-    let b = decimal_most k in
-    let c = decimal_most count in
-    let d = decimal_most x in
-    let e = decimal_most y in
-    let one = length-append (spaced net.nets) (numbers_end (k ∷ count ∷ x ∷ y ∷ [])) in
-    let two = length-append (spaced k) (numbers_end (count ∷ x ∷ y ∷ [])) in
-    let three = length-append (spaced count) (numbers_end (x ∷ y ∷ [])) in
-    let four = length-append (spaced x) (numbers_end (y ∷ [])) in
-    let five = length-append (spaced y) (numbers_end []) in
-    omega arith
+verdict_most : (net : Network) (k count : ℕ) (verdict : Verdict) → length (verdict_line net k count verdict) ≤ 110
+unfolding verdict_line
+verdict_most net k count Pass = let most = numbers_most (net.nets ∷ k ∷ count ∷ []) in omega arith
+verdict_most net k count (Pair x y) = let most = numbers_most (net.nets ∷ k ∷ count ∷ x ∷ y ∷ []) in omega arith
+
+-- and a refusal 29
+pub refused_most : (number : ℕ) → length (refused_line number) ≤ 29
+unfolding refused_line
+refused_most number = let most = numbers_most (number ∷ []) in omega arith
 
 -- ---- what follows it
 
@@ -137,6 +113,28 @@ module _ (net : Network) (k : ℕ) (vectors : List ℕ) where
   diagnosis_follows [] e = absurd (e refl)
   diagnosis_follows (word ∷ words) e = refl
 
+-- ---- all of it
+
+-- the text has room for it: 110 bytes, and 84 for each of 48 nets
+module _ (net : Network) (few : net.nets ≤ 48) where
+  diagnosis_most : (said : Answer (List ℕ)) → length (diagnosis_text net said) ≤ 4032
+  diagnosis_most (refused number) = let most = refused_most number in omega arith
+  diagnosis_most (full state) = let most = lines_most net state 0 net.nets in omega arith
+
+  responses_most : (k : ℕ) (vectors responses : List ℕ) → length (responses_text net k vectors responses) ≤ 4032
+  responses_most k vectors [] = omega arith
+  responses_most k vectors (word ∷ words) =
+      diagnosis_most (diagnosis_answer net (own_receivers net.nets) k vectors (word ∷ words) 48)
+
+pub content_most : (net : Network) (k : ℕ) (vectors responses : List ℕ) → net.nets ≤ 48
+    → length (content_text net k vectors responses) ≤ 4142
+unfolding content_text
+content_most net k vectors responses few =
+    let line = verdict_most net k (length vectors) (verdict net k vectors) in
+    let more = responses_most net few k vectors responses in
+    let both = length-append (verdict_line net k (length vectors) (verdict net k vectors)) (responses_text net k vectors responses) in
+    omega arith
+
 -- ---- the reader's answer
 
 -- what the report knows of a file that was read, and of the two lists
@@ -146,11 +144,12 @@ pub record ReadContent (file : List ℕ) (job : Job) (vectors responses : List �
   pub admitted : NoneHolds (SetRows job.network job.class (take job.vectors vectors))
   pub text : report file ≡ content_text job.network job.class (take job.vectors vectors) (take job.responses responses)
 
-pub read_refused : (file : List ℕ) (answer : ReadJob) (number : ℕ) → answer ≡ Stopped number
-    → read_meaning answer ≡ counted (read_answer file 64 64)
-    → report file ≡ refused_line number
+pub read_refused : (file : List ℕ) (answer : Result Job Refusal) (refusal : Refusal) → answer ≡ Err refusal
+    → answer_of answer ≡ counted (read_answer file 64 64)
+    → report file ≡ refused_line (row_number refusal)
 unfolding report
-read_refused file answer number r e = ap job_text (read_counted_refused (read_answer file 64 64) number (sym e ∙ ap read_meaning r))
+read_refused file answer refusal r e =
+    ap job_text (read_counted_refused (read_answer file 64 64) (row_number refusal) (sym e ∙ ap answer_of r))
 
 module _ (file : List ℕ) where
   -- the test set of a file that is read is admitted
@@ -185,12 +184,12 @@ module _ (file : List ℕ) where
         text = ap job_text e ∙ ap₂ (λ (v w : List ℕ). content_text c.network c.class v w) (sym vectors) (sym responses);
       })
 
-pub read_content : (file : List ℕ) (answer : ReadJob) (job : Job) (vectors responses : List ℕ) → answer ≡ Content job
-    → read_meaning answer ≡ counted (read_answer file 64 64)
+pub read_content : (file : List ℕ) (answer : Result Job Refusal) (job : Job) (vectors responses : List ℕ) → answer ≡ Ok job
+    → answer_of answer ≡ counted (read_answer file 64 64)
     → vectors ≡ lent_after (vectors_read (read_answer file 64 64)) (replicate 64 0)
     → responses ≡ lent_after (responses_read (read_answer file 64 64)) (replicate 64 0) → ReadContent file job vectors responses
 read_content file answer job vectors responses r e v w =
-    let c = read_counted_full (read_answer file 64 64) job (sym e ∙ ap read_meaning r) in
+    let c = read_counted_full (read_answer file 64 64) job (sym e ∙ ap answer_of r) in
     subst₂ (λ (a b : List ℕ). ReadContent file job a b)
     (sym (v ∙ ap (λ (a : Answer JobContent). lent_after (vectors_read a) (replicate 64 0)) c.1))
     (sym (w ∙ ap (λ (a : Answer JobContent). lent_after (responses_read a) (replicate 64 0)) c.1))

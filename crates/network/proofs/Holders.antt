@@ -1,17 +1,11 @@
 -- The test for a conflict in one pass: the drivers taken so far, and at each of them the reach whose lowest it is.
-use mathlib.Core.Path.{◌≡◌, refl, sym, ap, ◌∙◌, subst}
-use mathlib.Core.Bool.{Bool, true, false, ◌&&◌, ◌||◌}
-use mathlib.Core.Logic.{◌≢◌, ⊎_elim}
-use mathlib.Core.List.{List}
-use Prim.Native.Nat.{ℕ, ◌+◌, ◌^◌, ◌≤◌, ◌<◌}
-use native.Mathlib.Nat.{lt_of_le_of_lt, not-suc-le-zero}
-use native.Mathlib.Omega.{arith}
-use lib.Bits.{bit_and, bit_or, and_le_l}
+use Rattle.std.proofs.Common.{◌≡◌, refl, sym, ap, ◌∙◌, subst, Bool, true, false, ◌&&◌, ◌||◌, ◌≢◌, ⊎_elim, List, ℕ}
+use Rattle.std.proofs.Common.{◌+◌, ◌^◌, ◌≤◌, ◌<◌, lt_of_le_of_lt, not-suc-le-zero, arith, bit_and, bit_or, eqb}
+use Rattle.std.proofs.Common.{length, set, replicate, get_or-set_same, get_or-set_other, eqb-true}
+use lib.Bits.{and_le_l}
 use lib.Count.{count_trailing_zeros}
-use lib.Dec.{eqb}
-use lib.ListN.{length, set, replicate, get_or-replicate}
-use lib.Seq.{get_or-set_same, get_or-set_other}
-use borrow.Author.Tests.{eqb-true, eqb-false}
+use lib.ListN.{get_or-replicate}
+use borrow.Author.Tests.{eqb-false}
 use Rattle.words.specs.Bits.{has, at}
 use Rattle.words.proofs.Tests.{cases, contrary, and_left, and_right, and_both, or_cases, or_right, less_or_not}
 use Rattle.words.proofs.Bits.{has_zero, has_and, has_or, has_inside, has_not_zero, some_bit}

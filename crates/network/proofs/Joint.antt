@@ -1,15 +1,8 @@
 -- What the drivers of a set drive together, driver by driver, and that a receiver of that reach reads it.
-use mathlib.Core.Path.{◌≡◌, refl, sym, ap, ap₂, ◌∙◌}
-use mathlib.Core.Bool.{Bool, true, false, not, ◌&&◌, ◌||◌, cond}
-use mathlib.Core.Logic.{⊎_elim, ◌≢◌}
-use mathlib.Core.List.{List}
-use Prim.Native.Nat.{ℕ, ◌+◌, ◌-◌, ◌%◌, ◌^◌, ◌≤◌, ◌<◌}
-use native.Mathlib.Omega.{arith}
-use lib.Bits.{bit_and, bit_or, and_lt, or_lt}
-use lib.Dec.{eqb}
-use lib.ListN.{length}
-use lib.Pow.{pow_pos}
-use borrow.Author.Tests.{eqb-true, eq-eqb}
+use Rattle.std.proofs.Common.{◌≡◌, refl, sym, ap, ap₂, ◌∙◌, Bool, true, false, not, ◌&&◌, ◌||◌, cond, ⊎_elim, ◌≢◌}
+use Rattle.std.proofs.Common.{List, ℕ, ◌+◌, ◌-◌, ◌%◌, ◌^◌, ◌≤◌, ◌<◌, arith, bit_and, bit_or, eqb, length, pow_pos}
+use Rattle.std.proofs.Common.{eqb-true, eq-eqb}
+use lib.Bits.{and_lt, or_lt}
 use Rattle.words.specs.Bits.{has, at}
 use Rattle.words.specs.Turning.{column}
 use Rattle.words.proofs.Tests.{or_cases, or_right, same_truth}

@@ -5,5 +5,6 @@ pub mod States
 pub mod Holders
 pub mod NamedNets
 pub mod Rows
+pub mod Refusing
 pub mod Respond
 pub mod OwnReceivers

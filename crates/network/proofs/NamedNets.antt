@@ -1,17 +1,9 @@
 -- What the nets named so far say of row 21.
-use mathlib.Core.Path.{◌≡◌, sym, ap, ◌∙◌}
-use mathlib.Core.Bool.{Bool, true, false, not, ◌||◌}
-use mathlib.Core.Logic.{⊎_elim}
-use mathlib.Core.List.{List}
-use Prim.Native.Nat.{ℕ, ◌+◌, ◌^◌, ◌<◌}
-use native.Mathlib.Nat.{not-suc-le-zero}
-use native.Mathlib.Omega.{arith}
-use lib.Bits.{bit_or, or_lt}
-use lib.Pow.{pow_pos, pow-lt}
-use borrow.Author.Count.{below_more}
-use lib.Dec.{eqb}
-use lib.ListN.{length}
-use borrow.Author.Tests.{eq-eqb, ne_eqb, not-true, not-false}
+use Rattle.std.proofs.Common.{◌≡◌, sym, ap, ◌∙◌, Bool, true, false, not, ◌||◌, ⊎_elim, List, ℕ, ◌+◌, ◌^◌, ◌<◌}
+use Rattle.std.proofs.Common.{not-suc-le-zero, arith, bit_or, pow_pos, below_more, eqb, length, eq-eqb, ne_eqb}
+use lib.Bits.{or_lt}
+use lib.Pow.{pow-lt}
+use borrow.Author.Tests.{not-true, not-false}
 use Rattle.words.specs.Bits.{has, at}
 use Rattle.words.specs.Searching.{any, among}
 use Rattle.words.proofs.Bits.{words_equal, has_zero, has_own, has_only, has_or}

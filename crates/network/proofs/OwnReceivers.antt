@@ -1,10 +1,5 @@
 -- The list of own receivers, which row 21 lets through; and the call that fills it.
-use mathlib.Core.Path.{◌≡◌, refl, sym, ◌∙◌}
-use mathlib.Core.List.{List}
-use Prim.Native.Nat.{ℕ, ◌≤◌, ◌<◌}
-use native.Mathlib.Omega.{arith}
-use lib.ListN.{length}
-use lib.Seq.{ext_get_or}
+use Rattle.std.proofs.Common.{◌≡◌, refl, sym, ◌∙◌, List, ℕ, ◌≤◌, ◌<◌, arith, length, ext_get_or}
 use Rattle.words.specs.Answers.{Answer, ByTable}
 use Rattle.words.specs.Bits.{at}
 use Rattle.words.proofs.Answers.{tests_by_table, table_determined}

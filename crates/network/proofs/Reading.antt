@@ -1,18 +1,12 @@
 -- What the rest asks of `reads`: two laws of the definition, for each gate and level, and what follows from them. Both
 -- are said of the gate's active value, and not of 0 or 1.
-use mathlib.Core.Path.{◌≡◌, refl, sym, ap, ◌∙◌, subst}
-use mathlib.Core.Bool.{Bool, true, false, not, ◌&&◌, ◌||◌, cond}
-use mathlib.Core.Logic.{⊎_elim, ◌≢◌, ◌↔◌}
-use mathlib.Core.List.{List, [], ◌∷◌, map}
-use Prim.Native.Nat.{ℕ, zero, suc, ◌^◌, ◌≤◌, ◌<◌, zero-le}
-use native.Mathlib.Nat.{lt_of_le_of_lt, lt_trans, le_refl}
-use native.Mathlib.Omega.{arith}
-use lib.Bits.{bit_and, and_le_l}
-use lib.Dec.{eqb}
-use lib.ListN.{length, length-map}
-use lib.Pow.{pow_pos, pow-lt}
-use lib.Seq.{ext_get_or}
-use borrow.Author.Tests.{eq-eqb, ne_eqb, eqb-true, eqb-false, not-true}
+use Rattle.std.proofs.Common.{◌≡◌, refl, sym, ap, ◌∙◌, subst, Bool, true, false, not, ◌&&◌, ◌||◌, cond, ⊎_elim, ◌≢◌}
+use Rattle.std.proofs.Common.{◌↔◌, List, [], ◌∷◌, map, ℕ, zero, suc, ◌^◌, ◌≤◌, ◌<◌, zero-le, lt_of_le_of_lt, lt_trans}
+use Rattle.std.proofs.Common.{le_refl, arith, bit_and, eqb, length, pow_pos, ext_get_or, eq-eqb, ne_eqb, eqb-true}
+use lib.Bits.{and_le_l}
+use lib.ListN.{length-map}
+use lib.Pow.{pow-lt}
+use borrow.Author.Tests.{eqb-false, not-true}
 use Rattle.words.specs.Bits.{has, word, at}
 use Rattle.words.specs.Searching.{any}
 use Rattle.words.specs.Answers.{Decides}

@@ -1,8 +1,5 @@
 -- The call *response from a state* answers as its rows and its result say, and nothing is left open.
-use mathlib.Core.Path.{◌≡◌, refl}
-use mathlib.Core.List.{List}
-use Prim.Native.Nat.{ℕ}
-use lib.ListN.{length}
+use Rattle.std.proofs.Common.{◌≡◌, refl, List, ℕ, length}
 use Rattle.words.specs.Answers.{Answer, ByTable}
 use Rattle.words.proofs.Answers.{decided_append, tests_by_table, table_determined}
 use Rattle.network.specs.declared.Network.{Network}

@@ -1,14 +1,9 @@
 -- The test of a wiring state decides it, and a state is known by its reaches.
-use mathlib.Core.Path.{◌≡◌, sym, ap, ◌∙◌}
-use mathlib.Core.Bool.{Bool, true, false, not, ◌&&◌}
-use mathlib.Core.Logic.{◌⊎◌, inl, inr, ⊎_elim}
-use mathlib.Core.List.{List}
-use Prim.Native.Nat.{ℕ, ◌^◌, ◌≤◌, ◌<◌}
+use Rattle.std.proofs.Common.{◌≡◌, sym, ap, ◌∙◌, Bool, true, false, not, ◌&&◌, ◌⊎◌, inl, inr, ⊎_elim, List, ℕ, ◌^◌}
+use Rattle.std.proofs.Common.{◌≤◌, ◌<◌, eqb, leb, ltb, length, ext_get_or, eq-eqb, eqb-true, leb-true, le-leb}
+use Rattle.std.proofs.Common.{ltb-true, lt-ltb}
 use lib.Count.{ones}
-use lib.Dec.{eqb, leb, ltb}
-use lib.ListN.{length}
-use lib.Seq.{ext_get_or}
-use borrow.Author.Tests.{eq-eqb, eqb-true, leb-true, le-leb, ltb-true, lt-ltb, not-false}
+use borrow.Author.Tests.{not-false}
 use Rattle.words.specs.Bits.{has, at}
 use Rattle.words.specs.Searching.{any}
 use Rattle.words.specs.Answers.{Decides}

@@ -1,13 +1,8 @@
 -- The driver that a walking vector names.
-use mathlib.Core.Path.{◌≡◌, refl, sym, ap, ◌∙◌}
-use mathlib.Core.Bool.{true}
-use mathlib.Core.Logic.{⊎_elim, ◌≢◌, ◌↔◌}
-use Prim.Native.Nat.{ℕ, ◌^◌, ◌≤◌, ◌<◌}
-use native.Mathlib.Omega.{arith}
+use Rattle.std.proofs.Common.{◌≡◌, refl, sym, ap, ◌∙◌, true, ⊎_elim, ◌≢◌, ◌↔◌, ℕ, ◌^◌, ◌≤◌, ◌<◌, arith, eqb, pow_pos}
+use Rattle.std.proofs.Common.{eq-eqb, ne_eqb}
 use lib.Count.{count_trailing_zeros}
-use lib.Dec.{eqb}
-use lib.Pow.{pow_pos, pow-lt}
-use borrow.Author.Tests.{eq-eqb, ne_eqb}
+use lib.Pow.{pow-lt}
 use Rattle.words.specs.Bits.{has}
 use Rattle.words.proofs.Tests.{contrary, three_ways}
 use Rattle.words.proofs.Bits.{has_zero, has_power, has_only}

@@ -4,4 +4,5 @@ pub mod States
 pub mod Rows
 pub mod Respond
 pub mod OwnReceivers
+pub mod Refusing
 pub mod Open

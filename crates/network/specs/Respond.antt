@@ -1,9 +1,7 @@
 -- The call *response from a state*.
 use Rattle.std.specs.Prelude.{ℕ, Bool, List, [], ◌∷◌, ◌++◌, length}
-use Rattle.words.specs.Answers.{Answer, refused, full, by_tests}
+use Rattle.words.specs.Answers.{Answer, by_tests}
 use Rattle.network.specs.declared.Network.{Network}
-use Rattle.network.specs.declared.Responded.{Responded}
-use Rattle.network.specs.declared.Responded.TheVariants.{Wrote, Refused}
 use Rattle.network.specs.Reading.{response}
 use Rattle.network.specs.States.{not_a_state}
 use Rattle.network.specs.Rows.{BoardSetRows, Row11, Row12, board_set_tests, no_room}
@@ -27,8 +25,3 @@ response_tests net owners k vectors state room =
 unfoldable pub response_answer : Network → List ℕ → ℕ → (vectors state : List ℕ) → ℕ → Answer (List ℕ)
 response_answer net owners k vectors state room =
     by_tests (response_tests net owners k vectors state room) (response net state vectors)
-
--- document 01's number and values for each case of the answer; *own receivers* answers so too
-abbrev pub meaning : Responded → Answer ℕ
-meaning (Wrote count) = full count
-meaning (Refused number) = refused number

@@ -2,10 +2,8 @@
 use Rattle.std.specs.Prelude.{ℕ, ◌^◌, ◌<◌, ◌≤◌, ◌≡◌, ◌⊎◌, ◌≢◌, Bool, not, ◌||◌, ◌&&◌, List, [], ◌∷◌, ◌++◌, eqb, leb, ltb, length}
 use Rattle.words.specs.Bits.{at}
 use Rattle.words.specs.Searching.{any, among}
-use Rattle.words.specs.Answers.{Answer, refused, full, NoneHolds, by_tests, first_number}
+use Rattle.words.specs.Answers.{Answer, NoneHolds, by_tests, first_number}
 use Rattle.network.specs.declared.Network.{Network}
-use Rattle.network.specs.declared.Admission.{Admission}
-use Rattle.network.specs.declared.Admission.TheVariants.{Admitted, Refused}
 use Rattle.network.specs.States.{State}
 
 -- ---- the rows
@@ -172,7 +170,7 @@ abbrev pub board_set_tests : Network → List ℕ → ℕ → List ℕ → List 
 board_set_tests net owners k vectors =
     (5, bad_net_count net) ∷ (21, bad_receivers net owners) ∷ class_tests (bad_class net k) net ++ vector_tests net vectors
 
--- what they say alone, computed, and as the code's enum means it
+-- what they say alone, computed
 abbrev pub network_admission : Network → ℕ → Answer (Unit {0})
 network_admission net k = by_tests (network_tests net k) tt
 
@@ -182,6 +180,6 @@ set_admission net k vectors = by_tests (set_tests net k vectors) tt
 abbrev pub board_admission : Network → List ℕ → ℕ → List ℕ → Answer (Unit {0})
 board_admission net owners k vectors = by_tests (board_set_tests net owners k vectors) tt
 
-abbrev pub admission : Admission → Answer (Unit {0})
-admission Admitted = full tt
-admission (Refused number) = refused number
+-- the same of a board alone, its rows 5, 21, 17 and 20
+abbrev pub board_only_admission : Network → List ℕ → Answer (Unit {0})
+board_only_admission net owners = by_tests (board_tests net owners) tt

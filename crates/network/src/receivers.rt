@@ -36,13 +36,11 @@ pub fn sequential_response(net: Network, vectors: &[u64], reach: u64) -> Stv
 {
     let extra = crate::drivers::needs_extra(net);
     let mut w: u64 = 0;
-    let mut t: usize = 0;
-    while t < vectors.len() {
-        let bits = crate::drivers::active_bits(net, vectors[t], 64);
+    for (t, &vector) in vectors.iter().enumerate() {
+        let bits = crate::drivers::active_bits(net, vector, 64);
         if reads_active(net, reach, bits, extra) {
             w |= 1u64 << t;
         }
-        t += 1;
     }
     Stv(crate::drivers::active_bits(net, w, vectors.len() as u64))
 }
@@ -76,12 +74,10 @@ pub fn response_word(net: Network, state: &[u64], vector: Ptv) -> Ptv
     let extra = crate::drivers::needs_extra(net);
     let bits = crate::drivers::active_bits(net, vector.0, 64);
     let mut w: u64 = 0;
-    let mut i: usize = 0;
-    while i < state.len() {
-        if reads_active(net, state[i], bits, extra) {
+    for (i, &reach) in state.iter().enumerate() {
+        if reads_active(net, reach, bits, extra) {
             w |= 1u64 << i;
         }
-        i += 1;
     }
     Ptv(crate::drivers::active_bits(net, w, state.len() as u64))
 }
@@ -91,10 +87,8 @@ pub fn fill_own(nets: u64, out: &mut [u64])
     requires { nets ≤ length out.old }
     ensures { out.new ≡ lent_after (full (own_receivers nets)) out.old }
 {
-    let mut i: u64 = 0;
-    while i < nets {
+    for i in 0..nets {
         out[i as usize] = i;
-        i += 1;
     }
 }
 
@@ -104,10 +98,8 @@ pub fn fill_response(net: Network, vectors: &[u64], state: &[u64], out: &mut [u6
         × (length vectors.now ≤ length out.old) }
     ensures { out.new ≡ lent_after (full (response net state.now vectors.now)) out.old }
 {
-    let mut written: usize = 0;
-    while written < vectors.len() {
-        let word = response_word(net, state, Ptv(vectors[written]));
+    for (written, &vector) in vectors.iter().enumerate() {
+        let word = response_word(net, state, Ptv(vector));
         out[written] = word.0;
-        written += 1;
     }
 }

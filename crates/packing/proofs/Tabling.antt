@@ -1,10 +1,6 @@
 -- Findings as words, as a loop puts them into a table.
-use native.Mathlib.Omega.{arith}
-use Prim.Native.Nat.{ℕ, suc, ◌+◌, ◌*◌, ◌≤◌, ◌<◌}
-use mathlib.Core.Path.{◌≡◌, sym, ap, ap₂, ◌∙◌}
-use mathlib.Core.List.{List, [], ◌∷◌}
-use lib.ListN.{length, drop, get_or, drop_of_length-le}
-use lib.Seq.{drop-cons}
+use Rattle.std.proofs.Common.{arith, ℕ, suc, ◌+◌, ◌*◌, ◌≤◌, ◌<◌, ◌≡◌, sym, ap, ap₂, ◌∙◌, List, [], ◌∷◌, length, drop}
+use Rattle.std.proofs.Common.{get_or, drop_of_length-le, drop-cons}
 use Rattle.words.specs.Writing.{written}
 use Rattle.words.proofs.Writing.{written_none, written_more}
 use Rattle.findings.specs.declared.Finding.{Finding}

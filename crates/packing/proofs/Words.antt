@@ -1,10 +1,9 @@
 -- Words put into lists, and a session's record as words, there and back.
-use native.Mathlib.Omega.{arith}
-use Prim.Native.Nat.{ℕ, ◌+◌, ◌-◌}
-use mathlib.Core.Path.{◌≡◌, sym, ap, ap₂, ◌∙◌}
-use mathlib.Core.List.{List, [], ◌∷◌, ◌++◌, append_assoc, append-nil}
-use lib.ListN.{length, take, drop, length-append, length-drop, take-append-drop, drop_of_length-le}
-use lib.Seq.{take_all, drop-drop, drop-cons, length-take-le, take_at, drop_at, get_or_at}
+use Rattle.std.proofs.Common.{arith, ℕ, ◌+◌, ◌-◌, ◌≡◌, sym, ap, ap₂, ◌∙◌, List, [], ◌∷◌, ◌++◌, append_assoc}
+use Rattle.std.proofs.Common.{append-nil, length, take, drop, length-append, length-drop, take-append-drop}
+use Rattle.std.proofs.Common.{drop_of_length-le, take_all, drop-drop, drop-cons, length-take-le, take_at, drop_at}
+use lib.Seq.{get_or_at}
+use borrow.Rule.Slice.PartMut.{put_mid}
 use Rattle.words.specs.Bits.{at}
 use Rattle.words.specs.Answers.{full, lent_after}
 use Rattle.words.specs.Writing.{written}
@@ -13,21 +12,12 @@ use Rattle.session.specs.declared.Session.{Session}
 use Rattle.packing.specs.Packed.{owners_place, first_place, reaches_place, spent_place, session_size}
 use Rattle.packing.specs.Packed.{session_head, session_words, session_of}
 
--- words put into the part of a list from a place on
-pub part_written : (out from part : List ℕ) (place : ℕ) → part ≡ lent_after (full from) (take (length out - place) (drop place out))
-    → take place out ++ (part ++ drop (length out - place) (drop place out)) ≡ written out place from
-unfolding written lent_after
-part_written out from part place e =
-    let size = length-drop place out in
-    let whole : take (length out - place) (drop place out) ≡ drop place out =
-    take_all (length out - place) (drop place out) (omega arith) in
-    let none : drop (length out - place) (drop place out) ≡ [] =
-    drop_of_length-le (drop place out) {i = length out - place} (omega arith) in
-    let tail : drop (length from) (drop place out) ≡ drop (place + length from) out = drop-drop (length from) place out in
-    ap₂ (λ (p t : List ℕ). take place out ++ (p ++ t))
-    (e ∙ ap (λ (rest : List ℕ). from ++ drop (length from) rest) whole
-    ∙ ap (λ (rest : List ℕ). from ++ rest) tail) none
-    ∙ ap (λ (l : List ℕ). take place out ++ l) (append-nil (from ++ drop (place + length from) out))
+-- words put into the part of a list that has room for just them
+pub part_written : (place count : ℕ) (out from : List ℕ) → length from ≡ count → put_mid place count out from ≡ written out place from
+unfolding written
+part_written place count out from e =
+    ap (λ (rest : List ℕ). take place out ++ (from ++ rest))
+    (drop-drop count place out ∙ ap (λ (n : ℕ). drop (place + n) out) (sym e))
     ∙ sym (append_assoc (take place out) from (drop (place + length from) out))
 
 -- a list that is filled to its end

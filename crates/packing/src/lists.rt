@@ -7,5 +7,5 @@ pub fn put_at(out: &mut [u64], at: usize, from: &[u64])
     requires { at + length from.now ≤ length out.old }
     ensures { out.new ≡ written out.old at from.now }
 {
-    words::lists::copy_words(from, &mut out[at..]);
+    out[at..at + from.len()].copy_from_slice(from);
 }

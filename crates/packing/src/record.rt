@@ -2,6 +2,7 @@
 ghost use Rattle.std.specs.Prelude.{◌≡◌, length};
 ghost use Rattle.packing.specs.Packed.{session_size, session_words, session_of};
 
+use crate::lists::put_at;
 use network::Network;
 use session::Session;
 
@@ -10,31 +11,24 @@ pub fn session_of(words: &[u64; 142]) -> Session
     ensures record { result ≡ session_of words.now }
     ensures size { length words.now ≡ session_size }
 {
-    let all = &words[..];
     let mut owners = [0u64; 64];
-    words::lists::copy_words(&all[5..69], &mut owners);
+    owners.copy_from_slice(&words[5..69]);
     let mut first = [0u64; 8];
-    words::lists::copy_words(&all[69..77], &mut first);
+    first.copy_from_slice(&words[69..77]);
     let mut reaches = [0u64; 64];
-    words::lists::copy_words(&all[77..141], &mut reaches);
-    let step = words[0];
-    let nets = words[1];
-    let level = words[2];
-    let gate = words[3];
-    let receivers = words[4];
-    let spent = words[141];
+    reaches.copy_from_slice(&words[77..141]);
     Session {
-        step: step,
+        step: words[0],
         network: Network {
-            nets: nets,
-            level: level,
-            gate: gate,
+            nets: words[1],
+            level: words[2],
+            gate: words[3],
         },
-        receivers: receivers,
-        owners: owners,
-        first: first,
-        reaches: reaches,
-        spent: spent,
+        receivers: words[4],
+        owners,
+        first,
+        reaches,
+        spent: words[141],
     }
 }
 
@@ -42,7 +36,6 @@ pub fn session_of(words: &[u64; 142]) -> Session
 pub fn words_of(session: Session) -> [u64; 142]
     ensures { result ≡ session_words session }
 {
-    let mut words = [0u64; 142];
     let head = [
         session.step,
         session.network.nets,
@@ -50,14 +43,11 @@ pub fn words_of(session: Session) -> [u64; 142]
         session.network.gate,
         session.receivers,
     ];
-    let owners = session.owners;
-    let first = session.first;
-    let reaches = session.reaches;
-    let tail = [session.spent];
-    crate::lists::put_at(&mut words, 0, &head);
-    crate::lists::put_at(&mut words, 5, &owners);
-    crate::lists::put_at(&mut words, 69, &first);
-    crate::lists::put_at(&mut words, 77, &reaches);
-    crate::lists::put_at(&mut words, 141, &tail);
+    let mut words = [0u64; 142];
+    put_at(&mut words, 0, &head);
+    put_at(&mut words, 5, &session.owners);
+    put_at(&mut words, 69, &session.first);
+    put_at(&mut words, 77, &session.reaches);
+    put_at(&mut words, 141, &[session.spent]);
     words
 }

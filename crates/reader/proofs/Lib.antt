@@ -1,4 +1,4 @@
-pub mod ReadLoops
+pub mod StoredWords
 pub mod Bodies
 pub mod ReaderAnswers
 pub mod ReaderLaws

@@ -1,19 +1,17 @@
 -- The reader's answer, row by row, and what it leaves in the two lists.
-use mathlib.Core.Path.{◌≡◌, refl, ap, ◌∙◌}
-use mathlib.Core.Bool.{Bool, true, false, ◌&&◌, ◌||◌}
-use mathlib.Core.List.{List, [], ◌∷◌, ◌++◌}
-use Prim.Native.Nat.{ℕ}
-use lib.ListN.{length}
+use Rattle.std.proofs.Common.{◌≡◌, refl, ap, ◌∙◌, Bool, true, false, ◌&&◌, ◌||◌, List, [], ◌∷◌, ◌++◌, ℕ, ◌≤◌}
+use Rattle.std.proofs.Common.{ltb-false, length}
+use Rattle.words.proofs.Tests.{neither}
 use Rattle.words.specs.Answers.{Answer, refused, full, NoneHolds, by_tests, lent_after}
 use Rattle.words.proofs.Answers.{shared_refuse, shared_pass, refused_not_full, AllFail, none_passed, full_answer}
 use Rattle.network.specs.Rows.{bad_response_count, has_high_bit, no_room}
-use Rattle.jobfile.specs.Layout.{bad_mark, bad_layout, bad_bodies, file_network, file_class, body_words, has_responses, file_responses}
+use Rattle.jobfile.specs.Layout.{file_network, file_class, body_words, has_responses, file_responses}
 use Rattle.jobfile.specs.Layout.{file_kind, file_count, file_vectors}
 use Rattle.jobfile.proofs.StoredVectors.{vectors_count, body_none_holds}
 use Rattle.reader.proofs.Bodies.{count_of_words}
 use Rattle.reader.specs.declared.Job.{Job}
 use Rattle.reader.specs.Reader.{JobContent, content, read_answer, vectors_read, responses_read, counted}
-use Rattle.reader.specs.Reader.{FileBodyRows, file_body_tests}
+use Rattle.reader.specs.Reader.{FileBodyRows, file_tests, file_body_tests, list_tests}
 
 -- rows 9 and 10, only where there is a third entry
 abbrev pub nine : List ℕ → Bool
@@ -48,47 +46,49 @@ pub vectors_said : (file : List ℕ) → length (file_vectors file) ≡ file_cou
 unfolding file_vectors
 vectors_said file = vectors_count (file_kind file) (file_count file) (body_words file 1) (count_of_words file)
 
+-- where row 12 does not hold, both lists have room
+pub rooms : (file : List ℕ) (vectors_room responses_room : ℕ) → file_no_room file vectors_room responses_room ≡ false
+    → (file_count file ≤ vectors_room) × (length (file_responses file) ≤ responses_room)
+rooms file vectors_room responses_room e = let r = neither _ _ e in (ltb-false _ _ r.0, ltb-false _ _ r.1)
+
 module _ (file : List ℕ) (vectors_room responses_room : ℕ) where
-  pub by_row_1 : bad_mark file ≡ true → read_answer file vectors_room responses_room ≡ refused 1
-  unfolding read_answer by_tests
-  by_row_1 e = rw e
+  -- by rows 1, 2 and 3
+  pub by_file_row : (number : ℕ) → by_tests (file_tests file) (tt {0}) ≡ refused number
+      → read_answer file vectors_room responses_room ≡ refused number
+  unfolding read_answer
+  by_file_row number e =
+      shared_refuse tt (content file) (file_tests file) (file_body_tests file ++ list_tests file (content file) vectors_room responses_room)
+      number e
 
-  module _ (mark : bad_mark file ≡ false) where
-    pub by_row_2 : bad_layout file ≡ true → read_answer file vectors_room responses_room ≡ refused 2
-    unfolding read_answer by_tests
-    by_row_2 e = rw (mark, e)
+  module _ (passed : by_tests (file_tests file) (tt {0}) ≡ full tt) where
+    by_content : read_answer file vectors_room responses_room
+        ≡ by_tests (file_content_tests file ++ (12, file_no_room file vectors_room responses_room) ∷ []) (content file)
+    unfolding read_answer content
+    by_content =
+        shared_pass tt (content file) (file_tests file)
+        (file_body_tests file ++ list_tests file (content file) vectors_room responses_room) tt passed
+        ∙ rw (vectors_said file)
 
-    module _ (layout : bad_layout file ≡ false) where
-      pub by_row_3 : bad_bodies file ≡ true → read_answer file vectors_room responses_room ≡ refused 3
-      unfolding read_answer by_tests
-      by_row_3 e = rw (mark, layout, e)
+    pub by_content_row : (number : ℕ) → file_admission file ≡ refused number
+        → read_answer file vectors_room responses_room ≡ refused number
+    by_content_row number e = by_content
+        ∙ shared_refuse tt (content file) (file_content_tests file)
+        ((12, file_no_room file vectors_room responses_room) ∷ []) number e
 
-      module _ (bodies : bad_bodies file ≡ false) where
-        by_content : read_answer file vectors_room responses_room
-            ≡ by_tests (file_content_tests file ++ (12, file_no_room file vectors_room responses_room) ∷ []) (content file)
-        unfolding read_answer by_tests content
-        by_content = rw (mark, layout, bodies, vectors_said file)
+    module _ (admitted : file_admission file ≡ full tt) where
+      by_own : read_answer file vectors_room responses_room
+          ≡ by_tests ((12, file_no_room file vectors_room responses_room) ∷ []) (content file)
+      by_own = by_content ∙ shared_pass tt (content file) (file_content_tests file)
+          ((12, file_no_room file vectors_room responses_room) ∷ []) tt admitted
 
-        pub by_content_row : (number : ℕ) → file_admission file ≡ refused number
-            → read_answer file vectors_room responses_room ≡ refused number
-        by_content_row number e = by_content
-            ∙ shared_refuse tt (content file) (file_content_tests file)
-            ((12, file_no_room file vectors_room responses_room) ∷ []) number e
+      pub by_row_12 : file_no_room file vectors_room responses_room ≡ true → read_answer file vectors_room responses_room ≡ refused 12
+      unfolding by_tests
+      by_row_12 e = by_own ∙ rw e
 
-        module _ (admitted : file_admission file ≡ full tt) where
-          by_own : read_answer file vectors_room responses_room
-              ≡ by_tests ((12, file_no_room file vectors_room responses_room) ∷ []) (content file)
-          by_own = by_content ∙ shared_pass tt (content file) (file_content_tests file)
-              ((12, file_no_room file vectors_room responses_room) ∷ []) tt admitted
-
-          pub by_row_12 : file_no_room file vectors_room responses_room ≡ true → read_answer file vectors_room responses_room ≡ refused 12
-          unfolding by_tests
-          by_row_12 e = by_own ∙ rw e
-
-          pub by_none : file_no_room file vectors_room responses_room ≡ false
-              → read_answer file vectors_room responses_room ≡ full (content file)
-          unfolding by_tests
-          by_none e = by_own ∙ rw e
+      pub by_none : file_no_room file vectors_room responses_room ≡ false
+          → read_answer file vectors_room responses_room ≡ full (content file)
+      unfolding by_tests
+      by_none e = by_own ∙ rw e
 
 -- what the call's answer tells of the content: its refusal, and the counts of its lists
 pub read_counted_refused : (a : Answer JobContent) (number : ℕ) → counted a ≡ refused number → a ≡ refused number

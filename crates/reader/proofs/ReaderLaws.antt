@@ -1,10 +1,5 @@
 -- The call *read a job file* answers as its rows and the file's content say, and nothing is left open.
-use mathlib.Core.Path.{◌≡◌, refl, sym, ◌∙◌}
-use mathlib.Core.Logic.{◌⊎◌}
-use mathlib.Core.Bool.{Bool, true, ◌&&◌, ◌||◌}
-use mathlib.Core.List.{List, ◌++◌}
-use Prim.Native.Nat.{ℕ}
-use lib.ListN.{length}
+use Rattle.std.proofs.Common.{◌≡◌, refl, sym, ◌∙◌, ◌⊎◌, Bool, true, ◌&&◌, ◌||◌, List, ◌++◌, ℕ, length}
 use Rattle.words.specs.Answers.{Answer, ByTable, Decides, Decided}
 use Rattle.words.proofs.Tests.{decides_itself, decides_or, decides_and}
 use Rattle.words.specs.Answers.{NoneHolds}

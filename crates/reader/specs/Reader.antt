@@ -7,8 +7,6 @@ use Rattle.jobfile.specs.VectorsBody.{BodyRows, body_tests}
 use Rattle.jobfile.specs.Layout.{Row1, Row2, Row3, bad_mark, bad_layout, bad_bodies, file_network, file_class}
 use Rattle.jobfile.specs.Layout.{body_words, file_kind, file_count, file_vectors, has_responses, file_responses}
 use Rattle.reader.specs.declared.Job.{Job}
-use Rattle.reader.specs.declared.ReadJob.{ReadJob}
-use Rattle.reader.specs.declared.ReadJob.TheVariants.{Content, Refused}
 
 -- what a job file holds, and the kind of its vectors' body
 pub record JobContent : Type 0 where
@@ -89,8 +87,3 @@ counted (full job) = full
       vectors = length job.vectors;
       responses = length job.responses;
     })
-
--- document 01's number and values for each case of the answer
-abbrev pub meaning : ReadJob → Answer Job
-meaning (Content job) = full job
-meaning (Refused number) = refused number

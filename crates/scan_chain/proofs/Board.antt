@@ -1,11 +1,7 @@
 -- The board in the loop: the vectors reach it, and its responses come back.
-use mathlib.Core.Path.{◌≡◌, sym, ap, ◌∙◌}
-use mathlib.Core.Bool.{Bool}
-use mathlib.Core.List.{List, [], ◌∷◌, map}
-use Prim.Native.Nat.{ℕ, suc, ◌^◌, ◌<◌}
-use native.Mathlib.Omega.{arith}
-use lib.ListN.{length, get_or, length-map, get_or-append}
-use lib.Seq.{ext_get_or}
+use Rattle.std.proofs.Common.{◌≡◌, sym, ap, ◌∙◌, Bool, List, [], ◌∷◌, map, ℕ, suc, ◌^◌, ◌<◌, arith, length, get_or}
+use Rattle.std.proofs.Common.{ext_get_or}
+use lib.ListN.{length-map, get_or-append}
 use Rattle.words.specs.Bits.{word, at}
 use Rattle.words.proofs.Bits.{words_equal}
 use Rattle.words.proofs.Making.{map_at, has_made, made_below}

@@ -1,20 +1,13 @@
 -- The contents of the cells for a vector, and how many clocks there are.
-use mathlib.Core.Path.{◌≡◌, refl, sym, ap, ◌∙◌}
-use mathlib.Core.Bool.{Bool, true, false}
-use mathlib.Core.Logic.{◌⊎◌, inl, inr, ◌≢◌}
-use mathlib.Core.List.{List, [], ◌∷◌, map}
-use Prim.Native.Nat.{ℕ, suc, ◌+◌, ◌*◌, ◌^◌, ◌<◌, zero-le}
-use native.Mathlib.Nat.{suc-mul}
-use native.Mathlib.Numerals.{add-one}
-use native.Mathlib.Omega.{arith}
-use lib.Dec.{eqb}
-use lib.ListN.{length, get_or, length-append, length-map}
-use borrow.Author.Tests.{eqb-true}
+use Rattle.std.proofs.Common.{◌≡◌, refl, sym, ap, ◌∙◌, Bool, true, false, ◌⊎◌, inl, inr, ◌≢◌, List, [], ◌∷◌, map, ℕ}
+use Rattle.std.proofs.Common.{suc, ◌+◌, ◌*◌, ◌^◌, ◌<◌, zero-le, suc-mul, add-one, arith, eqb, length, get_or}
+use Rattle.std.proofs.Common.{length-append, eqb-true}
+use lib.ListN.{length-map}
 use Rattle.words.specs.Bits.{has, word, at}
 use Rattle.words.specs.Searching.{position}
 use Rattle.words.specs.Turning.{tabulate}
-use Rattle.words.specs.declared.Search.{Search}
-use Rattle.words.specs.declared.Search.TheVariants.{Found, Missing}
+use Rattle.std.specs.Prelude.{Option}
+use Rattle.std.specs.Prelude.{Some, None}
 use Rattle.words.proofs.Tests.{decides_equal, test_fails, test_passes, contrary}
 use Rattle.words.proofs.Searching.{Least, first, nowhere, position_is, least_found, least_missing}
 use Rattle.words.proofs.Bits.{words_equal}
@@ -40,7 +33,7 @@ module _ (L : ℕ) (bit : ℕ → Bool) where
       map_at bit false (tabulate L (λ c. c)) c (omega arith) ∙ ap bit (tabulate_at L (λ c. c) c l)
 
 -- a cell's number stands first at its own place
-pub position_own : (L : ℕ) (numbers : List ℕ) → Distinct L numbers → (i : ℕ) → i < length numbers → position (at numbers i) numbers ≡ Found i
+pub position_own : (L : ℕ) (numbers : List ℕ) → Distinct L numbers → (i : ℕ) → i < length numbers → position (at numbers i) numbers ≡ Some i
 unfolding position
 position_own L numbers d i l =
     least_found (λ t. eqb (at numbers t) (at numbers i)) (length numbers) i l
@@ -49,7 +42,7 @@ position_own L numbers d i l =
 
 -- a cell that is no driver's stands nowhere among them
 pub position_none : (numbers : List ℕ) (cell : ℕ) → ((i : ℕ) → i < length numbers → at numbers i ≢ cell)
-    → position cell numbers ≡ Missing
+    → position cell numbers ≡ None
 unfolding position
 position_none numbers cell none =
     least_missing (λ t. eqb (at numbers t) cell) (length numbers)
@@ -60,10 +53,10 @@ pub driver_or_not : (numbers : List ℕ) (cell : ℕ)
     → ((i : ℕ) × (i < length numbers) × (at numbers i ≡ cell)) ⊎ ((i : ℕ) → i < length numbers → at numbers i ≢ cell)
 driver_or_not numbers cell = go (position cell numbers) (position_is cell numbers)
   where
-    go : (s : Search) → Least (λ t. eqb (at numbers t) cell) 0 (length numbers) s
+    go : (s : Option ℕ) → Least (λ t. eqb (at numbers t) cell) 0 (length numbers) s
         → ((i : ℕ) × (i < length numbers) × (at numbers i ≡ cell)) ⊎ ((i : ℕ) → i < length numbers → at numbers i ≢ cell)
-    go (Found i) (first a b c g) = inl (i, b, eqb-true (at numbers i) cell c)
-    go Missing (nowhere g) = inr (λ i l e. contrary (test_passes (decides_equal (at numbers i) cell) e) (g i (zero-le {n = i}) l))
+    go (Some i) (first a b c g) = inl (i, b, eqb-true (at numbers i) cell c)
+    go None (nowhere g) = inr (λ i l e. contrary (test_passes (decides_equal (at numbers i) cell) e) (g i (zero-le {n = i}) l))
 
 module _ (L : ℕ) (drivers held : List ℕ) (d : Distinct L drivers) (vector : ℕ) where
   -- what a driver's cell gets, and another

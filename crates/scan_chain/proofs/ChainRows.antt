@@ -1,20 +1,15 @@
 -- Rows 18 and 19: their tests decide them, and what they admit.
-use mathlib.Core.Path.{◌≡◌, sym, ◌∙◌}
-use mathlib.Core.Bool.{true, false, ◌||◌}
-use mathlib.Core.Logic.{◌⊎◌, inl, inr, ⊎_elim, ◌≢◌}
-use mathlib.Core.List.{List, ◌++◌}
-use Prim.Native.Nat.{ℕ, ◌+◌, ◌≤◌, ◌<◌}
-use native.Mathlib.Nat.{lt_of_not-le}
-use native.Mathlib.Omega.{arith}
-use lib.Dec.{eqb, leb, ltb}
-use lib.ListN.{length, length-append, get_or-append}
-use lib.Seq.{get_or-append-add}
-use borrow.Author.Tests.{lt-ltb, le-ltb, eq-eqb, ne_eqb}
+use Rattle.std.proofs.Common.{◌≡◌, sym, ◌∙◌, Bool, true, false, ◌||◌, ◌⊎◌, inl, inr, ⊎_elim, List, ◌++◌, ℕ, ◌+◌, ◌≤◌}
+use Rattle.std.proofs.Common.{◌<◌, lt_of_not-le, arith, eqb, leb, ltb, length, length-append, get_or-append-add}
+use lib.ListN.{get_or-append}
 use Rattle.words.specs.Bits.{at}
 use Rattle.words.specs.Searching.{any}
 use Rattle.words.specs.Answers.{Decides}
-use Rattle.words.proofs.Tests.{decides_less, decides_at_most, decides_equal, decides_or, decides_not, equal_if_not_unequal, three_ways, test_fails}
-use Rattle.words.proofs.Searching.{decides_any}
+use Rattle.words.proofs.Tests.{decides_less, decides_at_most, decides_equal, decides_or, decides_not, equal_if_not_unequal, three_ways, test_fails, cases}
+use Rattle.std.specs.List.{list_any}
+use Rattle.std.proofs.lemmas.List.Elements.{All-from_get_or}
+use Rattle.std.proofs.lemmas.List.Folds.{list_any_at, list_any_none}
+use Rattle.words.proofs.Searching.{any_some, any_false, decides_any}
 use Rattle.scan_chain.specs.Rows.{WrongCell, BadChain, NotBits, used_before, has_wrong_cell, bad_chain, above_one, not_bits}
 use Rattle.scan_chain.specs.Cells.{Distinct, Inside}
 
@@ -33,28 +28,6 @@ module _ (most n m L : ℕ) (drivers receivers : List ℕ) where
       decides_or (decides_less L 2) (decides_or (decides_less most L)
       (decides_or (decides_not (decides_equal (length drivers) n))
       (decides_or (decides_not (decides_equal (length receivers) m)) (decides_wrong_cell L (drivers ++ receivers)))))
-
-  -- ---- the code's branches
-
-  pub too_short : L < 2 → true ≡ bad_chain most n m L drivers receivers
-  unfolding bad_chain
-  too_short a = rw (lt-ltb L 2 a)
-
-  pub too_long : 2 ≤ L → most < L → true ≡ bad_chain most n m L drivers receivers
-  unfolding bad_chain
-  too_long a b = rw (le-ltb L 2 a, lt-ltb most L b)
-
-  pub drivers_miscounted : 2 ≤ L → L ≤ most → length drivers ≢ n → true ≡ bad_chain most n m L drivers receivers
-  unfolding bad_chain
-  drivers_miscounted a b c = rw (le-ltb L 2 a, le-ltb most L b, ne_eqb (length drivers) n c)
-
-  pub receivers_miscounted : 2 ≤ L → L ≤ most → length drivers ≡ n → length receivers ≢ m → true ≡ bad_chain most n m L drivers receivers
-  unfolding bad_chain
-  receivers_miscounted a b c d = rw (le-ltb L 2 a, le-ltb most L b, eq-eqb (length drivers) n c, ne_eqb (length receivers) m d)
-
-  pub counted : 2 ≤ L → L ≤ most → length drivers ≡ n → length receivers ≡ m → has_wrong_cell L (drivers ++ receivers) ≡ bad_chain most n m L drivers receivers
-  unfolding bad_chain
-  counted a b c d = rw (le-ltb L 2 a, le-ltb most L b, eq-eqb (length drivers) n c, eq-eqb (length receivers) m d)
 
 -- what a chain has that row 18 admits
 pub record AdmittedChain (most n m L : ℕ) (drivers receivers : List ℕ) : Type 0 where
@@ -112,6 +85,19 @@ chain_admitted most n m L drivers receivers e =
 
 -- ---- bytes that are bits
 
+-- a test of each entry, by the list and by the index
+pub any_of_list : (p : ℕ → Bool) (xs : List ℕ) → list_any p xs ≡ any (length xs) (λ i. p (at xs i))
+any_of_list p xs = ⊎_elim some none (cases (any (length xs) (λ i. p (at xs i))))
+  where
+    some : any (length xs) (λ i. p (at xs i)) ≡ true → list_any p xs ≡ any (length xs) (λ i. p (at xs i))
+    some e =
+        let found = any_some (λ i. p (at xs i)) (length xs) e in
+        list_any_at p xs found.0 0 found.1 found.2 ∙ sym e
+
+    none : any (length xs) (λ i. p (at xs i)) ≡ false → list_any p xs ≡ any (length xs) (λ i. p (at xs i))
+    none e =
+        list_any_none p xs (All-from_get_or (λ x. p x ≡ false) xs 0 (λ i l. any_false (λ i. p (at xs i)) (length xs) i l e)) ∙ sym e
+
 module _ (count : ℕ) (bytes : List ℕ) where
   pub decides_bits : Decides (not_bits count bytes) (NotBits count bytes)
   unfolding not_bits above_one
@@ -121,14 +107,6 @@ module _ (count : ℕ) (bytes : List ℕ) where
 
   pub as_many : not_bits count bytes ≡ false → length bytes ≡ count
   as_many e = equal_if_not_unequal (length bytes) count (λ n. decides_bits.1 e (inl n))
-
-  pub miscounted : (length bytes ≡ count → ⊥) → true ≡ not_bits count bytes
-  unfolding not_bits
-  miscounted n = rw (ne_eqb (length bytes) count n)
-
-  pub counted_right : length bytes ≡ count → above_one bytes ≡ not_bits count bytes
-  unfolding not_bits
-  counted_right q = rw (eq-eqb (length bytes) count q)
 
   pub bits_are : length bytes ≡ count → ((i : ℕ) → at bytes i < 2) → not_bits count bytes ≡ false
   bits_are q small =

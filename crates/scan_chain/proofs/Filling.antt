@@ -1,16 +1,10 @@
 -- The scan of a vector, as it is filled: the scan by which every cell gets 0, and then the drivers' clocks.
-use mathlib.Core.Path.{◌≡◌, refl, sym, ap, ap₂, ◌∙◌}
-use mathlib.Core.Bool.{Bool, true, false}
-use mathlib.Core.Logic.{◌⊎◌, inl, inr, ⊎_elim, ◌≢◌}
-use mathlib.Core.List.{List}
-use Prim.Native.Nat.{ℕ, zero, suc, ◌+◌, ◌-◌, ◌≤◌, ◌<◌}
-use native.Mathlib.Nat.{not-suc-le-zero}
-use native.Mathlib.Omega.{arith}
-use lib.Dec.{eqb}
-use lib.ListN.{length, get_or, set, replicate, length-replicate, length-set}
-use lib.Seq.{get_or-set_same, get_or-set_other}
-use borrow.Author.Count.{below_more}
-use borrow.Author.Tests.{eq-eqb, ne_eqb, eqb-true, eqb-false}
+use Rattle.std.proofs.Common.{◌≡◌, refl, sym, ap, ap₂, ◌∙◌, Bool, true, false, ◌⊎◌, inl, inr, ⊎_elim, ◌≢◌, List, ℕ}
+use Rattle.std.proofs.Common.{zero, suc, ◌+◌, ◌-◌, ◌≤◌, ◌<◌, not-suc-le-zero, arith, eqb, length, get_or, set}
+use Rattle.std.proofs.Common.{replicate, length-set, get_or-set_same, get_or-set_other, below_more, eq-eqb, ne_eqb}
+use Rattle.std.proofs.Common.{eqb-true}
+use lib.ListN.{length-replicate}
+use borrow.Author.Tests.{eqb-false}
 use Rattle.words.specs.Bits.{has, bit_value, at}
 use Rattle.words.proofs.Tests.{less_or_not, cases}
 use Rattle.scan_chain.specs.Scans.{clock, scan, cell_bit, cells_by, contents, all_zero}
@@ -47,9 +41,6 @@ module _ (L : ℕ) (most : L ≤ 200) where
 
   size₂ : length (set (set blank 0 1) (L + 2) 1) ≡ 205
   size₂ = length-set (set blank 0 1) (L + 2) 1 ∙ size₁
-
-  pub marked_size : length (marked L) ≡ 205
-  marked_size = length-set (set (set blank 0 1) (L + 2) 1) (L + 3) 1 ∙ size₂
 
   first_marked : at (marked L) 0 ≡ 1
   first_marked =

@@ -1,12 +1,7 @@
 -- What the bytes written do to a chain, and with a board in the loop what is read back.
-use mathlib.Core.Path.{◌≡◌, sym, subst, ap, ap₂, ◌∙◌}
-use mathlib.Core.Bool.{Bool, false}
-use mathlib.Core.List.{List, [], map}
-use Prim.Native.Nat.{ℕ, ◌+◌, ◌^◌, ◌≤◌, ◌<◌}
-use native.Mathlib.Numerals.{add-one}
-use native.Mathlib.Omega.{arith}
-use lib.ListN.{length, get_or, length-map}
-use borrow.Author.Tests.{le-ltb}
+use Rattle.std.proofs.Common.{◌≡◌, sym, subst, ap, ap₂, ◌∙◌, Bool, false, List, [], map, ℕ, ◌+◌, ◌^◌, ◌≤◌, ◌<◌}
+use Rattle.std.proofs.Common.{add-one, arith, length, get_or, le-ltb}
+use lib.ListN.{length-map}
 use Rattle.words.specs.Bits.{at}
 use Rattle.words.specs.Answers.{full}
 use Rattle.words.proofs.Answers.{AllFail, none_passed, full_answer}

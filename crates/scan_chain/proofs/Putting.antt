@@ -1,38 +1,32 @@
 -- Lists filled with bytes, and with scans one after another.
-use mathlib.Core.Path.{◌≡◌, sym, ap, ap₂, ◌∙◌}
-use mathlib.Core.Bool.{Bool}
-use mathlib.Core.List.{List, [], ◌∷◌, ◌++◌, map, append-nil, append_assoc}
-use Prim.Native.Nat.{ℕ, suc, ◌+◌, ◌-◌, ◌*◌, ◌≤◌, ◌<◌}
-use native.Mathlib.Nat.{suc-mul, add-mul, mul-le-mul_right}
-use native.Mathlib.Numerals.{add-one}
-use native.Mathlib.Omega.{arith}
-use lib.ListN.{length, length-map, set, take, get_or-append}
-use lib.Seq.{get_or_at, length-take-le, take-suc, take_all}
+use Rattle.std.proofs.Common.{◌≡◌, refl, sym, ap, ◌∙◌, Bool, List, [], ◌∷◌, ◌++◌, map, append-nil, append_assoc, ℕ}
+use Rattle.std.proofs.Common.{◌+◌, ◌-◌, ◌*◌, ◌≤◌, ◌<◌, mul-le-mul_right, add-one, arith, length, take, drop}
+use Rattle.std.proofs.Common.{length-take-le, take-suc, take_all}
+use lib.ListN.{length-map, get_or-append}
+use lib.Seq.{get_or_at, take-length}
+use Rattle.std.proofs.lemmas.Slice.{put_mid-paste}
+use Rattle.std.proofs.lemmas.List.{ext_get_or, get_or-take}
 use Rattle.words.specs.Bits.{at}
 use Rattle.words.specs.Writing.{written}
 use Rattle.words.specs.Answers.{lent_after, full}
 use Rattle.words.proofs.Making.{map_snoc}
-use Rattle.words.proofs.Writing.{written_none, written_one, written_length, written_more, written_next, written_front}
-use Rattle.scan_chain.specs.Scans.{scan, scans, contents, last_of, scanned, clocks}
+use Rattle.words.proofs.Writing.{written_none, written_length, written_next, written_front}
+use Rattle.scan_chain.specs.Scans.{scan, scans, contents, clock_count, last_of, scanned, clocks}
+use Rattle.scan_chain.specs.Cells.{BeginsWith}
+use borrow.Rule.Slice.PartMut.{put_mid}
 use Rattle.scan_chain.proofs.CellContents.{scans_size, contents_sized, scanned_size}
 
--- ---- entries of a list put one by one from an index on
+-- ---- the first bytes of a list put into another from an index on
 
-module _ (list₀ list entries : List ℕ) (start i : ℕ) (room : start + length entries ≤ length list₀) (e : list ≡ written list₀ start (take i entries)) where
-  pub put_size : i ≤ length entries → length list ≡ length list₀
-  put_size l = ap length e ∙ written_length list₀ start (take i entries) (omega (arith, length-take-le i entries l))
-
-  pub put_more : (x : ℕ) → i < length entries → x ≡ at entries i → set list (start + i) x ≡ written list₀ start (take (i + 1) entries)
-  put_more x l q =
-      let front = length-take-le i entries (omega arith) in
-      let here : start + i < length list = omega (arith, put_size (omega arith)) in
-      let place : start + i ≡ start + length (take i entries) = omega arith in
-      let more : take (i + 1) entries ≡ take i entries ++ at entries i ∷ [] = rw add-one (take-suc entries i 0 l) in
-      written_one list (start + i) x here
-      ∙ ap (λ (y : ℕ). written list (start + i) (y ∷ [])) q
-      ∙ ap₂ (λ (t : List ℕ) (k : ℕ). written t k (at entries i ∷ [])) e place
-      ∙ written_more list₀ start (take i entries) (at entries i ∷ []) (omega arith)
-      ∙ ap (written list₀ start) (sym more)
+pub front_put : (list bytes entries : List ℕ) (start size many : ℕ) → many ≡ size → length entries ≡ size
+    → size ≤ length bytes → BeginsWith bytes entries → put_mid start many list (take size bytes) ≡ written list start entries
+unfolding written
+front_put list bytes entries start size many q e within same =
+    let n = length-take-le size bytes within in
+    let begins : take size bytes ≡ entries = ext_get_or 0 (take size bytes) entries (n ∙ sym e)
+    (λ i l. get_or-take size bytes i 0 (omega (arith, n, l)) ∙ same i (omega (arith, n, e, l))) in
+    put_mid-paste start many list (take size bytes) entries (length entries) begins (e ∙ sym q) refl
+    ∙ ap (λ (front : List ℕ). take start list ++ front ++ drop (start + length entries) list) (take-length entries)
 
 -- ---- scans put one after another
 
@@ -67,42 +61,34 @@ pub scanned_last : (vectors : List ℕ) (t : ℕ) → length vectors ≡ t → a
 unfolding scanned last_of
 scanned_last vectors t e = sym (get_or_at vectors (last_of vectors) [] 0 t e)
 
--- t scans are put, up to an index
-pub record ScansPut (L : ℕ) (drivers held vectors before list : List ℕ) (end t : ℕ) : Type 0 where
-  pub inside : t ≤ length vectors + 1
-  pub index : end ≡ t * (L + 5)
-  pub holds : list ≡ written before 0 (scans_to L drivers held vectors t)
-
-module _ (L : ℕ) (drivers held vectors before : List ℕ) (room : (length vectors + 1) * (L + 5) ≤ length before) where
-  scans_to_size : (t : ℕ) → t ≤ length vectors + 1 → length (scans_to L drivers held vectors t) ≡ t * (L + 5)
-  scans_to_size t l =
+-- t scans are put from the front on
+module _ (L : ℕ) (drivers held vectors before list : List ℕ) (t : ℕ) (room : clock_count (length vectors) L ≤ length before)
+    (holds : list ≡ written before 0 (scans_to L drivers held vectors t)) where
+  scans_to_size : t ≤ length vectors + 1 → length (scans_to L drivers held vectors t) ≡ t * (L + 5)
+  scans_to_size l =
       scans_size L (map (contents L drivers held) (take t (scanned vectors))) (contents_sized L drivers held (take t (scanned vectors)))
-      ∙ ap (λ (n : ℕ). n * (L + 5)) (length-map (take t (scanned vectors)) (contents L drivers held) ∙ length-take-le t (scanned vectors) (omega (arith, scanned_size vectors)))
+      ∙ ap (λ (n : ℕ). n * (L + 5)) (length-map (take t (scanned vectors)) (contents L drivers held)
+      ∙ length-take-le t (scanned vectors) (omega (arith, scanned_size vectors)))
 
-  pub no_scan_put : ScansPut L drivers held vectors before before 0 0
-  unfolding scans
-  no_scan_put = record { inside = omega arith; index = omega arith; holds = sym (written_none before 0) }
+  within : (u : ℕ) → u ≤ length vectors + 1 → u * (L + 5) ≤ length before
+  within u l = let m = mul-le-mul_right (L + 5) l in omega arith
 
-  module _ (list : List ℕ) (end t : ℕ) (p : ScansPut L drivers held vectors before list end t) where
-    within : (u : ℕ) → u ≤ length vectors + 1 → u * (L + 5) ≤ length before
-    within u l = let m = mul-le-mul_right (L + 5) l in omega arith
+  pub scans_keep_size : t ≤ length vectors + 1 → length list ≡ length before
+  scans_keep_size l =
+      ap length holds ∙ written_length before 0 (scans_to L drivers held vectors t) (omega (arith, scans_to_size l, within t l))
 
-    pub scans_keep_size : length list ≡ length before
-    scans_keep_size =
-        ap length p.holds ∙ written_length before 0 (scans_to L drivers held vectors t) (omega (arith, scans_to_size t p.inside, within t p.inside))
+  module _ (l : t ≤ length vectors) where
+    pub scan_put : (after : List ℕ) → after ≡ written list (t * (L + 5)) (scan (contents L drivers held (at (scanned vectors) t)))
+        → after ≡ written before 0 (scans_to L drivers held vectors (t + 1))
+    scan_put after e =
+        let size : t * (L + 5) ≡ 0 + length (scans_to L drivers held vectors t) = omega (arith, scans_to_size (omega arith)) in
+        written_next before list after 0 (t * (L + 5)) (scans_to L drivers held vectors t)
+        (scan (contents L drivers held (at (scanned vectors) t))) holds e size (omega arith)
+        ∙ ap (written before 0) (sym (scans_more L drivers held vectors t l))
 
-    pub scan_room : t ≤ length vectors → end + (L + 5) ≤ length list
-    scan_room l = omega (arith, scans_keep_size, p.index, suc-mul t (L + 5), within (suc t) (omega arith))
+  pub all_put : length vectors < t → list ≡ lent_after (full (clocks L drivers held vectors)) before
+  all_put l = holds ∙ ap (written before 0) (scans_all L drivers held vectors t l) ∙ written_front before (clocks L drivers held vectors)
 
-    pub scan_put : (after : List ℕ) → t ≤ length vectors → after ≡ written list end (scan (contents L drivers held (at (scanned vectors) t)))
-        → ScansPut L drivers held vectors before after (end + (L + 5)) (t + 1)
-    scan_put after l e = record {
-      inside = omega arith;
-      index = omega (arith, p.index, add-mul t 1 (L + 5));
-      holds = written_next before list after 0 end (scans_to L drivers held vectors t) (scan (contents L drivers held (at (scanned vectors) t))) p.holds e
-          (omega (arith, p.index, scans_to_size t p.inside)) (omega arith)
-          ∙ ap (written before 0) (sym (scans_more L drivers held vectors t l));
-    }
-
-    pub all_put : length vectors < t → list ≡ lent_after (full (clocks L drivers held vectors)) before
-    all_put l = p.holds ∙ ap (written before 0) (scans_all L drivers held vectors t l) ∙ written_front before (clocks L drivers held vectors)
+pub no_scan_put : (L : ℕ) (drivers held vectors before : List ℕ) → before ≡ written before 0 (scans_to L drivers held vectors 0)
+unfolding scans
+no_scan_put L drivers held vectors before = sym (written_none before 0)

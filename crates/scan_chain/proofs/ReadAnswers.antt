@@ -1,21 +1,15 @@
 -- The answer of *read clocks* by its rows.
-use mathlib.Core.Path.{◌≡◌, refl}
-use mathlib.Core.Bool.{Bool, true, false}
-use mathlib.Core.Logic.{inr, ◌≢◌}
-use mathlib.Core.List.{List, [], ◌∷◌}
-use Prim.Native.Nat.{ℕ, ◌≤◌, ◌<◌}
-use native.Mathlib.Omega.{arith}
-use lib.ListN.{length}
-use Rattle.words.specs.Answers.{Answer, ByTable, refused, full, by_tests}
+use Rattle.std.proofs.Common.{◌≡◌, refl, Bool, false, inr, List, [], ◌∷◌, ℕ, ◌≤◌, ◌<◌, arith, length}
+use Rattle.words.specs.Answers.{Answer, ByTable}
 use Rattle.words.proofs.Answers.{tests_by_table, decided_append}
 use Rattle.network.specs.Rows.{BadCount, Row12, bad_count, no_room}
 use Rattle.network.proofs.Rows.{decides_count, decides_row_12}
 use Rattle.scan_chain.specs.Scans.{clock_count}
 use Rattle.scan_chain.specs.Responses.{responses}
 use Rattle.scan_chain.specs.Rows.{Row18, Row19, bad_chain, bad_tdo}
-use Rattle.scan_chain.specs.Calls.{NetsRows, nets_tests, nets_refusal, ReadRows, read_tests, read_answer}
+use Rattle.scan_chain.specs.Calls.{NetsRows, nets_tests, ReadRows, read_tests, read_answer}
 use Rattle.scan_chain.proofs.ChainRows.{decides_chain, decides_bits}
-use Rattle.scan_chain.proofs.WriteAnswers.{decides_nets, nets_refuse, nets_admit}
+use Rattle.scan_chain.proofs.WriteAnswers.{decides_nets}
 
 pub count_most : (v : ℕ) → bad_count v ≡ false → v ≤ 64
 count_most v e = let high : 64 < v → ⊥ = λ l. (decides_count v).1 e (inr l) in omega (arith, high)
@@ -30,38 +24,6 @@ module _ (n : ℕ) (owners : List ℕ) (v L : ℕ) (drivers receivers tdo : List
 
   abbrev later_rows : List (ℕ × Type 0)
   later_rows = (7, BadCount v) ∷ (18, Row18 n (length owners) L drivers receivers) ∷ (19, Row19 v L tdo) ∷ (12, Row12 v room) ∷ []
-
-  pub by_nets : nets_refusal n owners ≢ 0 → answer ≡ refused (nets_refusal n owners)
-  unfolding read_answer
-  by_nets some = nets_refuse n owners later_tests (responses L receivers v tdo) some
-
-  module _ (none : nets_refusal n owners ≡ 0) where
-    rest : answer ≡ by_tests later_tests (responses L receivers v tdo)
-    unfolding read_answer
-    rest = nets_admit n owners later_tests (responses L receivers v tdo) none
-
-    pub by_row_7 : bad_count v ≡ true → answer ≡ refused 7
-    unfolding by_tests
-    by_row_7 a = rw (rest, a)
-
-    module _ (a : bad_count v ≡ false) where
-      pub by_row_18 : bad_chain 200 n (length owners) L drivers receivers ≡ true → answer ≡ refused 18
-      unfolding by_tests
-      by_row_18 b = rw (rest, a, b)
-
-      module _ (b : bad_chain 200 n (length owners) L drivers receivers ≡ false) where
-        pub by_row_19 : bad_tdo v L tdo ≡ true → answer ≡ refused 19
-        unfolding by_tests
-        by_row_19 c = rw (rest, a, b, c)
-
-        module _ (c : bad_tdo v L tdo ≡ false) where
-          pub by_row_12 : no_room v room ≡ true → answer ≡ refused 12
-          unfolding by_tests
-          by_row_12 d = rw (rest, a, b, c, d)
-
-          pub by_none : no_room v room ≡ false → answer ≡ full (responses L receivers v tdo)
-          unfolding by_tests
-          by_none d = rw (rest, a, b, c, d)
 
   -- the rows as they are said
   pub read_by_table : ByTable (ReadRows n owners v L drivers receivers tdo room) (λ words. words ≡ responses L receivers v tdo) answer

@@ -1,15 +1,8 @@
 -- The responses that are read, word by word.
-use mathlib.Core.Path.{◌≡◌, sym, ap, ◌∙◌}
-use mathlib.Core.Bool.{Bool, false}
-use mathlib.Core.Logic.{⊎_elim}
-use mathlib.Core.List.{List, map}
-use Prim.Native.Nat.{ℕ, suc, ◌+◌, ◌*◌, ◌%◌, ◌^◌, ◌≤◌, ◌<◌}
-use native.Mathlib.Nat.{mul-le-mul_right}
-use native.Mathlib.Numerals.{add-one}
-use native.Mathlib.Omega.{arith}
+use Rattle.std.proofs.Common.{◌≡◌, sym, ap, ◌∙◌, Bool, false, ⊎_elim, List, map, ℕ, suc, ◌+◌, ◌*◌, ◌%◌, ◌^◌, ◌≤◌, ◌<◌}
+use Rattle.std.proofs.Common.{add-one, arith, bit_or, length, take}
 use mir.Val.{bool_byte}
-use lib.Bits.{bit_or, or_shifted_r}
-use lib.ListN.{length, take}
+use lib.Bits.{or_shifted_r}
 use Rattle.words.specs.Bits.{word, at}
 use Rattle.words.proofs.Tests.{cases}
 use Rattle.words.proofs.Making.{word_small, word_set, word_keep}
@@ -26,10 +19,6 @@ module _ (L : ℕ) (receivers : List ℕ) (v : ℕ) (tdo : List ℕ) where
   responses_at t l =
       ap (λ (s : ℕ). word (map (shifted_out L tdo s) receivers)) (add-one t)
       ∙ sym (tabulate_at v (λ t. word (map (shifted_out L tdo (suc t)) receivers)) t l)
-
--- a scan within the clocks
-pub scan_within : (s v n size : ℕ) → s ≤ v → (v + 1) * n ≤ size → (s + 1) * n ≤ size
-scan_within s v n size l h = let a : s + 1 ≤ v + 1 = omega arith in let m = mul-le-mul_right n a in omega arith
 
 -- a turn that puts a receiver's bit, 0 or 1, above all bits so far
 pub word_put : (f : ℕ → Bool) (xs : List ℕ) (t w : ℕ) → w ≡ word (map f (take t xs)) → t < length xs → length xs ≤ 64

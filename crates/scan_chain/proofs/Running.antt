@@ -1,10 +1,6 @@
 -- One scan, clock by clock.
-use mathlib.Core.Path.{◌≡◌, refl, sym, ap, ap₂, ◌∙◌}
-use mathlib.Core.Bool.{Bool, true, false}
-use mathlib.Core.List.{List, [], ◌∷◌, ◌++◌, map, append_assoc, append-nil}
-use Prim.Native.Nat.{ℕ, suc, ◌+◌, ◌<◌}
-use native.Mathlib.Omega.{arith}
-use lib.ListN.{length, drop, get_or, replicate}
+use Rattle.std.proofs.Common.{◌≡◌, refl, sym, ap, ap₂, ◌∙◌, Bool, true, false, List, [], ◌∷◌, ◌++◌, map, append_assoc}
+use Rattle.std.proofs.Common.{append-nil, ℕ, suc, ◌+◌, ◌<◌, arith, length, drop, get_or, replicate}
 use lib.Seq.{append_snoc}
 use Rattle.words.specs.Bits.{has, bit_value}
 use Rattle.scan_chain.specs.Tap.{TapState, run_test_idle, select_dr_scan, capture_dr, shift_dr, exit1_dr, update_dr, next, action}

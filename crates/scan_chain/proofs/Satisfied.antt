@@ -1,10 +1,5 @@
 -- There is such a chain for every board, so that what is said of one is not said of nothing; and the cases.
-use mathlib.Core.Path.{◌≡◌, refl, ◌∙◌}
-use mathlib.Core.Bool.{true}
-use mathlib.Core.List.{List}
-use Prim.Native.Nat.{ℕ}
-use native.Mathlib.Omega.{arith}
-use lib.ListN.{length}
+use Rattle.std.proofs.Common.{◌≡◌, refl, ◌∙◌, true, List, ℕ, arith, length}
 use Rattle.words.proofs.Making.{has_made}
 use Rattle.network.specs.declared.Network.{Network}
 use Rattle.network.specs.Reading.{reads, response_word}

@@ -1,17 +1,10 @@
 -- The bytes of a scan by their index.
-use mathlib.Core.Path.{◌≡◌, refl, sym, ap, ap₂, ◌∙◌}
-use mathlib.Core.Bool.{Bool, true, false}
-use mathlib.Core.Logic.{⊎_elim}
-use mathlib.Core.List.{List, [], ◌∷◌, ◌++◌}
-use Prim.Native.Nat.{ℕ, zero, suc, ◌+◌, ◌-◌, ◌*◌, ◌≤◌, ◌<◌}
-use native.Mathlib.Nat.{not-suc-le-zero, le_of_suc-le-suc}
-use native.Mathlib.Numerals.{add-one}
-use native.Mathlib.Omega.{arith}
+use Rattle.std.proofs.Common.{◌≡◌, refl, sym, ap, ap₂, ◌∙◌, Bool, true, false, ⊎_elim, List, [], ◌∷◌, ◌++◌, ℕ, zero}
+use Rattle.std.proofs.Common.{suc, ◌+◌, ◌-◌, ◌*◌, ◌≤◌, ◌<◌, not-suc-le-zero, le_of_suc-le-suc, add-one, arith, eqb}
+use Rattle.std.proofs.Common.{length, get_or, get_or-append-add, eq-eqb, ne_eqb}
 use mir.Val.{bool_byte}
-use lib.Dec.{eqb, eqb-suc-suc, eqb-zero-suc}
-use lib.ListN.{length, get_or, get_or-append}
-use lib.Seq.{get_or-append-add}
-use borrow.Author.Tests.{eq-eqb, ne_eqb}
+use lib.Dec.{eqb-suc-suc, eqb-zero-suc}
+use lib.ListN.{get_or-append}
 use Rattle.words.specs.Bits.{bit_value, at}
 use Rattle.words.proofs.Tests.{less_or_not}
 use Rattle.scan_chain.specs.Scans.{clock, is_empty, shift_clocks, scan}
@@ -25,10 +18,6 @@ clock_byte true true = refl
 clock_byte true false = refl
 clock_byte false true = refl
 clock_byte false false = refl
-
-pub bool_byte_below : (b : Bool) → bool_byte b < 2
-bool_byte_below true = omega arith
-bool_byte_below false = omega arith
 
 -- ---- a scan by its index
 

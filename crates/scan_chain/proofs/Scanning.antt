@@ -1,13 +1,8 @@
 -- All scans, one after another.
-use mathlib.Core.Path.{◌≡◌, refl, sym, ap, ap₂, ◌∙◌}
-use mathlib.Core.Bool.{Bool, false}
-use mathlib.Core.List.{List, [], ◌∷◌, ◌++◌, map}
-use Prim.Native.Nat.{ℕ, zero, suc, ◌+◌, ◌*◌, ◌<◌}
-use native.Mathlib.Nat.{suc-mul, le_of_suc-le-suc, not-suc-le-zero}
-use native.Mathlib.Omega.{arith}
-use lib.Dec.{eqb}
-use lib.ListN.{length, get_or, length-append, length-map, get_or-map, get_or-append}
-use lib.Seq.{get_or-append-add}
+use Rattle.std.proofs.Common.{◌≡◌, refl, sym, ap, ap₂, ◌∙◌, Bool, false, List, [], ◌∷◌, ◌++◌, map, ℕ, zero, suc, ◌+◌}
+use Rattle.std.proofs.Common.{◌*◌, ◌<◌, suc-mul, le_of_suc-le-suc, not-suc-le-zero, arith, eqb, length, get_or}
+use Rattle.std.proofs.Common.{length-append, get_or-append-add}
+use lib.ListN.{length-map, get_or-map, get_or-append}
 use Rattle.words.specs.Bits.{bit_value, at}
 use Rattle.words.proofs.Bits.{bit_value_is, bit_value_below_two}
 use Rattle.scan_chain.specs.Tap.{TapState, run_test_idle}

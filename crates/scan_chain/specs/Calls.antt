@@ -2,15 +2,13 @@
 -- 200 cells. Neither takes a level or a gate: rows 5 and 21 are those of any network of n nets. `owners` has the net of
 -- each receiver, `drivers` and `receivers` the cells of the drivers and of the receivers.
 use Rattle.std.specs.Prelude.{ℕ, Bool, List, [], ◌∷◌, ◌++◌, length}
-use Rattle.words.specs.Answers.{Answer, refused, full, by_tests, first_number}
+use Rattle.words.specs.Answers.{Answer, by_tests}
 use Rattle.network.specs.Reading.{network_of}
 use Rattle.network.specs.Rows.{Row5, Row21, BadCount, Row7, HighBit, Row12, bad_net_count, bad_receivers, bad_count}
 use Rattle.network.specs.Rows.{bad_vector_count, has_high_bit, no_room}
 use Rattle.scan_chain.specs.Scans.{clock_count, all_zero, clocks}
 use Rattle.scan_chain.specs.Responses.{responses}
 use Rattle.scan_chain.specs.Rows.{Row18, Row19, bad_chain, bad_tdo}
-use Rattle.scan_chain.specs.declared.Clocked.{Clocked}
-use Rattle.scan_chain.specs.declared.Clocked.TheVariants.{Wrote, Refused}
 
 -- ---- rows 5 and 21, with which both begin
 
@@ -20,9 +18,9 @@ NetsRows n owners = (5, Row5 (network_of n)) ∷ (21, Row21 (network_of n) owner
 abbrev pub nets_tests : ℕ → (owners : List ℕ) → List (ℕ × Bool)
 nets_tests n owners = (5, bad_net_count (network_of n)) ∷ (21, bad_receivers (network_of n) owners) ∷ []
 
--- the number of the first that holds, or 0
-abbrev pub nets_refusal : ℕ → (owners : List ℕ) → ℕ
-nets_refusal n owners = first_number (nets_tests n owners)
+-- what they say alone
+abbrev pub nets_admission : ℕ → (owners : List ℕ) → Answer (Unit {0})
+nets_admission n owners = by_tests (nets_tests n owners) tt
 
 -- ---- *write clocks*
 
@@ -73,8 +71,3 @@ read_tests n owners v L drivers receivers tdo room =
 unfoldable pub read_answer : ℕ → (owners : List ℕ) → (v L : ℕ) → (drivers receivers tdo : List ℕ) → ℕ → Answer (List ℕ)
 read_answer n owners v L drivers receivers tdo room =
     by_tests (read_tests n owners v L drivers receivers tdo room) (responses L receivers v tdo)
-
--- document 02's number and values for each case of the answer
-abbrev pub meaning : Clocked → Answer ℕ
-meaning (Wrote count) = full count
-meaning (Refused number) = refused number

@@ -5,8 +5,8 @@ use Rattle.std.specs.Prelude.{ℕ, ◌+◌, ◌*◌, ◌-◌, ◌<◌, ◌≡◌
 use Rattle.words.specs.Bits.{has, bit_value, at}
 use Rattle.words.specs.Searching.{position}
 use Rattle.words.specs.Turning.{tabulate}
-use Rattle.words.specs.declared.Search.{Search}
-use Rattle.words.specs.declared.Search.TheVariants.{Found, Missing}
+use Rattle.std.specs.Prelude.{Option}
+use Rattle.std.specs.Prelude.{Some, None}
 
 -- ---- bytes
 
@@ -50,9 +50,9 @@ abbrev pub all_zero : List ℕ
 all_zero = []
 
 -- what a cell gets: its driver's bit, and the bit that it holds where it is no driver's
-unfoldable pub bit_found : ℕ → Bool → Search → Bool
-bit_found vector bit (Found i) = has vector i
-bit_found vector bit Missing = bit
+unfoldable pub bit_found : ℕ → Bool → Option ℕ → Bool
+bit_found vector bit (Some i) = has vector i
+bit_found vector bit None = bit
 
 unfoldable pub cell_bit : (drivers held : List ℕ) → (vector cell : ℕ) → Bool
 cell_bit drivers held vector cell = bit_found vector (holds held cell) (position cell drivers)

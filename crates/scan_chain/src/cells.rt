@@ -1,58 +1,94 @@
-// The cells of a scan chain: row 18. `drivers` and `receivers` are the cells of the drivers and of the receivers. Helpers
-// of this crate: each asks for what the rows before it and the tests before it admit.
-ghost use Rattle.std.specs.Prelude.{◌≡◌, ◌++◌, ◌+◌, ◌<◌, ◌≤◌, length};
-ghost use Rattle.words.specs.Bits.{at};
+// The cells of a scan chain: row 18, and the chains that it admits. `drivers` and `receivers` are the cells of the
+// drivers and of the receivers.
+ghost use Rattle.std.specs.Prelude.{◌≡◌, ◌++◌, ◌+◌, ◌<◌, ◌≤◌, true, false, IfOk, IfErr, length};
 ghost use Rattle.scan_chain.specs.Rows.{has_wrong_cell, bad_chain};
+ghost use Rattle.scan_chain.specs.Scans.{clock_count};
+ghost use Rattle.scan_chain.specs.Cells.{Distinct};
+ghost use Rattle.network.specs.declared.refusal.Refusal.TheVariants.{Chain as RowOfChains};
 
-// Entry i of the drivers' cells, then the receivers'.
-fn cell_at(drivers: &[u64], receivers: &[u64], i: usize) -> u64
-    requires { i < length drivers.now + length receivers.now }
-    ensures { result ≡ at (drivers.now ++ receivers.now) i }
-{
-    if i < drivers.len() {
-        return drivers[i];
-    }
-    receivers[i - drivers.len()]
+use network::admitting::Board;
+use network::refusal::{Refusal, refuse_if};
+
+// A chain of cells and those of the drivers and of the receivers, all different, which row 18 admits.
+#[derive(Clone, Copy)]
+pub struct Chain<'a> {
+    pub cells: usize,
+    pub drivers: &'a [u64],
+    pub receivers: &'a [u64],
+    ghost some: { 0 < cells },
+    ghost most: { cells ≤ 200 },
+    ghost few_drivers: { length drivers.now ≤ 64 },
+    ghost few_receivers: { length receivers.now ≤ 64 },
+    ghost distinct: { Distinct cells (drivers.now ++ receivers.now) },
 }
 
-// A cell outside the chain, or used for two purposes. `used` has a 1 for each of the cells so far.
+// A cell outside the chain, or used for two purposes. `used` tells of each cell whether it stood before.
 fn has_wrong_cell(cells: u64, drivers: &[u64], receivers: &[u64]) -> bool
-    requires { (cells ≤ 200) × (length drivers.now ≤ 64) × (length receivers.now ≤ 64) }
+    requires { cells ≤ 200 }
     ensures { result ≡ has_wrong_cell cells (drivers.now ++ receivers.now) }
 {
-    let mut used = [0u8; 200];
-    let mut i: usize = 0;
-    while i < drivers.len() + receivers.len() {
-        let cell = cell_at(drivers, receivers, i);
-        if cells <= cell {
+    let mut used = [false; 200];
+    for &cell in drivers.iter().chain(receivers) {
+        if cells <= cell || used[cell as usize] {
             return true;
         }
-        if used[cell as usize] == 1 {
-            return true;
-        }
-        used[cell as usize] = 1;
-        i += 1;
+        used[cell as usize] = true;
     }
     false
 }
 
 // Row 18 for n nets and m receivers: L outside 2 to 200, not exactly one driver cell for each net or one receiver cell for
 // each receiver, or a wrong cell.
+#[tactic(auto, unfolding(crate::specs::Rows::bad_chain))]
 pub fn bad_chain(n: u64, m: u64, cells: u64, drivers: &[u64], receivers: &[u64]) -> bool
-    requires { (n ≤ 64) × (m ≤ 64) }
     ensures { result ≡ bad_chain 200 n m cells drivers.now receivers.now }
 {
-    if cells < 2 {
-        return true;
+    cells < 2
+        || 200 < cells
+        || drivers.len() as u64 != n
+        || receivers.len() as u64 != m
+        || has_wrong_cell(cells, drivers, receivers)
+}
+
+// Row 18 for a board.
+pub fn admit_chain<'a>(
+    board: Board<'a>,
+    cells: u64,
+    drivers: &'a [u64],
+    receivers: &'a [u64],
+) -> Result<Chain<'a>, Refusal>
+    ensures admitted { IfOk result (λ chain.
+        (chain.cells ≡ cells) × (chain.drivers.now ≡ drivers.now) × (chain.receivers.now ≡ receivers.now)
+        × (bad_chain 200 board.entry.nets.network.nets (length board.entry.receivers.now) cells drivers.now receivers.now ≡ false)) }
+    ensures refused { IfErr result (λ refusal. (refusal ≡ RowOfChains)
+        × (bad_chain 200 board.entry.nets.network.nets (length board.entry.receivers.now) cells drivers.now receivers.now ≡ true)) }
+{
+    let nets = board.nets.network.nets;
+    let count = board.receivers.len() as u64;
+    refuse_if(
+        bad_chain(nets, count, cells, drivers, receivers),
+        Refusal::Chain,
+    )?;
+    Ok(Chain {
+        cells: cells as usize,
+        drivers,
+        receivers,
+    })
+}
+
+impl Chain<'_> {
+    // The clocks of one scan.
+    pub fn scan_length(self) -> usize
+        ensures { result ≡ self.entry.cells + 5 }
+    {
+        self.cells + 5
     }
-    if 200 < cells {
-        return true;
+
+    // The clocks for so many vectors: the last one is scanned twice.
+    pub fn clock_count(self, vectors: usize) -> usize
+        requires { vectors ≤ 64 }
+        ensures { result ≡ clock_count vectors self.entry.cells }
+    {
+        (vectors + 1) * self.scan_length()
     }
-    if drivers.len() as u64 != n {
-        return true;
-    }
-    if receivers.len() as u64 != m {
-        return true;
-    }
-    has_wrong_cell(cells, drivers, receivers)
 }

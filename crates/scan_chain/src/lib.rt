@@ -3,39 +3,37 @@
 
 #![tactic(auto)]
 
-ghost use Rattle.std.specs.Prelude.{◌≡◌, length};
-ghost use Rattle.words.specs.Answers.{count_of, lent_after};
-ghost use Rattle.scan_chain.specs.Calls.{nets_refusal, write_answer, read_answer, meaning};
+ghost use Rattle.std.specs.Prelude.{◌≡◌, false, length, IfOk, IfErr};
+ghost use Rattle.words.specs.Answers.{refused, count_of, lent_after};
+ghost use Rattle.network.specs.Reading.{network_of};
+ghost use Rattle.network.specs.Rows.{bad_net_count, bad_receivers};
+ghost use Rattle.network.specs.Refusing.{row_number, answer_of};
+ghost use Rattle.scan_chain.specs.Calls.{nets_admission, write_answer, read_answer};
 
-use network::Network;
+use cells::admit_chain;
+use network::admitting::{Board, admit_board};
+use network::refusal::{Refusal, refuse_if};
+use network::{Network, refusals};
 
 pub mod cells;
 pub mod clocks;
 pub mod tdo;
 
-// What the calls *write clocks* and *read clocks* answer: how many bytes or words they wrote, or the refusal.
-#[derive(Clone, Copy)]
-pub enum Clocked {
-    Wrote(u64),
-    Refused(u64),
-}
-
-// Rows 5 and 21: the first that holds, or 0. They are those of a network of any level and gate.
-fn nets_refusal(nets: u64, receivers: &[u64]) -> u64
-    ensures { result ≡ nets_refusal nets receivers.now }
+// Rows 5 and 21, with which both calls begin: those of a network of any level and gate.
+fn admit_owners<'a>(nets: u64, receivers: &'a [u64]) -> Result<Board<'a>, Refusal>
+    ensures board { IfOk result (λ board. (board.nets.network.nets ≡ nets) × (board.receivers.now ≡ receivers.now)) }
+    ensures admitted { IfOk result (λ _. (bad_net_count (network_of nets) ≡ false)
+        × (bad_receivers (network_of nets) receivers.now ≡ false)) }
+    ensures refused { IfErr result (λ refusal. refused (row_number refusal) ≡ nets_admission nets receivers.now) }
 {
-    let net = Network {
-        nets: nets,
-        level: 1,
-        gate: 0,
-    };
-    network::refusals::board_refusal(net, receivers)
+    admit_board(Network::of(nets), receivers)
 }
 
 // The call *write clocks*: the clocks for a test set into the front of `out`, one byte each, TMS in bit 0 and TDI in bit
-// 1. `receivers` has the net of each receiver. The chain has `cells` cells, cell 0 nearest TDO; `driver_cells` has the
-// cell of each net's driver, `receiver_cells` that of each receiver. All cells but the drivers' get 0. Rows 5, 21, 7, 8,
-// 18, 12.
+// 1. It answers how many. `receivers` has the net of each receiver. The chain has `cells` cells, cell 0 nearest TDO;
+// `driver_cells` has the cell of each net's driver, `receiver_cells` that of each receiver. All cells but the drivers' get
+// 0. Rows 5, 21, 7, 8, 18, 12.
+#[tactic(auto, using(crate::proofs::CellContents::clocks_size), unfolding(words::specs::Answers::by_tests, words::specs::Answers::count_of, words::specs::Answers::lent_after, crate::specs::Calls::write_answer,))]
 pub fn write_clocks(
     nets: u64,
     receivers: &[u64],
@@ -44,44 +42,29 @@ pub fn write_clocks(
     driver_cells: &[u64],
     receiver_cells: &[u64],
     out: &mut [u8],
-) -> Clocked
-    ensures answer { meaning result
+) -> Result<u64, Refusal>
+    ensures answer { answer_of result
         ≡ count_of (write_answer nets receivers.now vectors.now cells driver_cells.now
         receiver_cells.now (length out.old)) }
     ensures list { out.new
         ≡ lent_after (write_answer nets receivers.now vectors.now cells driver_cells.now
         receiver_cells.now (length out.old)) out.old }
 {
-    let refusal = nets_refusal(nets, receivers);
-    if refusal != 0 {
-        return Clocked::Refused(refusal);
-    }
-    if network::refusals::bad_count(vectors.len() as u64) {
-        return Clocked::Refused(7);
-    }
-    if network::refusals::has_high_bit(nets, vectors) {
-        return Clocked::Refused(8);
-    }
-    if cells::bad_chain(
-        nets,
-        receivers.len() as u64,
-        cells,
-        driver_cells,
-        receiver_cells,
-    ) {
-        return Clocked::Refused(18);
-    }
-    let size = cells as usize;
-    let total = (vectors.len() + 1) * (size + 5);
-    if network::refusals::no_room(total, out.len()) {
-        return Clocked::Refused(12);
-    }
-    clocks::put_clocks(size, driver_cells, vectors, out);
-    Clocked::Wrote(total as u64)
+    let board = admit_owners(nets, receivers)?;
+    let count = vectors.len();
+    refuse_if(refusals::bad_count(count as u64), Refusal::VectorCount)?;
+    refuse_if(refusals::has_high_bit(nets, vectors), Refusal::VectorBits)?;
+    let chain = admit_chain(board, cells, driver_cells, receiver_cells)?;
+    let total = chain.clock_count(count);
+    refuse_if(refusals::no_room(total, out.len()), Refusal::Room)?;
+    chain.put_clocks(vectors, out);
+    Ok(total as u64)
 }
 
 // The call *read clocks*: the responses to `count` vectors from the TDO bits of their clocks, a byte 0 or 1 for each
-// clock, into the front of `out`. The chain is described as for *write clocks*. Rows 5, 21, 7, 18, 19, 12.
+// clock, into the front of `out`. It answers how many. The chain is described as for *write clocks*. Rows 5, 21, 7, 18,
+// 19, 12.
+#[tactic(auto, using(crate::proofs::Reading::responses_size), unfolding(words::specs::Answers::by_tests, words::specs::Answers::count_of, words::specs::Answers::lent_after, crate::specs::Calls::read_answer,))]
 pub fn read_clocks(
     nets: u64,
     receivers: &[u64],
@@ -91,38 +74,20 @@ pub fn read_clocks(
     receiver_cells: &[u64],
     tdo: &[u8],
     out: &mut [u64],
-) -> Clocked
-    ensures answer { meaning result
+) -> Result<u64, Refusal>
+    ensures answer { answer_of result
         ≡ count_of (read_answer nets receivers.now count cells driver_cells.now
         receiver_cells.now tdo.now (length out.old)) }
     ensures list { out.new
         ≡ lent_after (read_answer nets receivers.now count cells driver_cells.now
         receiver_cells.now tdo.now (length out.old)) out.old }
 {
-    let refusal = nets_refusal(nets, receivers);
-    if refusal != 0 {
-        return Clocked::Refused(refusal);
-    }
-    if network::refusals::bad_count(count) {
-        return Clocked::Refused(7);
-    }
-    if cells::bad_chain(
-        nets,
-        receivers.len() as u64,
-        cells,
-        driver_cells,
-        receiver_cells,
-    ) {
-        return Clocked::Refused(18);
-    }
+    let board = admit_owners(nets, receivers)?;
+    refuse_if(refusals::bad_count(count), Refusal::VectorCount)?;
+    let chain = admit_chain(board, cells, driver_cells, receiver_cells)?;
     let many = count as usize;
-    let size = cells as usize;
-    if tdo::bad_tdo(many, size, tdo) {
-        return Clocked::Refused(19);
-    }
-    if network::refusals::no_room(many, out.len()) {
-        return Clocked::Refused(12);
-    }
-    tdo::fill_responses(size, receiver_cells, tdo, many, out);
-    Clocked::Wrote(count)
+    refuse_if(chain.bad_tdo(many, tdo), Refusal::Tdo)?;
+    refuse_if(refusals::no_room(many, out.len()), Refusal::Room)?;
+    chain.fill_responses(tdo, many, out);
+    Ok(count)
 }

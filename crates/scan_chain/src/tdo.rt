@@ -1,64 +1,51 @@
-// Responses from TDO bytes. `receivers` has the cell of each receiver. Helpers of this crate: each asks for a chain that
-// row 18 admits, and for room.
-ghost use Rattle.std.specs.Prelude.{◌≡◌, map, ◌<◌, ◌≤◌, length};
+// Responses from TDO bytes. Helpers: each asks for at most 64 vectors, and for room.
+ghost use Rattle.std.specs.Prelude.{◌≡◌, map, ◌≤◌, length};
 ghost use Rattle.words.specs.Bits.{word};
 ghost use Rattle.words.specs.Answers.{lent_after, full};
 ghost use Rattle.scan_chain.specs.Scans.{clock_count};
 ghost use Rattle.scan_chain.specs.Responses.{shifted_out, responses};
 ghost use Rattle.scan_chain.specs.Rows.{above_one, bad_tdo};
-ghost use Rattle.scan_chain.specs.Cells.{Inside};
+
+use crate::cells::Chain;
 
 // Whether a byte is above 1.
 fn above_one(bytes: &[u8]) -> bool
     ensures { result ≡ above_one bytes.now }
 {
-    let mut found = false;
-    let mut i: usize = 0;
-    while i < bytes.len() {
-        found |= 1 < bytes[i];
-        i += 1;
-    }
-    found
+    bytes.iter().any(|&byte| 1 < byte)
 }
 
-// Row 19: the bytes are not as many as the clocks, or one is above 1.
-pub fn bad_tdo(count: usize, cells: usize, tdo: &[u8]) -> bool
-    requires { (count ≤ 64) × (cells ≤ 200) }
-    ensures { result ≡ bad_tdo count cells tdo.now }
-{
-    if tdo.len() != (count + 1) * (cells + 5) {
-        return true;
+impl Chain<'_> {
+    // Row 19: the bytes are not as many as the clocks, or one is above 1.
+    #[tactic(auto, unfolding(crate::specs::Rows::not_bits))]
+    pub fn bad_tdo(self, count: usize, tdo: &[u8]) -> bool
+        requires { count ≤ 64 }
+        ensures { result ≡ bad_tdo count self.entry.cells tdo.now }
+    {
+        tdo.len() != self.clock_count(count) || above_one(tdo)
     }
-    above_one(tdo)
-}
 
-// The word that scan s shifted out of the receivers' cells.
-fn read_word(cells: usize, receivers: &[u64], tdo: &[u8], s: usize) -> u64
-    requires { (length receivers.now ≤ 64) × (cells ≤ 200) × (s ≤ 64) × (clock_count s cells ≤ length tdo.now)
-        × Inside cells receivers.now }
-    ensures { result ≡ word (map (shifted_out cells tdo.now s) receivers.now) }
-{
-    let start = s * (cells + 5);
-    let mut w: u64 = 0;
-    let mut r: usize = 0;
-    while r < receivers.len() {
-        let j = receivers[r] as usize;
-        w |= ((tdo[start + (3 + j)] == 1) as u64) << r;
-        r += 1;
+    // The word that a scan shifted out of the receivers' cells.
+    fn read_word(self, tdo: &[u8], scan: usize) -> u64
+        requires { (scan ≤ 64) × (clock_count scan self.cells ≤ length tdo.now) }
+        ensures { result ≡ word (map (shifted_out self.entry.cells tdo.now scan) self.entry.receivers.now) }
+    {
+        let start = scan * self.scan_length();
+        let mut word: u64 = 0;
+        for (r, &cell) in self.receivers.iter().enumerate() {
+            let bit = tdo[start + (3 + cell as usize)] == 1;
+            word |= u64::from(bit) << r;
+        }
+        word
     }
-    w
-}
 
-// The responses to `count` vectors into the front of `out`: the word of scan t + 1 answers vector t.
-pub fn fill_responses(cells: usize, receivers: &[u64], tdo: &[u8], count: usize, out: &mut [u64])
-    requires { (length receivers.now ≤ 64) × (cells ≤ 200) × (count ≤ 64)
-        × (clock_count count cells ≤ length tdo.now) × (count ≤ length out.old) × Inside cells receivers.now }
-    ensures { out.new
-        ≡ lent_after (full (responses cells receivers.now count tdo.now)) out.old }
-{
-    let mut t: usize = 0;
-    while t < count {
-        out[t] = read_word(cells, receivers, tdo, t + 1);
-        t += 1;
+    // The responses to `count` vectors into the front of `out`: the word of scan t + 1 answers vector t.
+    pub fn fill_responses(self, tdo: &[u8], count: usize, out: &mut [u64])
+        requires { (count ≤ 64) × (clock_count count self.cells ≤ length tdo.now) × (count ≤ length out.old) }
+        ensures { out.new ≡ lent_after (full (responses self.entry.cells self.entry.receivers.now count tdo.now)) out.old }
+    {
+        for t in 0..count {
+            out[t] = self.read_word(tdo, t + 1);
+        }
     }
 }

@@ -1,9 +1,7 @@
 -- Words at the front of an array of zeros.
-use Prim.Native.Nat.{ℕ, zero, suc, ◌-◌, ◌≤◌}
-use native.Mathlib.Omega.{arith}
-use mathlib.Core.Path.{◌≡◌, ap, ◌∙◌}
-use mathlib.Core.List.{List, ◌++◌}
-use lib.ListN.{length, drop, replicate, length-append, length-replicate}
+use Rattle.std.proofs.Common.{ℕ, zero, suc, ◌-◌, ◌≤◌, arith, ◌≡◌, ap, ◌∙◌, List, ◌++◌, length, drop, replicate}
+use Rattle.std.proofs.Common.{length-append}
+use lib.ListN.{length-replicate}
 use Rattle.words.specs.Answers.{full, lent_after}
 use Rattle.session.specs.Record.{pad}
 

@@ -1,25 +1,28 @@
 -- Laws of the session's record: what the tests say of the records that accepted calls leave, and of any other record.
-use mathlib.Core.Path.{◌≡◌, refl, sym, ap, ◌∙◌}
-use mathlib.Core.Bool.{Bool, true, false, not, ◌&&◌}
-use mathlib.Core.Logic.{◌≢◌}
-use mathlib.Core.List.{List, [], ◌∷◌, ◌++◌}
-use Prim.Native.Nat.{ℕ, zero, suc, ◌-◌, ◌≤◌, ◌<◌}
-use native.Mathlib.Nat.{le_refl}
-use native.Mathlib.Omega.{arith}
-use lib.Dec.{eqb}
-use lib.ListN.{length, get_or, take, length-drop, drop, replicate, length-replicate, get_or-replicate, take-append-drop}
-use lib.Seq.{take_all, ext_get_or, take_at, drop_at, length-take-le}
-use borrow.Author.Tests.{eqb-true, eqb-false, eq-eqb, ne_eqb, leb-true, le-leb, not-true, not-false}
+use Rattle.std.proofs.Common.{◌≡◌, ◌≢◌, refl, sym, ap, ap₂, ◌∙◌, Bool, true, false, not, ◌&&◌, List, [], ◌∷◌, ◌++◌, ℕ}
+use Rattle.std.proofs.Common.{zero, suc, ◌-◌, ◌≤◌, ◌<◌, ◌↔◌, arith, length, get_or, take, drop, replicate}
+use Rattle.std.proofs.Common.{length-drop, length-take-le, ⊎_elim, le_refl, eqb, leb, take-append-drop, take_all}
+use Rattle.std.proofs.Common.{ext_get_or, take_at, drop_at, eqb-true, eq-eqb, ne_eqb, leb-true, le-leb}
+use Rattle.std.specs.Prelude.{Result, Ok, Err, IfOk, MatchOption}
+use Rattle.std.specs.Result.{result_ok}
+use lib.ListN.{length-replicate, get_or-replicate}
+use borrow.Author.Tests.{eqb-false, not-true, not-false}
 use Rattle.words.specs.Bits.{at}
 use Rattle.words.specs.Searching.{any}
-use Rattle.words.proofs.Tests.{and_left, and_right, and_both, and_false}
+use Rattle.words.specs.Answers.{by_tests}
+use Rattle.words.proofs.Answers.{refused_not_full}
+use Rattle.words.proofs.Tests.{cases, contrary, same_truth, and_left, and_right, and_both, and_false}
 use Rattle.words.proofs.Searching.{any_at, any_none, any_false}
 use Rattle.network.specs.declared.Network.{Network}
-use Rattle.network.specs.Rows.{AdmittedBoard, has_high_bit}
-use Rattle.network.proofs.Rows.{board_admitted, admitted_refusal, nets_admitted, receivers_of_board}
+use Rattle.network.specs.declared.admitting.Board.{Board}
+use Rattle.network.specs.declared.refusal.Refusal.{Refusal}
+use Rattle.network.specs.Refusing.{admission_of}
+use Rattle.network.specs.Rows.{AdmittedBoard, board_refusal, board_only_admission, has_high_bit}
+use Rattle.network.proofs.Rows.{board_admits, board_admitted, admitted_refusal, nets_admitted, receivers_of_board}
 use Rattle.steps.specs.FirstStep.{word_length}
-use Rattle.steps.specs.SecondStep.{unclear}
+use Rattle.steps.specs.SecondStep.{unclear, second_vectors}
 use Rattle.steps.proofs.StepOneWords.{length_bounds}
+use Rattle.steps.proofs.StepTwoVectors.{second_empty}
 use Rattle.session.specs.declared.Session.{Session}
 use Rattle.session.specs.Record.{board_held, first_answers_held, pad, awaiting_first, awaiting_second, is_zeros}
 use Rattle.session.specs.Record.{all_hold, held_owners, held_answers, awaits_first, awaits_second}
@@ -70,18 +73,13 @@ zeros_by size words e h f = ap (λ (n : ℕ). is_zeros n words) (sym e) ∙ sym 
 
 -- told by a test of the words from p on
 pub zeros_after : (size : ℕ) (words : List ℕ) (p q : ℕ) {b d : Bool} → length words ≡ size → p ≡ q
-    → b ≡ is_zeros (length (take (length words - p) (drop p words))) (take (length words - p) (drop p words)) → b ≡ d
+    → b ≡ is_zeros (length (take (size - p) (drop p words))) (take (size - p) (drop p words)) → b ≡ d
     → is_zeros (size - q) (drop q words) ≡ d
 zeros_after size words p q sized same h f =
     let left : length (drop q words) ≡ size - q = length-drop q words ∙ ap (λ (n : ℕ). n - q) sized in
-    let whole : take (length words - p) (drop p words) ≡ drop q words =
-    rw same (take_all (length words - q) (drop q words)
-    (rw (length-drop q words) (le_refl (length words - q)))) in
+    let whole : take (size - p) (drop p words) ≡ drop q words =
+    rw same (take_all (size - q) (drop q words) (rw left (le_refl (size - q)))) in
     zeros_by (size - q) (drop q words) left (rw whole at h) f
-
--- the length of a list that is the front of another
-pub length_front : (count : ℕ) (words : List ℕ) {front : List ℕ} → count ≤ length words → take count words ≡ front → length front ≡ count
-length_front count words l e = ap length (sym e) ∙ length-take-le count words l
 
 -- ---- tests one by one
 
@@ -95,6 +93,44 @@ unfolding all_hold
 hold_at i [] e = refl
 hold_at zero (test ∷ tests) e = and_left test _ e
 hold_at (suc i) (test ∷ tests) e = hold_at i tests (and_right test _ e)
+
+-- where one fails, not all hold
+pub fails_at : (i : ℕ) (tests : List Bool) → get_or tests i true ≡ false → all_hold tests ≡ false
+fails_at i tests e = ⊎_elim (λ all. contrary (hold_at i tests all) e) (λ f. f) (cases (all_hold tests))
+
+-- five tests, the second last
+pub second_last : (a b c d e : Bool) → all_hold (a ∷ b ∷ c ∷ d ∷ e ∷ []) ≡ (a && (c && (d && e))) && b
+unfolding all_hold
+second_last false b c d e = refl
+second_last true false false d e = refl
+second_last true false true false e = refl
+second_last true false true true false = refl
+second_last true false true true true = refl
+second_last true true false d e = refl
+second_last true true true false e = refl
+second_last true true true true false = refl
+second_last true true true true true = refl
+
+-- five tests, the second and the third last
+pub middle_last : (a b c d e : Bool) → all_hold (a ∷ b ∷ c ∷ d ∷ e ∷ []) ≡ (a && (d && e)) && (b && c)
+unfolding all_hold
+middle_last false b c d e = refl
+middle_last true false c false e = refl
+middle_last true false c true false = refl
+middle_last true false c true true = refl
+middle_last true true false false e = refl
+middle_last true true false true false = refl
+middle_last true true false true true = refl
+middle_last true true true false e = refl
+middle_last true true true true false = refl
+middle_last true true true true true = refl
+
+-- a list of zeros, told entry by entry
+pub zeros_told : (words : List ℕ) (b : Bool) → (b ≡ true ↔ ((i : ℕ) → i < length words → at words i ≡ 0))
+    → b ≡ is_zeros (length words) words
+zeros_told words b e =
+    same_truth b (is_zeros (length words) words) (λ t. zeros_hold (length words) words refl (e.0 t))
+    (λ t. e.1 (zeros_at (length words) words t))
 
 -- ---- a board that a record holds
 
@@ -146,6 +182,27 @@ board_is net receivers owners e = record {
     rest : drop receivers owners ≡ replicate (64 - length (take receivers owners)) 0
     rest = zeros_are (64 - receivers) _ (hold_at 2 _ e) ∙ ap (λ (n : ℕ). replicate (64 - n) 0) (sym count)
 
+-- told by the rows of a board, where the other tests hold
+pub held_told : (net : Network) (receivers : ℕ) (owners : List ℕ) → receivers ≤ 64 → length owners ≡ 64
+    → is_zeros (64 - receivers) (drop receivers owners) ≡ true → (r : Result Board Refusal)
+    → admission_of r ≡ board_only_admission net (take receivers owners)
+    → IfOk r (λ board. (board.nets.network ≡ net) × (board.receivers.now ≡ take receivers owners))
+    → MatchOption (result_ok r) (board_held net receivers owners ≡ false)
+    (λ board. (board_held net receivers owners ≡ true)
+    × (board.nets.network ≡ net) × (board.receivers.now ≡ take receivers owners))
+unfolding all_hold by_tests
+held_told net receivers owners few size zeros (Ok board) rows same =
+    let none : board_refusal net (take receivers owners) ≡ 0 =
+    admitted_refusal net (take receivers owners) (rw (same.0, same.1) at board.admitted) in
+    (rw (le-leb _ _ few, eq-eqb _ _ size, zeros, none), same.0, same.1)
+held_told net receivers owners few size zeros (Err refusal) rows same =
+    fails_at 3
+    (leb receivers 64 ∷ eqb (length owners) 64 ∷ is_zeros (64 - receivers) (drop receivers owners)
+    ∷ eqb (board_refusal net (take receivers owners)) 0
+    ∷ [])
+    (ne_eqb _ _ (λ none. refused_not_full (sym rows)
+    (board_admits net (take receivers owners) [] tt none)))
+
 -- ---- a record that waits for first answers
 
 pub awaits_first_of : (net : Network) (owners : List ℕ) → AdmittedBoard net owners
@@ -154,6 +211,13 @@ unfolding awaits_first all_hold
 awaits_first_of net owners h =
     let board : board_held net (length owners) (pad 64 owners) ≡ true = board_of net owners h in
     rw (board, zeros_of 8, zeros_of 64)
+
+-- the tests of a board last
+pub awaits_first_parts : (s : Session) → awaits_first s
+    ≡ (eqb s.step 1 && (is_zeros 8 s.first && (is_zeros 64 s.reaches && eqb s.spent 0)))
+    && board_held s.network s.receivers s.owners
+unfolding awaits_first
+awaits_first_parts s = second_last _ _ _ _ _
 
 module _ (s : Session) (e : awaits_first s ≡ true) where
   pub awaits_first_step : s.step ≡ 1
@@ -215,6 +279,56 @@ pub record WaitsForSecond (s : Session) : Type 0 where
   pub one_a_vector : length (held_answers s) ≡ word_length s.network
   pub no_high_bit : has_high_bit (length (held_owners s)) (held_answers s) ≡ false
   pub some_unclear : length (unclear s.network (held_owners s) (held_answers s)) ≢ 0
+
+-- the tests of a board and of first answers last
+pub awaits_second_parts : (s : Session) → awaits_second s
+    ≡ (eqb s.step 2 && (is_zeros 64 s.reaches && eqb s.spent 0))
+    && (board_held s.network s.receivers s.owners && first_answers_held s.network (held_owners s) s.first)
+unfolding awaits_second
+awaits_second_parts s = middle_last _ _ _ _ _
+
+-- told by the board that it holds, and by p, the length of the words
+module _ (s : Session) (board : Board) (net_is : board.nets.network ≡ s.network)
+    (owners_are : board.receivers.now ≡ held_owners s)
+    (held : board_held s.network s.receivers s.owners ≡ true) (p : ℕ) (p_is : p ≡ word_length board.nets.network) where
+  pub length_told : p ≡ word_length s.network
+  length_told = p_is ∙ ap word_length net_is
+
+  pub answers_told : take p s.first ≡ held_answers s
+  answers_told = ap (λ (n : ℕ). take n s.first) length_told
+
+  pub short_told : p ≤ 8
+  short_told = rw p_is (length_bounds board.nets.network board.two board.nets.few).1
+
+  pub owners_count : length board.receivers.now ≡ s.receivers
+  owners_count = ap length owners_are ∙ (board_is s.network s.receivers s.owners held).count
+
+  pub high_told : {test : Bool} → test ≡ has_high_bit s.receivers (take p s.first)
+      → has_high_bit (length (held_owners s)) (held_answers s) ≡ test
+  high_told told =
+      ap₂ has_high_bit (board_is s.network s.receivers s.owners held).count (sym answers_told) ∙ sym told
+
+  pub vectors_told : {vectors : List ℕ} → vectors ≡ second_vectors board.nets.network board.receivers.now (take p s.first)
+      → vectors ≡ second_vectors s.network (held_owners s) (held_answers s)
+  vectors_told e =
+      e ∙ ap₂ (λ (net : Network) (owners : List ℕ). second_vectors net owners (take p s.first)) net_is owners_are
+      ∙ ap (second_vectors s.network (held_owners s)) answers_told
+
+  pub unclear_told : {vectors : List ℕ} {test : Bool}
+      → vectors ≡ second_vectors board.nets.network board.receivers.now (take p s.first) → test ≡ eqb (length vectors) 0
+      → eqb (length (unclear s.network (held_owners s) (held_answers s))) 0 ≡ test
+  unclear_told e told =
+      sym (second_empty s.network (held_owners s) (held_answers s))
+      ∙ ap (λ (vectors : List ℕ). eqb (length vectors) 0) (sym (vectors_told e)) ∙ sym told
+
+-- all its tests of first answers hold
+pub answers_hold : (net : Network) (owners first : List ℕ) → length first ≡ 8
+    → is_zeros (8 - word_length net) (drop (word_length net) first) ≡ true
+    → has_high_bit (length owners) (take (word_length net) first) ≡ false
+    → eqb (length (unclear net owners (take (word_length net) first))) 0 ≡ false
+    → first_answers_held net owners first ≡ true
+unfolding all_hold
+answers_hold net owners first size zeros narrow some = rw (eq-eqb _ _ size, zeros, narrow, some)
 
 module _ (s : Session) (e : awaits_second s ≡ true) where
   pub awaits_second_step : s.step ≡ 2

@@ -1,27 +1,25 @@
--- What a step owes when it refuses, and when it is accepted; and the tests of its rows, told by what calls return.
-use Prim.Native.Nat.{ℕ, ◌≤◌}
-use native.Mathlib.Omega.{arith}
-use mathlib.Core.Path.{◌≡◌, sym, ap, ◌∙◌}
-use mathlib.Core.Bool.{Bool}
-use mathlib.Core.List.{List}
-use lib.ListN.{length, take}
-use lib.Seq.{length-take-le}
-use Rattle.network.specs.declared.Network.{Network}
-use Rattle.network.specs.Rows.{bad_response_count, has_high_bit, no_room}
-use Rattle.steps.specs.declared.SecondVectors.{SecondVectors}
-use Rattle.session.proofs.Records.{HeldBoard}
+-- What a call owes when it refuses, and when it is accepted; and what it knows of a record that waits for answers.
+use Rattle.std.proofs.Common.{◌≡◌, sym, ap, ap₂, ◌∙◌, Bool, ℕ, List, length, take}
+use Rattle.std.specs.Prelude.{Option, None, Err}
+use Rattle.std.specs.Option.{ok_or}
 use Rattle.words.specs.Answers.{Answer, refused, full, lent_after}
+use Rattle.network.specs.declared.Network.{Network}
+use Rattle.network.specs.declared.refusal.Refusal.{Refusal}
+use Rattle.network.specs.Refusing.{row_number}
+use Rattle.network.specs.Rows.{bad_response_count, has_high_bit, no_room}
+use Rattle.steps.specs.SecondStep.{second_vectors}
 use Rattle.session.specs.declared.Session.{Session}
-use Rattle.session.specs.declared.Stepped.{Stepped}
-use Rattle.session.specs.Calls.{stepped}
+use Rattle.session.specs.declared.record.Asked.{Asked}
+use Rattle.session.specs.Record.{held_owners, held_answers}
+use Rattle.session.specs.Calls.{stepped, code_of}
+use Rattle.session.proofs.Records.{HeldBoard}
 
 module _ (answer : Answer (List ℕ)) (new old : Session) where
-  pub step_refused : (number : ℕ) (done : Stepped) (lent : List ℕ) → (done.code ≡ number) × (done.session ≡ old)
-      → answer ≡ refused number
-      → (done.session ≡ (stepped answer new old).session)
-      × ((done.code ≡ (stepped answer new old).code) × (lent ≡ lent_after answer lent))
+  pub step_refused : {number : ℕ} (lent : List ℕ) → answer ≡ refused number
+      → (old ≡ (stepped answer new old).session)
+      × ((number ≡ (stepped answer new old).code) × (lent ≡ lent_after answer lent))
   unfolding stepped lent_after
-  step_refused number done lent (code, session) e = (rw e session, (rw e code, rw e))
+  step_refused lent e = (rw e, (rw e, rw e))
 
   pub step_full : (after : Session) (words lent list : List ℕ) → answer ≡ full words → after ≡ new
       → list ≡ lent_after (full words) lent
@@ -29,6 +27,11 @@ module _ (answer : Answer (List ℕ)) (new old : Session) where
       × ((0 ≡ (stepped answer new old).code) × (list ≡ lent_after answer lent))
   unfolding stepped
   step_full after words lent list e a l = (rw e a, (rw e, rw e l))
+
+-- the number of the row with which a `None` is refused
+pub none_code : {A : Type 0} {o : Option A} (row : Refusal) {refusal : Refusal} → Err refusal ≡ ok_or o row → o ≡ None
+    → row_number refusal ≡ row_number row
+none_code {A} {o} row e none = ap (code_of {A = A}) e ∙ ap (λ (o : Option A). code_of (ok_or o row)) none
 
 -- ---- the tests of the rows
 
@@ -38,25 +41,24 @@ pub count_told : (answers : ℕ) {count vectors : ℕ} {test : Bool} → count �
 count_told answers same told = ap (λ (n : ℕ). bad_response_count n answers) (sym same) ∙ sym told
 
 -- row 10, by the number of receivers that the record holds
-pub high_told : (answers : List ℕ) {net : Network} {receivers : ℕ} {owners : List ℕ} {test : Bool}
+pub width_told : (answers : List ℕ) {net : Network} {receivers : ℕ} {owners : List ℕ} {test : Bool}
     → HeldBoard net receivers owners → test ≡ has_high_bit receivers answers
     → has_high_bit (length (take receivers owners)) answers ≡ test
-high_told answers board told = ap (λ (width : ℕ). has_high_bit width answers) board.count ∙ sym told
+width_told answers board told = ap (λ (width : ℕ). has_high_bit width answers) board.count ∙ sym told
 
 -- row 12, by a number that equals that of the vectors
 pub room_told : (room : ℕ) {count vectors : ℕ} {test : Bool} → count ≡ vectors → test ≡ no_room count room
     → no_room vectors room ≡ test
 room_told room same told = ap (λ (n : ℕ). no_room n room) (sym same) ∙ sym told
 
--- ---- the vectors of step two, as the call that computes them gives them
+-- what depends on the nets, the receivers and a list that a record holds
+pub same_for : {A : Type 0} (f : Network → List ℕ → List ℕ → A) {net net' : Network} {owners owners' list list' : List ℕ}
+    → net ≡ net' → owners ≡ owners' → list ≡ list' → f net owners list ≡ f net' owners' list'
+same_for f {net} {net'} {owners} {owners'} {list} a b c =
+    ap₂ (λ (n : Network) (o : List ℕ). f n o list) a b ∙ ap (f net' owners') c
 
-abbrev pub GivesVectors : (vectors : List ℕ) → SecondVectors → Type 0
-GivesVectors vectors second =
-    (length second.words ≡ 49) × (second.count ≤ 49) × (take second.count second.words ≡ vectors)
-
-module _ (vectors : List ℕ) (second : SecondVectors) (given : GivesVectors vectors second) where
-  pub lent_size : second.count ≡ length (take second.count second.words)
-  lent_size = sym (length-take-le second.count second.words (omega (arith, given.0, given.1)))
-
-  pub vectors_size : second.count ≡ length vectors
-  vectors_size = lent_size ∙ ap length given.2
+-- the vectors of step two that a record asks for
+pub asked_told : (session : Session) (asked : Asked) → asked.board.nets.network ≡ session.network
+    → asked.board.receivers.now ≡ held_owners session → asked.first.now ≡ held_answers session
+    → asked.vectors.items ≡ second_vectors session.network (held_owners session) (held_answers session)
+asked_told session asked a b c = asked.asked ∙ same_for second_vectors a b c

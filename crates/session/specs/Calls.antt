@@ -1,15 +1,31 @@
 -- The three calls on a session: the answer, with the words written to the lent list, and the record after the call.
-use Rattle.std.specs.Prelude.{ℕ, not, List, [], ◌∷◌, ◌++◌, length}
+use Rattle.std.specs.Prelude.{ℕ, not, Result, Ok, Err, List, [], ◌∷◌, ◌++◌, length}
 use Rattle.words.specs.Answers.{Answer, refused, full, by_tests}
 use Rattle.network.specs.declared.Network.{Network}
+use Rattle.network.specs.declared.refusal.Refusal.{Refusal}
+use Rattle.network.specs.Refusing.{row_number}
 use Rattle.network.specs.Rows.{board_tests, bad_response_count, has_high_bit, no_room}
 use Rattle.diagnosis.specs.ReadBack.{read_back, no_state_fits}
 use Rattle.steps.specs.FirstStep.{first_vectors}
 use Rattle.steps.specs.SecondStep.{unclear, second_vectors, session_vectors, fault_free_state}
 use Rattle.session.specs.declared.Session.{Session}
-use Rattle.session.specs.declared.Stepped.{Stepped}
 use Rattle.session.specs.Record.{awaiting_first, awaiting_second, finished, held_owners, held_answers}
 use Rattle.session.specs.Record.{awaits_first, awaits_second}
+
+-- what a call on a session does: 0 if it is accepted, or the refusal's number; and the record after it
+pub record Stepped : Type 0 where
+  pub code : ℕ
+  pub session : Session
+
+-- that number of what the code answers
+abbrev pub code_of : {A : Type 0} → Result A Refusal → ℕ
+code_of (Ok x) = 0
+code_of (Err refusal) = row_number refusal
+
+-- the record after a step by value: the new one, or after a refusal the one that was given
+abbrev pub after_step : Result Session Refusal → Session → Session
+after_step (Ok new) old = new
+after_step (Err refusal) old = old
 
 -- document 01's number for an answer, and 0 if the call is accepted; the record as it was after a refusal, else the new
 -- one

@@ -2,7 +2,7 @@
 ghost use Rattle.std.specs.Prelude.{◌≡◌};
 ghost use Rattle.session.specs.Drive.{front, to_drive};
 
-use crate::Session;
+use crate::{Session, record};
 
 // This many words from the start of a list, or none if it is shorter.
 fn front(count: usize, words: &[u64]) -> &[u64]
@@ -18,15 +18,12 @@ fn front(count: usize, words: &[u64]) -> &[u64]
 pub fn to_drive<'a>(session: Session, first: &'a [u64], second: &'a [u64]) -> &'a [u64]
     ensures { result.now ≡ to_drive session first.now second.now }
 {
-    if crate::record::awaits_first(session) {
-        let p = steps::first::word_length(session.network) as usize;
+    if let Some(board) = record::waiting_for_first(&session) {
+        let p = steps::first::word_length(board.nets) as usize;
         return front(p, first);
     }
-    if crate::record::awaits_second(session) {
-        let m = session.receivers as usize;
-        let owners = session.owners;
-        let count = crate::record::second_count(session.network, &owners[..m], &session.first);
-        return front(count, second);
+    if let Some(asked) = record::waiting_for_second(&session) {
+        return front(asked.vectors.len(), second);
     }
     &first[..0]
 }

@@ -1,104 +1,104 @@
-// How a record that waits for answers is told. Those that need the nets admitted by row 5, at most 64 receivers, and
-// arrays of the record's sizes are helpers of this crate.
-ghost use Rattle.std.specs.Prelude.{◌≡◌, ◌≤◌, length, take};
+// How a record that waits for answers is told, and what it then holds.
+ghost use Rattle.std.specs.Prelude.{◌≡◌, true, false, ◌&&◌, eqb, length, MatchOption};
+ghost use Rattle.network.specs.Rows.{HighBit};
 ghost use Rattle.steps.specs.FirstStep.{word_length};
 ghost use Rattle.steps.specs.SecondStep.{second_vectors};
-ghost use Rattle.session.specs.Record.{is_zeros, board_held, first_answers_held, awaits_first};
-ghost use Rattle.session.specs.Record.{awaits_second};
+ghost use Rattle.session.specs.Record.{is_zeros, board_held, held_owners, held_answers, awaits_first, awaits_second};
 
-use crate::Session;
-use network::Network;
+use crate::{FIRST, SECOND, Session};
+use arrayvec::ArrayVec;
+use network::admitting::{Board, admit_board};
+
+// What a record that waits for second answers holds: its board, first answers that leave a net unclear, and the vectors
+// of step two, which they ask for.
+#[derive(Drop)]
+pub struct Asked<'a> {
+    pub board: Board<'a>,
+    pub first: &'a [u64],
+    pub vectors: ArrayVec<u64, 49>,
+    ghost one_a_word: { length first.now ≡ word_length board.nets.network },
+    ghost narrow: { HighBit (length board.receivers.now) first.now → ⊥ },
+    ghost asked: { vectors.items ≡ second_vectors board.nets.network board.receivers.now first.now },
+}
 
 // Whether all words are 0.
 fn is_zeros(words: &[u64]) -> bool
     ensures { result ≡ is_zeros (length words.now) words.now }
 {
-    let mut i: usize = 0;
-    while i < words.len() {
-        if words[i] != 0 {
-            return false;
-        }
-        i += 1;
-    }
-    true
+    words.iter().all(|&word| word == 0)
 }
 
-// The number of vectors of step two, by the first answers that an array begins with.
-pub fn second_count(net: Network, receivers: &[u64], first: &[u64]) -> usize
-    requires { (2 ≤ net.nets) × (net.nets ≤ 48) × (length receivers.now ≤ 64) × (length first.now ≡ 8) }
-    ensures { result
-        ≡ length (second_vectors net receivers.now (take (word_length net) first.now)) }
+// The board that a record holds, and zeros after it, if it is one that begin takes.
+fn held_board(session: &Session) -> Option<Board>
+    ensures { MatchOption result (board_held session.now.network session.now.receivers session.now.owners ≡ false)
+        (λ board. (board_held session.now.network session.now.receivers session.now.owners ≡ true)
+        × (board.nets.network ≡ session.now.network) × (board.receivers.now ≡ held_owners session.now)) }
 {
-    let p = steps::first::word_length(net) as usize;
-    steps::second::second_vectors(net, receivers, &first[..p]).count
-}
-
-// Whether the words are first answers that leave a net unclear, and then zeros.
-fn holds_first_answers(net: Network, receivers: &[u64], first: &[u64]) -> bool
-    requires { (2 ≤ net.nets) × (net.nets ≤ 48) × (length receivers.now ≤ 64) × (length first.now ≡ 8) }
-    ensures { result ≡ first_answers_held net receivers.now first.now }
-{
-    let p = steps::first::word_length(net) as usize;
-    if !is_zeros(&first[p..]) {
-        return false;
-    }
-    if network::refusals::has_high_bit(receivers.len() as u64, &first[..p]) {
-        return false;
-    }
-    second_count(net, receivers, first) != 0
-}
-
-// Whether the words are the receivers of a board that begin takes, and then zeros.
-fn holds_board(net: Network, receivers: u64, owners: &[u64]) -> bool
-    requires { length owners.now ≡ 64 }
-    ensures { result ≡ board_held net receivers owners.now }
-{
-    if 64 < receivers {
-        return false;
-    }
-    let m = receivers as usize;
-    if !is_zeros(&owners[m..]) {
-        return false;
-    }
-    network::refusals::board_refusal(net, &owners[..m]) == 0
-}
-
-// Whether accepted calls leave this record, and it waits for first answers.
-pub fn awaits_first(session: Session) -> bool
-    ensures { result ≡ awaits_first session }
-{
-    if session.step != 1 {
-        return false;
-    }
-    if !holds_board(session.network, session.receivers, &session.owners) {
-        return false;
-    }
-    if !is_zeros(&session.first) {
-        return false;
-    }
-    if !is_zeros(&session.reaches) {
-        return false;
-    }
-    session.spent == 0
-}
-
-// Whether accepted calls leave this record, and it waits for second answers.
-pub fn awaits_second(session: Session) -> bool
-    ensures { result ≡ awaits_second session }
-{
-    if session.step != 2 {
-        return false;
-    }
-    if !holds_board(session.network, session.receivers, &session.owners) {
-        return false;
+    if 64 < session.receivers {
+        return None;
     }
     let m = session.receivers as usize;
-    let owners = session.owners;
-    if !holds_first_answers(session.network, &owners[..m], &session.first) {
-        return false;
+    if !is_zeros(&session.owners[m..]) {
+        return None;
     }
-    if !is_zeros(&session.reaches) {
-        return false;
+    admit_board(session.network, &session.owners[..m]).ok()
+}
+
+// Whether the step and what it does not use are those of a record that waits for first answers.
+fn is_at_first(session: &Session) -> bool
+    ensures { result ≡ eqb session.now.step 1 && (is_zeros 8 session.now.first
+        && (is_zeros 64 session.now.reaches && eqb session.now.spent 0)) }
+{
+    session.step == FIRST
+        && is_zeros(&session.first)
+        && is_zeros(&session.reaches)
+        && session.spent == 0
+}
+
+// Whether the step and what it does not use are those of a record that waits for second answers.
+fn is_at_second(session: &Session) -> bool
+    ensures { result ≡ eqb session.now.step 2 && (is_zeros 64 session.now.reaches && eqb session.now.spent 0) }
+{
+    session.step == SECOND && is_zeros(&session.reaches) && session.spent == 0
+}
+
+// The board of a record that accepted calls leave and that waits for first answers; none if it is no such record.
+pub fn waiting_for_first(session: &Session) -> Option<Board>
+    ensures { MatchOption result (awaits_first session.now ≡ false)
+        (λ board. (awaits_first session.now ≡ true)
+        × (board.nets.network ≡ session.now.network) × (board.receivers.now ≡ held_owners session.now)) }
+{
+    if !is_at_first(session) {
+        return None;
     }
-    session.spent == 0
+    held_board(session)
+}
+
+// What a record holds that accepted calls leave and that waits for second answers; none if it is no such record.
+pub fn waiting_for_second(session: &Session) -> Option<Asked>
+    ensures { MatchOption result (awaits_second session.now ≡ false)
+        (λ asked. (awaits_second session.now ≡ true) × (asked.board.nets.network ≡ session.now.network)
+        × (asked.board.receivers.now ≡ held_owners session.now) × (asked.first.now ≡ held_answers session.now)) }
+{
+    if !is_at_second(session) {
+        return None;
+    }
+    let board = held_board(session)?;
+    let p = steps::first::word_length(board.nets) as usize;
+    let first = &session.first[..p];
+    if !is_zeros(&session.first[p..]) {
+        return None;
+    }
+    if network::refusals::has_high_bit(session.receivers, first) {
+        return None;
+    }
+    let vectors = steps::second::second_vectors(board, first);
+    if vectors.is_empty() {
+        return None;
+    }
+    Some(Asked {
+        board,
+        first,
+        vectors,
+    })
 }

@@ -1,19 +1,12 @@
 -- The floor: every set that tells the driver sets of a class apart has at least so many vectors.
-use mathlib.Core.Path.{◌≡◌, sym, ap, ◌∙◌, subst}
-use mathlib.Core.Bool.{Bool}
-use mathlib.Core.List.{List}
-use Prim.Native.Nat.{ℕ, suc, ◌^◌, ◌≤◌, ◌<◌, zero-le}
-use native.Mathlib.Omega.{arith}
+use Rattle.std.proofs.Common.{◌≡◌, sym, ap, ◌∙◌, subst, Bool, List, ℕ, suc, ◌^◌, ◌≤◌, ◌<◌, zero-le, arith, leb}
+use Rattle.std.proofs.Common.{length, pow_mono, leb-true, le-leb}
 use lib.Count.{ones}
-use lib.Dec.{leb}
-use lib.ListN.{length}
-use lib.Pow.{pow_mono}
-use borrow.Author.Tests.{leb-true, le-leb}
 use Rattle.words.specs.Bits.{at}
 use Rattle.words.specs.Counting.{class_size}
 use Rattle.words.specs.Searching.{least, or_zero, sets_of_class}
-use Rattle.words.specs.declared.Search.{Search}
-use Rattle.words.specs.declared.Search.TheVariants.{Found, Missing}
+use Rattle.std.specs.Prelude.{Option}
+use Rattle.std.specs.Prelude.{Some, None}
 use Rattle.words.proofs.Tests.{contrary, not_less}
 use Rattle.words.proofs.Searching.{Least, first, nowhere, least_below}
 use Rattle.words.proofs.Passing.{count_most, entry_is}
@@ -45,13 +38,13 @@ module _ (net : Network) (k : ℕ) where
       enough_at : ℕ → Bool
       enough_at q = leb (class_size net.nets k) (2 ^ q)
 
-      go : (s : Search) → Least enough_at 0 (suc net.nets) s → Floor net k (or_zero s)
-      go (Found q) (first a b c none) = record {
+      go : (s : Option ℕ) → Least enough_at 0 (suc net.nets) s → Floor net k (or_zero s)
+      go (Some q) (first a b c none) = record {
         enough = rw (sets_counted net.nets k) (leb-true _ _ c);
         smallest = λ z l. not_less z q (λ less.
             contrary (le-leb _ _ (rw (sets_counted net.nets k) at l)) (none z zero-le less));
       }
-      go Missing (nowhere none) = contrary (le-leb _ _ sets_fit) (none net.nets zero-le (omega arith))
+      go None (nowhere none) = contrary (le-leb _ _ sets_fit) (none net.nets zero-le (omega arith))
 
   -- there is one floor
   pub floor_one : (q : ℕ) → Floor net k q → q ≡ floor net k

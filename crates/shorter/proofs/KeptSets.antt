@@ -1,8 +1,5 @@
 -- What is promised of the vectors kept of a passed set.
-use mathlib.Core.Path.{◌≡◌}
-use mathlib.Core.List.{List}
-use Prim.Native.Nat.{ℕ, ◌≤◌, ◌<◌, zero-le, min}
-use lib.ListN.{length}
+use Rattle.std.proofs.Common.{◌≡◌, List, ℕ, ◌≤◌, ◌<◌, zero-le, min, length}
 use Rattle.words.proofs.Tests.{contrary, test_passes}
 use Rattle.network.specs.declared.Network.{Network}
 use Rattle.network.proofs.Rows.{admitted_set}

@@ -1,12 +1,7 @@
 -- Lists without an entry, and entries in the order given.
-use mathlib.Core.Path.{◌≡◌, refl, sym, ap, ◌∙◌}
-use mathlib.Core.Logic.{inl, inr}
-use mathlib.Core.List.{List, [], ◌∷◌}
-use Prim.Native.Nat.{ℕ, zero, suc, ◌≤◌, ◌<◌, zero-le}
-use native.Mathlib.Nat.{not-suc-le-zero, le_of_suc-le-suc}
-use native.Mathlib.Omega.{arith}
-use lib.ListN.{length}
-use Rattle.words.specs.Bits.{at}
+use Rattle.std.proofs.Common.{◌≡◌, refl, sym, ap, ◌∙◌, inl, inr, List, [], ◌∷◌, ℕ, zero, suc, ◌≤◌, ◌<◌, zero-le}
+use Rattle.std.proofs.Common.{not-suc-le-zero, le_of_suc-le-suc, arith, length, get_or}
+use Rattle.std.specs.List.{insert, remove}
 use Rattle.checker.specs.Passed.{Within}
 use Rattle.shorter.specs.Shorter.{without, InOrder}
 
@@ -63,18 +58,16 @@ without_length i [] l = absurd (not-suc-le-zero l)
 without_length zero (x ∷ xs) l = refl
 without_length (suc i) (x ∷ xs) l = ap suc (without_length i xs (le_of_suc-le-suc l))
 
--- the entries of a list without one
-pub without_before : (i t : ℕ) (xs : List ℕ) → t < i → at (without i xs) t ≡ at xs t
+-- an entry taken out of a list, and put back
+pub remove_is_without : (i : ℕ) (xs : List ℕ) → remove xs i ≡ without i xs
 unfolding without
-without_before i t [] l = refl
-without_before zero t (x ∷ xs) l = absurd (not-suc-le-zero l)
-without_before (suc i) zero (x ∷ xs) l = refl
-without_before (suc i) (suc t) (x ∷ xs) l = without_before i t xs (le_of_suc-le-suc l)
+remove_is_without zero [] = refl
+remove_is_without (suc i) [] = refl
+remove_is_without zero (x ∷ xs) = refl
+remove_is_without (suc i) (x ∷ xs) = ap (λ (rest : List ℕ). x ∷ rest) (remove_is_without i xs)
 
-pub without_after : (i t : ℕ) (xs : List ℕ) → i ≤ t → at (without i xs) t ≡ at xs (suc t)
+pub put_back : (i : ℕ) (xs : List ℕ) (d : ℕ) → i < length xs → insert (without i xs) i (get_or xs i d) ≡ xs
 unfolding without
-without_after i zero [] l = refl
-without_after i (suc t) [] l = refl
-without_after zero t (x ∷ xs) l = refl
-without_after (suc i) zero (x ∷ xs) l = absurd (not-suc-le-zero l)
-without_after (suc i) (suc t) (x ∷ xs) l = without_after i t xs (le_of_suc-le-suc l)
+put_back i [] d l = absurd (not-suc-le-zero l)
+put_back zero (x ∷ xs) d l = refl
+put_back (suc i) (x ∷ xs) d l = ap (λ (rest : List ℕ). x ∷ rest) (put_back i xs d (le_of_suc-le-suc l))

@@ -1,11 +1,5 @@
 -- Parts of test sets: what a row admits of a set it admits of its parts, if they are not empty.
-use mathlib.Core.Path.{◌≡◌, sym, subst}
-use mathlib.Core.Bool.{true}
-use mathlib.Core.Logic.{⊎_elim}
-use mathlib.Core.List.{List}
-use Prim.Native.Nat.{ℕ, ◌^◌, ◌≤◌}
-use native.Mathlib.Omega.{arith}
-use lib.ListN.{length}
+use Rattle.std.proofs.Common.{◌≡◌, sym, subst, true, ⊎_elim, List, ℕ, ◌^◌, ◌≤◌, arith, length}
 use Rattle.words.specs.Answers.{NoneHolds}
 use Rattle.words.proofs.Tests.{test_passes}
 use Rattle.network.specs.declared.Network.{Network}

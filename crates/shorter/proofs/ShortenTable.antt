@@ -1,11 +1,6 @@
 -- The call *shorten* answers as its rows and the rule say, and nothing is left open.
-use mathlib.Core.Path.{◌≡◌, refl, sym, ap, ap₂, ◌∙◌}
-use mathlib.Core.Bool.{Bool, false, ◌||◌, true}
-use mathlib.Core.Logic.{inl, inr}
-use mathlib.Core.List.{List, ◌∷◌, ◌++◌}
-use Prim.Native.Nat.{ℕ, ◌≤◌, ◌<◌}
-use lib.ListN.{length}
-use borrow.Author.Tests.{le-ltb, lt-ltb}
+use Rattle.std.proofs.Common.{◌≡◌, refl, sym, ap, ap₂, ◌∙◌, Bool, false, ◌||◌, true, inl, inr, List, ◌∷◌, ◌++◌, ℕ}
+use Rattle.std.proofs.Common.{◌≤◌, ◌<◌, length, le-ltb, lt-ltb}
 use Rattle.words.specs.Answers.{Answer, refused, full, ByTable, NoneHolds, Decided, by_tests, lent_after}
 use Rattle.words.proofs.Tests.{decides_less, decides_or, not_less, or_false, or_right}
 use Rattle.words.proofs.Answers.{decided_append, tests_by_table, table_determined, let_through, refused_not_full}

@@ -1,14 +1,8 @@
 -- What the trials leave, whatever the test of a set.
-use mathlib.Core.Path.{◌≡◌, refl, sym, ap, ◌∙◌, subst}
-use mathlib.Core.Bool.{Bool, true, false, cond, ◌&&◌}
-use mathlib.Core.Logic.{◌⊎◌, inl, inr, ⊎_elim}
-use mathlib.Core.List.{List}
-use Prim.Native.Nat.{ℕ, zero, suc, ◌+◌, ◌-◌, ◌≤◌, ◌<◌, min}
-use native.Mathlib.Nat.{not-suc-le-zero, le_of_suc-le-suc, eq-or-lt_of_le, le_refl, zero-min, min-zero, suc-min-suc}
-use native.Mathlib.Omega.{arith}
-use lib.Dec.{ltb}
-use lib.ListN.{length}
-use borrow.Author.Tests.{ltb-false}
+use Rattle.std.proofs.Common.{◌≡◌, refl, sym, ap, ◌∙◌, subst, Bool, true, false, cond, ◌&&◌, ◌⊎◌, inl, inr, ⊎_elim}
+use Rattle.std.proofs.Common.{List, ℕ, zero, suc, ◌+◌, ◌-◌, ◌≤◌, ◌<◌, min, not-suc-le-zero, le_of_suc-le-suc}
+use Rattle.std.proofs.Common.{eq-or-lt_of_le, le_refl, arith, ltb, length, ltb-false}
+use native.Mathlib.Nat.{zero-min, min-zero, suc-min-suc}
 use Rattle.words.proofs.Tests.{cases, contrary}
 use Rattle.shorter.specs.Shorter.{without, InOrder, Trials, one_check, trials}
 use Rattle.shorter.proofs.Ordered.{in_order_same, in_order_both, without_in_order, without_swap, without_length}

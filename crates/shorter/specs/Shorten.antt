@@ -6,8 +6,6 @@ use Rattle.network.specs.Rows.{Row5, Row6, Row12, ClassRows, VectorRows, bad_net
 use Rattle.network.specs.Rows.{class_tests, vector_tests}
 use Rattle.checker.specs.Passed.{Row13, passes}
 use Rattle.shorter.specs.declared.Shortened.{Shortened}
-use Rattle.shorter.specs.declared.Shortening.{Shortening}
-use Rattle.shorter.specs.declared.Shortening.TheVariants.{Kept, Refused}
 use Rattle.shorter.specs.Shorter.{tried, Floor, floor}
 
 -- ---- the rows
@@ -74,8 +72,3 @@ abbrev pub counted : Answer Shorter → Answer Shortened
 counted (refused number) = refused number
 counted (full result) =
     full (record { kept = length result.kept; checks = result.checks; floor = result.floor })
-
--- document 02's number and values for each case of the answer
-abbrev pub meaning : Shortening → Answer Shortened
-meaning (Kept counts) = full counts
-meaning (Refused number) = refused number

@@ -1,83 +1,58 @@
-// Vectors dropped from a set, one after the other. Helpers: a list has at most 64 words, a set that is checked is one
-// that its rows admit, and one of which vectors are dropped is passed.
-ghost use Rattle.std.specs.Prelude.{◌≡◌, ◌-◌, ◌<◌, ◌≤◌, length, take};
-ghost use Rattle.words.specs.Bits.{at};
-ghost use Rattle.words.specs.Answers.{NoneHolds};
-ghost use Rattle.network.specs.Rows.{SetRows};
-ghost use Rattle.checker.specs.Passed.{Passed, passes};
-ghost use Rattle.shorter.specs.Shorter.{without, tried};
+// Vectors dropped from a passed set, one after the other.
+ghost use Rattle.std.specs.Prelude.{◌≡◌, ◌≤◌, length};
+ghost use Rattle.shorter.specs.Shorter.{tried};
 
-use checker::Verdict;
-use network::Network;
+use arrayvec::ArrayVec;
+use checker::PassedSet;
+use network::admitting::TestSet;
 
-// What is left of a set: the vectors kept, how many they are, and the checks made.
-#[derive(Clone, Copy)]
+// What is left of a set: the vectors kept, and the checks made.
+#[derive(Drop)]
 pub struct Left {
-    pub words: [u64; 64],
-    pub count: usize,
+    pub vectors: ArrayVec<u64, 64>,
     pub checks: u64,
 }
 
-// Entry t of a list without its entry i.
-fn entry_without(i: usize, words: &[u64], t: usize) -> u64
-    requires { (i < length words.now) × (t < length words.now - 1) }
-    ensures { result ≡ at (without i words.now) t }
+// The words as a list of its own.
+fn list_of(words: &[u64]) -> ArrayVec<u64, 64>
+    requires { length words.now ≤ 64 }
+    ensures { result.items ≡ words.now }
 {
-    if t < i { words[t] } else { words[t + 1] }
-}
-
-// A list without its entry i.
-fn without(i: usize, words: &[u64]) -> [u64; 64]
-    requires { (i < length words.now) × (length words.now ≤ 64) }
-    ensures { (length result ≡ 64) × (take (length words.now - 1) result ≡ without i words.now) }
-{
-    let count = words.len() - 1;
-    let mut less = [0u64; 64];
-    let mut t: usize = 0;
-    while t < count {
-        less[t] = entry_without(i, words, t);
-        t += 1;
+    let mut list = ArrayVec::new();
+    for &word in words {
+        list.push(word);
     }
-    less
+    list
 }
 
-// Whether a set is passed: one check.
-pub fn passes(net: Network, class: u64, vectors: &[u64]) -> bool
-    requires { NoneHolds (SetRows net class vectors.now) }
-    ensures { result ≡ passes net class vectors.now }
+// The trials from the last vector to the first, as long as checks are left: a vector is taken out, and put back where
+// the others do not pass. A set that is passed has two vectors or more, so no trial is on an empty one.
+pub fn drop_vectors(passed: PassedSet, allowed: u64) -> Left
+    ensures kept { result.vectors.items
+        ≡ (tried passed.entry.set.nets.network passed.entry.set.class passed.entry.set.vectors.now allowed).kept }
+    ensures checks { result.checks
+        ≡ (tried passed.entry.set.nets.network passed.entry.set.class passed.entry.set.vectors.now allowed).checks }
 {
-    match checker::verdict_of(net, class, vectors) {
-        Verdict::Pass => true,
-        Verdict::Pair(_, _) => false,
-    }
-}
-
-// The trials from the last vector to the first, as long as checks are left. A set that is passed has two vectors or
-// more, so no trial is on an empty one.
-pub fn drop_vectors(net: Network, class: u64, vectors: &[u64], allowed: u64) -> Left
-    requires { Passed net class vectors.now }
-    ensures { (length result.words ≡ 64) × (result.count ≤ 64)
-        × (take result.count result.words ≡ (tried net class vectors.now allowed).kept)
-        × (result.checks ≡ (tried net class vectors.now allowed).checks) }
-{
-    let mut kept = [0u64; 64];
-    words::lists::copy_words(vectors, &mut kept);
-    let mut count = vectors.len();
-    let mut t = count;
+    let set = passed.set;
+    let mut kept = list_of(set.vectors);
+    let mut t = kept.len();
     let mut left = allowed;
+    // A `while`: it runs down on two counters, until either is used up.
     while (0 < t) & (0 < left) {
         t -= 1;
         left -= 1;
-        let less = without(t, &kept[..count]);
-        let fewer = count - 1;
-        if passes(net, class, &less[..fewer]) {
-            kept = less;
-            count = fewer;
+        let vector = kept.remove(t);
+        let others = TestSet {
+            nets: set.nets,
+            class: set.class,
+            vectors: kept.as_slice(),
+        };
+        if checker::passed(others).is_err() {
+            kept.insert(t, vector);
         }
     }
     Left {
-        words: kept,
-        count: count,
+        vectors: kept,
         checks: allowed - left,
     }
 }

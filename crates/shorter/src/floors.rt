@@ -1,9 +1,9 @@
-// The floor. Helpers: the nets are those that row 5 admits, and k is 1, 2 or 3.
+// The floor. Helpers: k is 1, 2 or 3.
 ghost use Rattle.std.specs.Prelude.{◌≡◌, ◌<◌, ◌≤◌};
 ghost use Rattle.words.specs.Counting.{class_size};
 ghost use Rattle.shorter.specs.Shorter.{floor};
 
-use network::Network;
+use network::admitting::Nets;
 
 // How many sets of at most k drivers there are; `one`, `two` and `three` are those of at most 1, 2 and 3 of the first i
 // drivers. With a driver more, there are those without it, and those with it, which have at most k - 1 of the others.
@@ -14,31 +14,29 @@ fn number_of_sets(nets: u64, class: u64) -> u64
     let mut one: u64 = 1;
     let mut two: u64 = 1;
     let mut three: u64 = 1;
-    let mut i: u64 = 0;
-    while i < nets {
+    for _i in 0..nets {
         three += two;
         two += one;
         one += 1;
-        i += 1;
     }
-    if class == 1 {
-        return one;
+    match class {
+        1 => one,
+        2 => two,
+        _ => three,
     }
-    if class == 2 {
-        return two;
-    }
-    three
 }
 
-// The smallest q with 2^q at least that number.
-pub fn floor(net: Network, class: u64) -> u64
-    requires { (net.nets ≤ 48) × (0 < class) × (class ≤ 3) }
-    ensures { result ≡ floor net class }
+// The smallest q with 2^q at least that number; 2^n is.
+pub fn floor(nets: Nets, class: u64) -> u64
+    requires { (0 < class) × (class ≤ 3) }
+    ensures { result ≡ floor nets.network class }
 {
-    let count = number_of_sets(net.nets, class);
-    let mut q: u64 = 0;
-    while words::sets::bit_word(q) < count {
-        q += 1;
+    let n = nets.network.nets;
+    let count = number_of_sets(n, class);
+    for q in 0..n {
+        if count <= words::sets::bit_word(q) {
+            return q;
+        }
     }
-    q
+    n
 }

@@ -1,16 +1,12 @@
 -- The two steps together: at most one state fits the answers to both, and it is the one that is read back.
-use mathlib.Core.Path.{◌≡◌, refl, sym, ap, ap₂, ◌∙◌, subst}
-use mathlib.Core.Bool.{Bool, true, false, not, cond}
-use mathlib.Core.Logic.{⊎_elim, ◌≢◌}
-use mathlib.Core.List.{List, [], ◌∷◌, ◌++◌, map, map-append}
-use Prim.Native.Nat.{ℕ, ◌+◌, ◌-◌, ◌^◌, ◌≤◌, ◌<◌, zero-le}
-use native.Mathlib.Nat.{not-suc-le-zero}
-use native.Mathlib.Omega.{arith}
-use lib.Dec.{eqb}
+use Rattle.std.proofs.Common.{◌≡◌, refl, sym, ap, ap₂, ◌∙◌, subst, Bool, true, false, not, cond, ⊎_elim, ◌≢◌, List}
+use Rattle.std.proofs.Common.{[], ◌∷◌, ◌++◌, map, ℕ, ◌+◌, ◌-◌, ◌^◌, ◌≤◌, ◌<◌, zero-le, not-suc-le-zero, arith, eqb}
+use Rattle.std.proofs.Common.{length, take, drop, length-append, ext_get_or, get_or-append-add, take_at, drop_at}
+use Rattle.std.proofs.Common.{eq-eqb, ne_eqb, eqb-true}
+use mathlib.Core.List.{map-append}
 use lib.Pow.{pow-lt}
-use lib.ListN.{length, take, drop, length-append, length-map, get_or-append}
-use lib.Seq.{ext_get_or, get_or-append-add, take_at, drop_at}
-use borrow.Author.Tests.{eq-eqb, ne_eqb, eqb-true, eqb-false, not-true}
+use lib.ListN.{length-map, get_or-append}
+use borrow.Author.Tests.{eqb-false, not-true}
 use Rattle.words.specs.Answers.{Decides}
 use Rattle.words.specs.Bits.{has, at}
 use Rattle.words.specs.Searching.{passing, any}

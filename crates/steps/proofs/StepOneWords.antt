@@ -1,24 +1,18 @@
 -- The sequential words of step one: how long they are, that there are enough, and that none covers another. Computed
 -- tests on the balanced words of p bits for p from 2 to 8, and on which p each n from 2 to 48 takes.
-use mathlib.Core.Path.{◌≡◌, refl, sym, ap, ◌∙◌}
-use mathlib.Core.Bool.{Bool, true, false, not, ◌&&◌}
-use mathlib.Core.Logic.{inl, inr, ⊎_elim, ◌≢◌}
-use mathlib.Core.List.{List, [], ◌∷◌}
-use Prim.Native.Nat.{ℕ, zero, suc, ◌+◌, ◌-◌, ◌/◌, ◌^◌, ◌<◌, ◌≤◌, zero-le}
-use native.Mathlib.Nat.{not-suc-le-zero}
-use native.Mathlib.Omega.{arith}
-use lib.Dec.{eqb, leb}
-use lib.ListN.{length}
-use lib.Seq.{get_or-take, length-take-le}
-use borrow.Author.Tests.{eqb-true, ne_eqb, leb-true, leb-false, not-true, not-false, eq-eqb}
-use Rattle.words.specs.declared.Search.{Search}
-use Rattle.words.specs.declared.Search.TheVariants.{Found, Missing}
+use Rattle.std.proofs.Common.{◌≡◌, refl, sym, ap, ◌∙◌, Bool, true, false, not, ◌&&◌, inl, inr, ⊎_elim, ◌≢◌, List, []}
+use Rattle.std.proofs.Common.{◌∷◌, ℕ, zero, suc, ◌+◌, ◌-◌, ◌/◌, ◌^◌, ◌<◌, ◌≤◌, zero-le, not-suc-le-zero, arith, eqb}
+use Rattle.std.proofs.Common.{leb, length, get_or-take, length-take-le, eqb-true, ne_eqb, leb-true, leb-false, eq-eqb}
+use borrow.Author.Tests.{not-true, not-false}
+use Rattle.std.specs.Prelude.{Option}
+use Rattle.std.specs.Prelude.{Some, None}
 use Rattle.words.specs.Bits.{has, at, ones_of}
 use Rattle.words.specs.Searching.{least, or_zero, any, passing}
 use Rattle.words.proofs.Tests.{and_left, and_right, less_or_not}
 use Rattle.words.proofs.Searching.{Least, first, nowhere, least_below, any_some, any_false}
 use Rattle.words.proofs.Passing.{Entry, entry_is, entry_of, larger_by_count}
-use Rattle.words.proofs.Columns.{transpose_size, transpose_below, transpose_bits}
+use Rattle.words.proofs.Columns.{transpose_size, transpose_at, transpose_below, transpose_bits}
+use Rattle.words.specs.Turning.{column}
 use Rattle.network.specs.declared.Network.{Network}
 use Rattle.network.specs.Reading.{network_of}
 use Rattle.steps.specs.FirstStep.{binomial, word_length, balanced_words, sequential_words, first_vectors}
@@ -61,20 +55,20 @@ none_outside : any 47 (λ m. length_outside (2 + m)) ≡ false
 unfolding open_steps length_outside
 none_outside = refl
 
--- C(p, p/2 rounded down) for p from 0 to 8
+-- C(p, p/2 rounded down) for p from 0 to 7
 abbrev pub central_numbers : List ℕ
-central_numbers = 1 ∷ 1 ∷ 2 ∷ 3 ∷ 6 ∷ 10 ∷ 20 ∷ 35 ∷ 70 ∷ []
+central_numbers = 1 ∷ 1 ∷ 2 ∷ 3 ∷ 6 ∷ 10 ∷ 20 ∷ 35 ∷ []
 
 wrong_central : ℕ → Bool
 wrong_central p = not (eqb (at central_numbers p) (binomial p (p / 2)))
 
-none_wrong_central : any 9 wrong_central ≡ false
+none_wrong_central : any 8 wrong_central ≡ false
 unfolding open_steps wrong_central
 none_wrong_central = refl
 
-central_is : (p : ℕ) → p ≤ 8 → at central_numbers p ≡ binomial p (p / 2)
+central_is : (p : ℕ) → p < 8 → at central_numbers p ≡ binomial p (p / 2)
 unfolding wrong_central
-central_is p l = eqb-true _ _ (not-false _ (any_false wrong_central 9 p (omega arith) none_wrong_central))
+central_is p l = eqb-true _ _ (not-false _ (any_false wrong_central 8 p l none_wrong_central))
 
 -- words of which none covers another, by the test: another has a 1 where one has a 0
 pub apart_by_test : (p : ℕ) (words : List ℕ) → some_covers p words ≡ false → (i j : ℕ) → i < length words → j < length words → i ≢ j
@@ -123,32 +117,31 @@ module _ (net : Network) (two : 2 ≤ net.nets) (most : net.nets ≤ 48) where
       fits : ℕ → Bool
       fits p = leb net.nets (binomial p (p / 2))
 
-      go : (s : Search) → Least fits 0 (suc net.nets) s → 2 ≤ or_zero s → WordLength net (or_zero s)
-      go (Found p) (first a b c g) l = record { enough = leb-true _ _ c; smallest = λ q m. leb-false _ _ (g q zero-le m) }
-      go Missing (nowhere g) l = absurd (not-suc-le-zero l)
+      go : (s : Option ℕ) → Least fits 0 (suc net.nets) s → 2 ≤ or_zero s → WordLength net (or_zero s)
+      go (Some p) (first a b c g) l = record { enough = leb-true _ _ c; smallest = λ q m. leb-false _ _ (g q zero-le m) }
+      go None (nowhere g) l = absurd (not-suc-le-zero l)
 
   pub enough_words : net.nets ≤ length (balanced_words (word_length net))
   enough_words = rw (balanced_count (word_length net) length_bounds.0 length_bounds.1) word_length_is.enough
 
-  -- a search upward for it: one more turn, and the end
-  module _ (p : ℕ) (up_to_lem : p ≤ word_length net) where
-    pub length_further : at central_numbers p < net.nets → p < word_length net
-    length_further l =
-        let here : p ≡ word_length net → ⊥ = λ e. let enough = rw (← e) at word_length_is.enough in
-        omega (arith, central_is p (omega (arith, length_bounds))) in
-        omega (arith, here)
+  -- a search upward for it: the first central number that is at least n, or the end
+  module _ (p : ℕ) (fewer : (q : ℕ) → q < p → at central_numbers q < net.nets) where
+    not_below : p ≤ 8 → word_length net < p → ⊥
+    not_below l m = omega (arith, fewer (word_length net) m, word_length_is.enough, central_is (word_length net) (omega arith))
 
-    pub length_reached : net.nets ≤ at central_numbers p → p ≡ word_length net
-    length_reached l =
-        let not_less : p < word_length net
-        → ⊥ = λ m. omega (arith, word_length_is.smallest p m, central_is p (omega (arith, length_bounds))) in
-        omega (arith, not_less)
+    pub length_reached : p < 8 → net.nets ≤ at central_numbers p → p ≡ word_length net
+    length_reached l enough =
+        let not_above : p < word_length net → ⊥ = λ m. omega (arith, word_length_is.smallest p m, central_is p l) in
+        omega (arith, not_above, not_below (omega arith))
+
+    pub length_last : p ≡ 8 → p ≡ word_length net
+    length_last e = omega (arith, length_bounds, not_below (omega arith))
 
   -- ---- the words themselves
 
-  size : length (sequential_words net) ≡ net.nets
+  pub words_size : length (sequential_words net) ≡ net.nets
   unfolding sequential_words
-  size = length-take-le net.nets (balanced_words (word_length net)) enough_words
+  words_size = length-take-le net.nets (balanced_words (word_length net)) enough_words
 
   word_at : (i : ℕ) → i < net.nets → at (sequential_words net) i ≡ at (balanced_words (word_length net)) i
   unfolding sequential_words
@@ -161,7 +154,7 @@ module _ (net : Network) (two : 2 ≤ net.nets) (most : net.nets ≤ 48) where
   pub words_are_smallest : SmallestWords net (word_length net) (sequential_words net)
   unfolding balanced_words
   words_are_smallest = record {
-    one_a_net = size;
+    one_a_net = words_size;
     below = λ i l. (word_is i l).below;
     half_ones = λ i l. eqb-true _ _ (word_is i l).passes;
     ascending = λ i j l m. larger_by_count (balanced net) _ _ (rw ((word_is i (omega arith)).index, (word_is j m).index) l);
@@ -174,7 +167,7 @@ module _ (net : Network) (two : 2 ≤ net.nets) (most : net.nets ≤ 48) where
 
   pub words_apart : WordsApart net
   words_apart = record {
-    size = size;
+    size = words_size;
     below = λ i l. (word_is i l).below;
     has_gap = λ i l. let o = another i in let r = apart_at i o.0 l o.1 (λ e. o.2 (sym e)) in (r.0, r.1, r.3);
     has_one = λ i l. let o = another i in let r = apart_at o.0 i o.1 l o.2 in (r.0, r.1, r.2);
@@ -198,6 +191,10 @@ pub first_size : (net : Network) → length (first_vectors net) ≡ word_length 
 unfolding first_vectors
 first_size net = transpose_size (word_length net) (sequential_words net)
 
+pub first_at : (net : Network) (t : ℕ) → t < word_length net → at (first_vectors net) t ≡ column (sequential_words net) t
+unfolding first_vectors
+first_at net t l = transpose_at (word_length net) (sequential_words net) t l
+
 pub first_has : (net : Network) (t i : ℕ) → t < word_length net → i < length (sequential_words net)
     → has (at (first_vectors net) t) i ≡ has (at (sequential_words net) i) t
 unfolding first_vectors
@@ -208,6 +205,6 @@ pub vectors_of_words : (net : Network) → 2 ≤ net.nets → net.nets ≤ 48
 unfolding first_vectors
 vectors_of_words net two most = record {
   one_a_bit = first_size net;
-  no_high_bit = λ t l. rw (size net two most) at (transpose_below (word_length net) (sequential_words net) t l);
-  bits = λ t i l m. first_has net t i l (rw (size net two most) m);
+  no_high_bit = λ t l. rw (words_size net two most) at (transpose_below (word_length net) (sequential_words net) t l);
+  bits = λ t i l m. first_has net t i l (rw (words_size net two most) m);
 }

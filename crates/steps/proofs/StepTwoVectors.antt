@@ -1,19 +1,12 @@
 -- The vectors of step two, as a loop over the nets makes them.
-use mathlib.Core.Path.{◌≡◌, refl, sym, ap, ap₂, ◌∙◌}
-use mathlib.Core.Bool.{Bool, true, false, not}
-use mathlib.Core.Logic.{◌≢◌}
-use mathlib.Core.List.{List, [], ◌∷◌, ◌++◌, map, append-nil, append_assoc}
-use Prim.Native.Nat.{ℕ, suc, ◌+◌, ◌≤◌, ◌<◌}
-use native.Mathlib.Numerals.{add-one}
-use native.Mathlib.Omega.{arith}
-use lib.Dec.{eqb}
-use lib.ListN.{length, take, set, length-set, length-append}
-use lib.Seq.{take-suc-set, length-take-le, get_or-take, ext_get_or}
-use borrow.Author.Tests.{ne_eqb}
+use Rattle.std.proofs.Common.{◌≡◌, ◌≢◌, refl, sym, ap, ◌∙◌, Bool, true, false, not, List, [], ◌∷◌, ◌++◌, map}
+use Rattle.std.proofs.Common.{append-nil, append_assoc, ℕ, suc, ◌+◌, ◌≤◌, ◌<◌, length, take, arith, add-one}
+use Rattle.std.proofs.Common.{length-append, eqb, length-take-le, get_or-take, ext_get_or, ne_eqb}
+use Rattle.std.proofs.lemmas.List.{length-map}
 use Rattle.words.specs.Bits.{at}
 use Rattle.words.specs.Searching.{passing}
-use Rattle.words.specs.Turning.{column, transpose}
-use Rattle.words.proofs.Passing.{passing_yes, passing_no, count_passed}
+use Rattle.words.specs.Turning.{column, transpose, Columns}
+use Rattle.words.proofs.Passing.{passing_yes, passing_no, count_most}
 use Rattle.words.proofs.Making.{map_snoc}
 use Rattle.words.proofs.Columns.{transpose_size, transpose_at}
 use Rattle.network.specs.declared.Network.{Network}
@@ -46,75 +39,55 @@ columns_are n columns answers l h =
     ext_get_or 0 (take n columns) (transpose n answers) (size ∙ sym (transpose_size n answers))
     (λ i m. let k : i < n = rw size at m in get_or-take n columns i 0 k ∙ h i k ∙ sym (transpose_at n answers i k))
 
+-- the test of the words returned tells whether a net is clear
+pub clear_test : (net : Network) (owners words columns answers : List ℕ) (i : ℕ) → words ≡ sequential_words net
+    → length owners ≤ length columns
+    → Columns (length owners) answers columns
+    → only_from (at words i) (take (length owners) columns) owners i ≡ is_clear net owners answers i
+unfolding is_clear
+clear_test net owners words columns answers i same room h = rw (same, columns_are (length owners) columns answers room h)
+
 -- ---- net by net
 
--- the nets below i whose word their own receivers, all of them and no other, did not return
-abbrev pub unclear_below : (words returned owners : List ℕ) → ℕ → List ℕ
-unclear_below words returned owners i = passing (λ z. not (only_from (at words z) returned owners z)) i
+module _ (net : Network) (owners answers : List ℕ) where
+  is_unclear : ℕ → Bool
+  is_unclear i = not (is_clear net owners answers i)
 
--- what the loop has written before net i
-pub record Listed (net : Network) (words returned owners vectors : List ℕ) (count i : ℕ) : Type 0 where
-  pub size : length vectors ≡ 49
-  pub few : count ≤ i + 1
-  pub number : count ≡ length (unclear_below words returned owners i) + length (extra_vectors net)
-  pub front : take count vectors ≡ extra_vectors net ++ map (walking_vector net) (unclear_below words returned owners i)
+  -- the extra vector, if there is one, then the walking vectors of the unclear nets below i
+  pub listed : ℕ → List ℕ
+  listed i = extra_vectors net ++ map (walking_vector net) (passing is_unclear i)
 
-module _ (net : Network) (words returned owners : List ℕ) where
-  pub listed_start : (vectors : List ℕ) (count : ℕ) → length vectors ≡ 49 → count ≡ length (extra_vectors net)
-      → take count vectors ≡ extra_vectors net → Listed net words returned owners vectors count 0
-  unfolding passing
-  listed_start vectors count size e front = record {
-    size = size;
-    few = omega (arith, e, extra_most net);
-    number = e ∙ omega arith;
-    front = front ∙ sym (append-nil (extra_vectors net));
-  }
+  listed_size : (i : ℕ) → length (listed i) ≡ length (extra_vectors net) + length (passing is_unclear i)
+  unfolding listed
+  listed_size i =
+      length-append (extra_vectors net) (map (walking_vector net) (passing is_unclear i))
+      ∙ ap (λ (n : ℕ). length (extra_vectors net) + n) (length-map (passing is_unclear i) (walking_vector net))
+
+  pub listed_few : (i : ℕ) → length (listed i) ≤ i + 1
+  listed_few i = omega (arith, listed_size i, extra_most net, count_most is_unclear i)
+
+  pub listed_start : extra_vectors net ≡ listed 0
+  unfolding listed passing
+  listed_start = sym (append-nil (extra_vectors net))
 
   -- a net that is unclear, a net that is clear, and the end
-  module _ (vectors : List ℕ) (count i : ℕ) (s : Listed net words returned owners vectors count i) where
-    pub listed_more : (x : ℕ) → i < 48 → only_from (at words i) returned owners i ≡ false → x ≡ walking_vector net i
-        → Listed net words returned owners (set vectors count x) (count + 1) (i + 1)
-    listed_more x l e w = rw (add-one i, add-one count) record {
-      size = length-set vectors count x ∙ s.size;
-      few = omega (arith, s.few);
-      number = omega (arith, s.number, count_passed p i unsure);
-      front =
-          take-suc-set vectors count x (omega (arith, s.few, s.size))
-          ∙ ap₂ (λ (ys : List ℕ) (y : ℕ). ys ++ y ∷ []) s.front w
-          ∙ append_assoc (extra_vectors net) (map (walking_vector net) (passing p i)) (walking_vector net i ∷ [])
-          ∙ ap (λ (ys : List ℕ). extra_vectors net ++ ys) (sym (map_snoc (walking_vector net) (passing p i) i))
-          ∙ ap (λ (nets : List ℕ). extra_vectors net ++ map (walking_vector net) nets) (sym (passing_yes p i unsure));
-    }
-      where
-        p : ℕ → Bool
-        p z = not (only_from (at words z) returned owners z)
+  pub listed_more : (i : ℕ) → is_clear net owners answers i ≡ false → listed i ++ walking_vector net i ∷ [] ≡ listed (i + 1)
+  unfolding listed is_unclear
+  listed_more i e = rw (add-one i)
+      (append_assoc (extra_vectors net) (map (walking_vector net) (passing is_unclear i)) (walking_vector net i ∷ [])
+      ∙ ap (λ (ys : List ℕ). extra_vectors net ++ ys) (sym (map_snoc (walking_vector net) (passing is_unclear i) i))
+      ∙ ap (λ (nets : List ℕ). extra_vectors net ++ map (walking_vector net) nets)
+      (sym (passing_yes is_unclear i (ap not e))))
 
-        unsure : p i ≡ true
-        unsure = ap not e
+  pub listed_same : (i : ℕ) → is_clear net owners answers i ≡ true → listed i ≡ listed (i + 1)
+  unfolding listed is_unclear
+  listed_same i e = rw (add-one i, passing_no is_unclear i (ap not e))
 
-    pub listed_same : only_from (at words i) returned owners i ≡ true
-        → Listed net words returned owners vectors count (i + 1)
-    listed_same e =
-        let same : unclear_below words returned owners (i + 1) ≡ unclear_below words returned owners i =
-        rw (add-one i) (passing_no (λ z. not (only_from (at words z) returned owners z)) i (ap not e)) in
-        record {
-          size = s.size;
-          few = omega (arith, s.few);
-          number = rw same s.number;
-          front = rw same s.front;
-        }
+  pub listed_none : length (listed net.nets) ≡ length (extra_vectors net) → [] ≡ second_vectors net owners answers
+  unfolding unclear is_unclear
+  listed_none e = sym (second_none net owners answers (omega (arith, e, listed_size net.nets)))
 
-    module _ (answers : List ℕ) (e : words ≡ sequential_words net) (f : returned ≡ transpose (length owners) answers)
-        (g : i ≡ net.nets) where
-      all_nets : unclear_below words returned owners i ≡ unclear net owners answers
-      unfolding unclear is_clear
-      all_nets = rw (e, f, g)
-
-      pub listed_none : count ≡ length (extra_vectors net) → [] ≡ second_vectors net owners answers
-      listed_none h = sym (second_none net owners answers (omega (arith, s.number, ap length all_nets)))
-
-      pub listed_some : count ≢ length (extra_vectors net) → take count vectors ≡ second_vectors net owners answers
-      unfolding second_vectors
-      listed_some h = s.front
-          ∙ rw (← all_nets) (sym (settling_is net (unclear_below words returned owners i)
-          (λ z. h (s.number ∙ omega (arith, z)))))
+  pub listed_some : length (listed net.nets) ≢ length (extra_vectors net) → listed net.nets ≡ second_vectors net owners answers
+  unfolding listed second_vectors unclear is_unclear
+  listed_some d =
+      sym (settling_is net (unclear net owners answers) (λ e. d (listed_size net.nets ∙ omega (arith, e))))

@@ -1,9 +1,5 @@
 -- What the proofs need of the sequential words of step one: each has a 0 and a 1, and none covers another.
-use Prim.Native.Nat.{ℕ, ◌^◌, ◌<◌}
-use mathlib.Core.Path.{◌≡◌}
-use mathlib.Core.Logic.{◌≢◌}
-use mathlib.Core.Bool.{true, false}
-use lib.ListN.{length}
+use Rattle.std.proofs.Common.{ℕ, ◌^◌, ◌<◌, ◌≡◌, ◌≢◌, true, false, length}
 use Rattle.words.specs.Bits.{has, at}
 use Rattle.network.specs.declared.Network.{Network}
 use Rattle.steps.specs.FirstStep.{word_length, sequential_words}

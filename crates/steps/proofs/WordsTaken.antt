@@ -1,67 +1,60 @@
--- The loop that gathers the sequential words of step one: each number from 0 on is tried, and taken if it has half
--- ones.
-use mathlib.Core.Path.{◌≡◌, refl, sym, ap, ◌∙◌}
-use mathlib.Core.Bool.{true, false}
-use mathlib.Core.List.{List, [], ◌∷◌, ◌++◌}
-use Prim.Native.Nat.{ℕ, suc, ◌+◌, ◌/◌, ◌^◌, ◌<◌, ◌≤◌, zero-le}
-use native.Mathlib.Numerals.{add-one}
-use native.Mathlib.Omega.{arith}
+-- The loop that gathers the sequential words of step one: each number is tried, and taken if it has half ones and words
+-- are missing.
+use Rattle.std.proofs.Common.{◌≡◌, sym, ◌∙◌, refl, List, [], ◌∷◌, ◌++◌, ℕ, ◌+◌, ◌/◌, ◌^◌, ◌<◌, ◌≤◌, length, take}
+use Rattle.std.proofs.Common.{arith, add-one, eq-eqb, length-append, length-take, ne_eqb, take_all, ⊎_elim}
 use lib.Count.{ones}
-use lib.ListN.{length, take, set}
-use lib.Seq.{take-suc-set}
-use borrow.Author.Tests.{eq-eqb, ne_eqb}
+use lib.Seq.{take-append-le}
 use Rattle.words.specs.Searching.{passing}
 use Rattle.words.proofs.Classes.{ones_counted}
-use Rattle.words.proofs.Passing.{passing_yes, passing_no, passing_front, count_passed}
+use Rattle.words.proofs.Passing.{passing_yes, passing_no}
+use Rattle.words.proofs.Tests.{cases}
 use Rattle.network.specs.declared.Network.{Network}
 use Rattle.steps.specs.FirstStep.{word_length, balanced_words, sequential_words}
-use Rattle.steps.proofs.StepOneWords.{balanced, enough_words}
+use Rattle.steps.proofs.StepOneWords.{balanced}
+
+-- the words taken of the numbers below this one
+unfoldable pub words_taken : Network → ℕ → List ℕ
+words_taken net word = take net.nets (passing (balanced net) word)
 
 module _ (net : Network) where
-  -- the numbers below `word` were tried, and those taken are the first `count` of `words`
-  pub record WordsTaken (words : List ℕ) (count word : ℕ) : Type 0 where
-    pub inside : word ≤ 2 ^ word_length net
-    pub counted : length (passing (balanced net) word) ≡ count
-    pub front : take count words ≡ passing (balanced net) word
+  pub none_taken : words_taken net 0 ≡ []
+  unfolding words_taken passing
+  none_taken = take_all net.nets [] (omega arith)
 
-  pub none_taken : (words : List ℕ) → WordsTaken words 0 0
-  unfolding passing
-  none_taken words = record { inside = zero-le; counted = refl; front = refl }
+  module _ (word : ℕ) (low : word < 2 ^ word_length net) where
+    pub word_taken : length (words_taken net word) < net.nets → ones word ≡ word_length net / 2
+        → words_taken net word ++ word ∷ [] ≡ words_taken net (word + 1)
+    unfolding words_taken
+    word_taken missing half =
+        let before = passing (balanced net) word in
+        let few : length before < net.nets = omega (arith, length-take net.nets before) in
+        let passes = eq-eqb _ _ (ones_counted (word_length net) word low ∙ half) in
+        rw (
+          add-one word,
+          passing_yes (balanced net) word passes,
+          take_all net.nets before (omega arith),
+          take_all net.nets (before ++ word ∷ []) (omega (arith, length-append before (word ∷ []))),
+        )
 
-  module _ (two : 2 ≤ net.nets) (most : net.nets ≤ 48) (words : List ℕ) (count word : ℕ) (so_far : WordsTaken words count word) where
-    -- while words are missing there are numbers to try
-    pub more_to_try : count < net.nets → word < 2 ^ word_length net
-    unfolding balanced_words
-    more_to_try l =
-        let not_all : word ≡ 2 ^ word_length net → ⊥ = λ e. let c = rw e at so_far.counted in omega (arith, enough_words net two most) in
-        omega (arith, so_far.inside, not_all)
+    pub word_left : (ones word ≡ word_length net / 2 → ⊥) → words_taken net word ≡ words_taken net (word + 1)
+    unfolding words_taken
+    word_left d =
+        rw (
+          add-one word,
+          passing_no (balanced net) word (ne_eqb _ _ (λ e. d (sym (ones_counted (word_length net) word low) ∙ e))),
+        )
 
-    pub word_taken : count < net.nets → count < length words → ones word ≡ word_length net / 2
-        → WordsTaken (set words count word) (count + 1) (word + 1)
-    word_taken l room e =
-        let low : word < 2 ^ word_length net = more_to_try l in
-        let passes : balanced net word ≡ true = eq-eqb _ _ (ones_counted (word_length net) word low ∙ e) in
-        rw (add-one count, add-one word) (record {
-          inside = low;
-          counted = count_passed (balanced net) word passes ∙ ap suc so_far.counted;
-          front = take-suc-set words count word room ∙ ap (λ (l : List ℕ). l ++ word ∷ []) so_far.front
-              ∙ sym (passing_yes (balanced net) word passes);
-        })
+  pub none_missing : (word : ℕ) → net.nets ≤ length (words_taken net word)
+      → words_taken net word ≡ words_taken net (word + 1)
+  unfolding words_taken
+  none_missing word many =
+      let enough : net.nets ≤ length (passing (balanced net) word) =
+      omega (arith, length-take net.nets (passing (balanced net) word)) in
+      rw (add-one word)
+      (⊎_elim (λ e. rw (passing_yes (balanced net) word e)
+      (sym (take-append-le net.nets (passing (balanced net) word) (word ∷ []) enough)))
+      (λ e. rw (passing_no (balanced net) word e)) (cases (balanced net word)))
 
-    pub word_left : count < net.nets → (ones word ≡ word_length net / 2 → ⊥) → WordsTaken words count (word + 1)
-    word_left l d =
-        let low : word < 2 ^ word_length net = more_to_try l in
-        let fails : balanced net word ≡ false = ne_eqb _ _ (λ e. d (sym (ones_counted (word_length net) word low) ∙ e)) in
-        rw (add-one word) (record {
-          inside = low;
-          counted = ap length (passing_no (balanced net) word fails) ∙ so_far.counted;
-          front = so_far.front ∙ sym (passing_no (balanced net) word fails);
-        })
-
-    pub all_taken : count ≡ net.nets → take net.nets words ≡ sequential_words net
-    unfolding sequential_words balanced_words
-    all_taken e =
-        let c : length (passing (balanced net) word) ≡ net.nets = so_far.counted ∙ e in
-        ap (λ (n : ℕ). take n words) (sym e) ∙ so_far.front
-        ∙ sym (passing_front (balanced net) word (2 ^ word_length net) so_far.inside)
-        ∙ ap (λ (n : ℕ). take n (balanced_words (word_length net))) c
+  pub all_taken : words_taken net (2 ^ word_length net) ≡ sequential_words net
+  unfolding words_taken sequential_words balanced_words
+  all_taken = refl

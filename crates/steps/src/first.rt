@@ -1,54 +1,50 @@
-// Step one of a session. Helpers between crates: the nets are those that row 5 admits.
-ghost use Rattle.std.specs.Prelude.{◌≡◌, ◌≤◌, length, take};
-ghost use Rattle.words.specs.Answers.{lent_after, full};
+// Step one of a session. Helpers between crates: there are two nets or more, as row 5 has it.
+ghost use Rattle.std.specs.Prelude.{◌≡◌, ◌≤◌};
 ghost use Rattle.steps.specs.FirstStep.{word_length, sequential_words, first_vectors};
 
-use network::Network;
+use arrayvec::ArrayVec;
+use network::admitting::Nets;
 
 // p: the smallest number with C(p, p/2 rounded down) at least n.
-pub fn word_length(net: Network) -> u64
-    requires { (2 ≤ net.nets) × (net.nets ≤ 48) }
-    ensures { result ≡ word_length net }
+pub fn word_length(nets: Nets) -> u64
+    requires { 2 ≤ nets.network.nets }
+    ensures { result ≡ word_length nets.network }
 {
-    let central = [1u64, 1, 2, 3, 6, 10, 20, 35, 70]; // C(p, p/2 rounded down) for p from 0 to 8
-    let mut p: u64 = 0;
-    while central[p as usize] < net.nets {
-        p += 1;
+    let central = [1u64, 1, 2, 3, 6, 10, 20, 35]; // C(p, p/2 rounded down) for p from 0 to 7; it is 70 for 8
+    for (p, &words) in central.iter().enumerate() {
+        if nets.network.nets <= words {
+            return p as u64;
+        }
     }
-    p
+    central.len() as u64
 }
 
-// The n smallest numbers below 2^p with exactly p/2 (rounded down) ones, ascending, and 0 in the unused entries.
-pub fn sequential_words(net: Network) -> [u64; 48]
-    requires { (2 ≤ net.nets) × (net.nets ≤ 48) }
-    ensures { (length result ≡ 48) × (take net.nets result ≡ sequential_words net) }
+// The n smallest numbers below 2^p with exactly p/2 (rounded down) ones, ascending.
+pub fn sequential_words(nets: Nets) -> ArrayVec<u64, 48>
+    requires { 2 ≤ nets.network.nets }
+    ensures { result.items ≡ sequential_words nets.network }
 {
-    let half = word_length(net) / 2;
-    let mut words = [0u64; 48];
-    let mut count: u64 = 0;
-    let mut word: u64 = 0;
-    while count < net.nets {
-        if words::sets::count_of_ones(word) == half {
-            words[count as usize] = word;
-            count += 1;
+    let p = word_length(nets);
+    let half = p / 2;
+    let n = nets.network.nets as usize;
+    let mut words = ArrayVec::new();
+    for word in 0..words::sets::bit_word(p) {
+        if words.len() < n && words::sets::count_of_ones(word) == half {
+            words.push(word);
         }
-        word += 1;
     }
     words
 }
 
-// The p vectors of step one into the front of `out`; the rest of `out` is kept.
-pub fn first_vectors(net: Network, out: &mut [u64])
-    requires { (2 ≤ net.nets) × (net.nets ≤ 48) × (length (first_vectors net) ≤ length out.old) }
-    ensures { out.new ≡ lent_after (full (first_vectors net)) out.old }
+// The p vectors of step one.
+pub fn first_vectors(nets: Nets) -> ArrayVec<u64, 8>
+    requires { 2 ≤ nets.network.nets }
+    ensures { result.items ≡ first_vectors nets.network }
 {
-    let words = sequential_words(net);
-    let p = word_length(net);
-    let nets = net.nets as usize;
-    let mut t: u64 = 0;
-    while t < p {
-        let vector = words::turning::parallel_word(&words[..nets], t);
-        out[t as usize] = vector.0;
-        t += 1;
+    let words = sequential_words(nets);
+    let mut vectors = ArrayVec::new();
+    for t in 0..word_length(nets) {
+        vectors.push(words::turning::parallel_word(words.as_slice(), t).0);
     }
+    vectors
 }

@@ -1,49 +1,64 @@
-// What is shown of a lent list after a call.
+// A list that a call is lent, and what is shown of it after the call.
+ghost use Rattle.std.specs.Prelude.{◌≡◌, ◌<◌, MatchOption, replicate};
+
 use crate::show;
-use std::io;
+use crate::show::Spaced;
+use arrayvec::ArrayVec;
+use network::refusal::Refusal;
+use std::{fmt, io};
 
-// What each entry of a lent list holds before the call.
-pub const MARKER: u64 = 99;
+// The most entries of a lent list.
+const MOST: usize = 64;
 
-// The length of the list that a call is lent, the last of what it was given.
-pub fn room(rt: &impl Print, length: usize) -> io::Result<()> {
-    show::entry(rt, b"; lent", length as u64)?;
-    show::arrow(rt)
+// What each entry holds before the call.
+const MARKER: u64 = 99;
+
+// A lent list.
+pub type List = ArrayVec<u64, MOST>;
+
+// The list of `room` entries before the call, if it may have so many.
+pub fn list(room: u64) -> Option<List>
+    ensures { MatchOption result (64 < room) (λ list. list.items ≡ replicate room 99) }
+{
+    if MOST < room as usize {
+        return None;
+    }
+    let mut list = List::from([MARKER; MOST]);
+    list.truncate(room as usize);
+    Some(list)
 }
 
-// Whether each word of a list from index `from` on is the marker.
-fn all_marked(list: &[u64], from: usize) -> bool {
-    let mut i = from;
-    while i < list.len() {
-        if list[i] != MARKER {
-            return false;
+// The entries that a call left, and whether they are as they were before it.
+#[derive(Clone, Copy)]
+struct Rest<'a>(&'a [u64]);
+
+impl fmt::Display for Rest<'_> {
+    fn fmt<W: fmt::Write>(&self, f: &mut fmt::Formatter<W>) -> fmt::Result {
+        if self.0.is_empty() {
+            return Ok(());
         }
-        i += 1;
+        let is_kept = self.0.iter().all(|&entry| entry == MARKER);
+        let state = if is_kept { "kept" } else { "changed" };
+        write!(f, ", {state}{}", Spaced(self.0))
     }
-    true
-}
-
-// The words of a list from index `from` on, and whether they are as they were before the call.
-fn rest(rt: &impl Print, list: &[u64], from: usize) -> io::Result<()> {
-    if list.len() <= from {
-        return Ok(());
-    }
-    if all_marked(list, from) {
-        show::text(rt, b", kept")?;
-    } else {
-        show::text(rt, b", changed")?;
-    }
-    show::part(rt, list, from, list.len())
 }
 
 // A result: the words written, and the entries that the call left.
-pub fn wrote(rt: &impl Print, count: u64, list: &[u64]) -> io::Result<()> {
-    show::part(rt, list, 0, count as usize)?;
-    rest(rt, list, count as usize)
+pub fn wrote(rt: &impl Print, count: usize, list: &[u64]) -> io::Result<()> {
+    let (written, rest) = list.split_at(count.min(list.len()));
+    print!(rt; "{}{}", Spaced(written), Rest(rest))
 }
 
 // A refusal.
 pub fn refused(rt: &impl Print, number: u64, list: &[u64]) -> io::Result<()> {
     show::refusal(rt, number)?;
-    rest(rt, list, 0)
+    print!(rt; "{}", Rest(list))
+}
+
+// What a call answered that writes a list: how many words it wrote, or the refusal.
+pub fn answered(rt: &impl Print, answer: Result<u64, Refusal>, list: &[u64]) -> io::Result<()> {
+    match answer {
+        Ok(count) => wrote(rt, count as usize, list),
+        Err(refusal) => refused(rt, refusal.into(), list),
+    }
 }

@@ -3,9 +3,10 @@
 
 #![tactic(auto)]
 
-ghost use Rattle.std.specs.Counts.{IsPrefixLen};
-ghost use Rattle.std.specs.Prelude.{◌≡◌, ◌≢◌, ℕ, ◌<◌, ◌≤◌, length, slice_index};
+ghost use Rattle.std.specs.Prelude.{◌≤◌, vec_len};
 
+use setting::Setting;
+use std::io;
 use std::io::{Input, Read};
 
 pub mod lent;
@@ -14,8 +15,11 @@ pub mod receivers;
 pub mod setting;
 pub mod show;
 
+// The most bytes of a table.
+const MOST: usize = 65536;
+
 // What a line of a table is.
-#[derive(Clone, Copy)]
+#[derive(Clone, Copy, Debug, PartialEq, Eq)]
 pub enum Line {
     Skipped,
     Setting,
@@ -26,65 +30,56 @@ pub enum Line {
 // Empty lines and lines that begin with `#` are skipped. A line that begins with `level`, `gate` or `receivers` gives
 // the soft level, the gate or the receivers of the calls on the lines after it (setting.rt). Any other that begins with
 // a letter names those calls, or starts a record for them.
-pub fn kind_of(line: &[u8]) -> Line {
-    if line.len() == 0 {
-        return Line::Skipped;
-    }
-    if line[0] == b'#' {
-        return Line::Skipped;
-    }
-    if setting::is_setting(line) {
-        return Line::Setting;
-    }
-    if b'a' <= line[0] {
-        return Line::Name;
-    }
-    Line::Call
-}
-
-// Where the first line end of a text stands from index `from` on; the length of the text if it has none there.
-pub fn line_end(text: &[u8], from: usize) -> usize
-    requires { from ≤ length text.now }
-    ensures start { from ≤ result }
-    ensures within { result ≤ length text.now }
-    ensures before { (k : ℕ) → from ≤ k → k < result → slice_index text.now k ≢ 10 }
-    ensures found { result < length text.now → slice_index text.now result ≡ 10 }
-{
-    let mut i = from;
-    while i < text.len() {
-        if text[i] == b'\n' {
-            return i;
-        }
-        i += 1;
-    }
-    i
-}
-
-// Says that the input was not read, and how many bytes it has then.
-fn unread(rt: &impl Eprint) -> usize
-    ensures { result ≡ 0 }
-{
-    let _ = eprintln!(rt; "standard input cannot be read to its end");
-    0
-}
-
-// Reads standard input to its end, and returns how many bytes it has; none where the buffer is too short for it or a
-// read fails. A read after the end answers 0.
-pub fn input(rt: &(impl Input + Eprint), buffer: &mut [u8]) -> usize
-    ensures { IsPrefixLen result buffer.new }
-{
-    let mut reader = rt.reader();
-    let mut count: usize = 0;
-    while count < buffer.len() {
-        match reader.read(&mut buffer[count..]) {
-            Ok(0) => return count,
-            Ok(more) => count += more,
-            Err(_) => return unread(rt),
+impl From<&[u8]> for Line {
+    fn from(line: &[u8]) -> Line {
+        match line {
+            [] | [b'#', ..] => Line::Skipped,
+            _ if setting::is_setting(line) => Line::Setting,
+            [b'a'..=u8::MAX, ..] => Line::Name,
+            _ => Line::Call,
         }
     }
-    let mut past = [0u8; 1];
-    match reader.read(&mut past) {
-        Ok(0) => count,
-        _ => unread(rt),
+}
+
+// What a program does at the lines of a table: at one that names calls, or starts a record for them, and at one that
+// gives a call; the line that is shown of it is ended after it.
+pub trait Trial {
+    fn name(&mut self, rt: &impl Print, line: &[u8]) -> io::Result<()>;
+
+    fn call(&mut self, rt: &impl Print, setting: &Setting, line: &[u8]) -> io::Result<()>;
+}
+
+// Tries the lines of a table one by one. At the start, and after a line that names calls or starts a record, the
+// setting is the usual one.
+pub fn try_each<T: Trial>(rt: &impl Print, trial: &mut T, table: &[u8]) -> io::Result<()> {
+    let mut setting = Setting::default();
+    for line in table.split(|&byte| byte == b'\n') {
+        match Line::from(line) {
+            Line::Skipped => {}
+            Line::Setting => setting.change(rt, line)?,
+            Line::Name => {
+                setting = Setting::default();
+                trial.name(rt, line)?;
+            }
+            Line::Call => {
+                trial.call(rt, &setting, line)?;
+                println!(rt)?;
+            }
+        }
     }
+    Ok(())
+}
+
+// Reads standard input to its end: a table, or nothing where it is too long for one or a read fails, which is said on
+// standard error.
+pub fn input<R: Input + Eprint + AllocGlobal>(rt: &R) -> Vec<u8>
+    ensures { vec_len result ≤ 65536 }
+{
+    let mut table = Vec::new(rt.alloc());
+    let read = rt.reader().take(MOST as u64 + 1).read_to_end(&mut table);
+    if read.is_err() || MOST < table.len() {
+        let _ = eprintln!(rt; "standard input cannot be read to its end");
+        table.clear();
+    }
+    table
 }

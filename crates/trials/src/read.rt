@@ -1,70 +1,57 @@
-// Reading lists of decimal numbers from a text.
-ghost use Rattle.std.specs.Prelude.{◌≡◌, ◌≤◌, length};
+// Reading decimal numbers from a line.
+ghost use Rattle.std.specs.Prelude.{◌≡◌, ◌≢◌, ◌≤◌, ◌++◌, ◌∷◌, slice_index, EachIndex, MatchOption};
 
-// The most words of a list: one more than a set of vectors, or a list of receivers, may have.
-pub const MOST: usize = 65;
+use arrayvec::ArrayVec;
 
-// The mark of a list that the text's end ended.
-pub const END: u8 = b'\n';
+// A list of words: one more than a set of vectors, or a list of receivers, may have.
+pub type Words = ArrayVec<u64, 65>;
 
-// The mark of a list that has too many words, or a number too large.
-const TOO_MUCH: u8 = b'?';
-
-// How many words a list has, the byte that ended it, and the index past that byte in the text.
-#[derive(Clone, Copy)]
-pub struct List {
-    pub count: usize,
-    pub mark: u8,
-    pub end: usize,
+// The number that digits alone write, if it has at most 64 bits.
+fn number(digits: &[u8]) -> Option<u64> {
+    digits.iter().try_fold(0u64, |number, &byte| {
+        let digit = char::from(byte).to_digit(10)?;
+        number.checked_mul(10)?.checked_add(u64::from(digit))
+    })
 }
 
-// The digit that a byte stands for; more than 9 if it stands for none.
-fn digit(byte: u8) -> u64 {
-    if byte < b'0' {
-        return 10;
-    }
-    (byte - b'0') as u64
-}
-
-fn ended(count: usize, mark: u8, end: usize) -> List
-    ensures { (result.count ≡ count) × (result.end ≡ end) }
-{
-    List {
-        count: count,
-        mark: mark,
-        end: end,
-    }
-}
-
-// Reads the list from index `from` on, up to a byte that is no digit and no space, into words that are all 0.
-pub fn list_at(text: &[u8], from: usize, words: &mut [u64; MOST]) -> List
-    requires { (from ≤ length text.now) × (length words.old ≡ 65) }
-    ensures { (result.count ≤ 65) × (result.end ≤ length text.now) × (length words.new ≡ 65) }
-{
-    let mut count: usize = 0;
-    let mut begun: usize = 0;
-    let mut i = from;
-    while i < text.len() {
-        let byte = text[i];
-        let next = digit(byte);
-        i += 1;
-        if next < 10 {
-            if count == MOST {
-                return ended(count, TOO_MUCH, i);
-            }
-            let word = words[count];
-            if (18446744073709551615 - next) / 10 < word {
-                return ended(count, TOO_MUCH, i);
-            }
-            words[count] = word * 10 + next;
-            begun = 1;
-        } else {
-            count += begun;
-            begun = 0;
-            if byte != b' ' {
-                return ended(count, byte, i);
-            }
+// The numbers of a text that has at most N, with spaces before, between and after them, and nothing else.
+pub fn numbers<const N: usize>(text: &[u8]) -> Option<ArrayVec<u64, N>> {
+    let mut numbers = ArrayVec::new();
+    for digits in text.split(|&byte| byte == b' ') {
+        if !digits.is_empty() {
+            numbers.try_push(number(digits)?).ok()?;
         }
     }
-    ended(count + begun, END, i)
+    Some(numbers)
+}
+
+// The same where a text has just N.
+pub fn exactly<const N: usize>(text: &[u8]) -> Option<[u64; N]>
+    requires { N ≤ 65 }
+{
+    numbers(text)?.into_inner().ok()
+}
+
+// What stands before the first of a mark in a text, and what after it.
+pub fn split_once(text: &[u8], mark: u8) -> Option<(&[u8], &[u8])>
+    ensures { MatchOption result (EachIndex text.now (λ k. slice_index text.now k ≢ mark))
+        (λ parts. (text.now ≡ parts.0.now ++ mark ∷ parts.1.now)
+        × EachIndex parts.0.now (λ k. slice_index parts.0.now k ≢ mark)) }
+{
+    let at = text.iter().position(|&byte| byte == mark)?;
+    Some((&text[..at], &text[at + 1..]))
+}
+
+// Two lists with a semicolon between them.
+pub fn two_lists(text: &[u8]) -> Option<(Words, Words)> {
+    let (first, second) = split_once(text, b';')?;
+    Some((numbers(first)?, numbers(second)?))
+}
+
+// A line of just N numbers, a colon and a list.
+pub fn with_list<const N: usize>(line: &[u8]) -> Option<([u64; N], Words)>
+    requires { N ≤ 65 }
+{
+    let (head, list) = split_once(line, b':')?;
+    Some((exactly(head)?, numbers(list)?))
 }

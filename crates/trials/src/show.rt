@@ -1,91 +1,74 @@
-// Lines on standard output. What shows fails where a write does.
-use std::io;
+// What is shown of lists and sets, and of a line that is not read.
+use std::{fmt, io};
 
 // A list of more words than this is long.
 const SHOWN: usize = 8;
 
-pub fn text(rt: &impl Print, bytes: &[u8]) -> io::Result<()> {
-    rt.write_all(bytes)
-}
-
 // A line of the input that has not the form it should have.
 pub fn unreadable(rt: &impl Print) -> io::Result<()> {
-    text(rt, b"unreadable line")
+    print!(rt; "unreadable line")
 }
 
-pub fn end_line(rt: &impl Print) -> io::Result<()> {
-    text(rt, b"\n")
+// The same for a line that is no call's, and so has a line to itself.
+pub fn unreadable_line(rt: &impl Print) -> io::Result<()> {
+    unreadable(rt)?;
+    println!(rt)
 }
 
-// Between two parts of a line.
-pub fn semicolon(rt: &impl Print) -> io::Result<()> {
-    text(rt, b";")
-}
-
-// Between what a call was given and what it answered.
-pub fn arrow(rt: &impl Print) -> io::Result<()> {
-    text(rt, b" ->")
-}
-
-// A number with a space before it.
-pub fn number(rt: &impl Print, n: u64) -> io::Result<()> {
-    print!(rt; " {n}")
-}
-
-// A name and a number.
-pub fn entry(rt: &impl Print, name: &[u8], n: u64) -> io::Result<()> {
-    text(rt, name)?;
-    number(rt, n)
-}
-
+// A refusal.
 pub fn refusal(rt: &impl Print, number: u64) -> io::Result<()> {
-    entry(rt, b" refused", number)
+    print!(rt; " refused {number}")
 }
 
-// The words of a list from index `from` on, up to index `end` and without it.
-pub fn part(rt: &impl Print, list: &[u64], from: usize, end: usize) -> io::Result<()> {
-    let mut i = from;
-    while i < end {
-        if i < list.len() {
-            number(rt, list[i])?;
+// The words of a list, each with a space before it.
+#[derive(Clone, Copy)]
+pub struct Spaced<'a>(pub &'a [u64]);
+
+impl fmt::Display for Spaced<'_> {
+    fn fmt<W: fmt::Write>(&self, f: &mut fmt::Formatter<W>) -> fmt::Result {
+        for word in self.0 {
+            write!(f, " {word}")?;
         }
-        i += 1;
+        Ok(())
     }
-    Ok(())
 }
 
-// A list of vectors or of reaches, with the name of its words. Of a long one the count and the last word.
-pub fn words(rt: &impl Print, list: &[u64], name: &[u8]) -> io::Result<()> {
-    if list.len() == 0 {
-        text(rt, b" no")?;
-        return text(rt, name);
+// A list with the name of its words. Of a long one the count and the last word.
+#[derive(Clone, Copy)]
+pub struct Named<'a>(pub &'a [u64], pub &'static str);
+
+impl fmt::Display for Named<'_> {
+    fn fmt<W: fmt::Write>(&self, f: &mut fmt::Formatter<W>) -> fmt::Result {
+        let name = self.1;
+        match self.0 {
+            [] => write!(f, " no {name}"),
+            [.., last] if SHOWN < self.0.len() => {
+                write!(f, " {} {name} ending in {last}", self.0.len())
+            }
+            words => write!(f, "{}", Spaced(words)),
+        }
     }
-    if SHOWN < list.len() {
-        number(rt, list.len() as u64)?;
-        text(rt, name)?;
-        return entry(rt, b" ending in", list[list.len() - 1]);
-    }
-    part(rt, list, 0, list.len())
 }
 
-// The reaches of a wiring state.
-pub fn reaches(rt: &impl Print, state: &[u64]) -> io::Result<()> {
-    words(rt, state, b" reaches")
-}
+// The receivers of a call, the net of each; of a long list as of any list.
+#[derive(Clone, Copy)]
+pub struct Receivers<'a>(pub &'a [u64]);
 
-// A list of receivers, the net of each; of a long one as of any list.
-pub fn receivers(rt: &impl Print, list: &[u64]) -> io::Result<()> {
-    semicolon(rt)?;
-    if (0 < list.len()) & (list.len() <= SHOWN) {
-        text(rt, b" receivers")?;
+impl fmt::Display for Receivers<'_> {
+    fn fmt<W: fmt::Write>(&self, f: &mut fmt::Formatter<W>) -> fmt::Result {
+        if (1..=SHOWN).contains(&self.0.len()) {
+            return write!(f, "; receivers{}", Spaced(self.0));
+        }
+        write!(f, ";{}", Named(self.0, "receivers"))
     }
-    words(rt, list, b" receivers")
 }
 
-// The name of a call, n, k and the vectors.
-pub fn set(rt: &impl Print, name: &[u8], nets: u64, class: u64, vectors: &[u64]) -> io::Result<()> {
-    entry(rt, name, nets)?;
-    number(rt, class)?;
-    text(rt, b":")?;
-    words(rt, vectors, b" vectors")
+// A test set: n, k and the vectors.
+#[derive(Clone, Copy)]
+pub struct Set<'a>(pub u64, pub u64, pub &'a [u64]);
+
+impl fmt::Display for Set<'_> {
+    fn fmt<W: fmt::Write>(&self, f: &mut fmt::Formatter<W>) -> fmt::Result {
+        write!(f, "{} {}:{}", self.0, self.1, Named(self.2, "vectors"))
+    }
 }

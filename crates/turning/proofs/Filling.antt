@@ -1,9 +1,5 @@
 -- The loops that put turned words into a list: a turn, and the end.
-use mathlib.Core.Path.{◌≡◌, sym, ap₂, ◌∙◌}
-use mathlib.Core.List.{List, ◌++◌}
-use Prim.Native.Nat.{ℕ, ◌+◌, ◌≤◌, ◌<◌}
-use native.Mathlib.Omega.{arith}
-use lib.ListN.{length, take, drop, set}
+use Rattle.std.proofs.Common.{◌≡◌, sym, ap₂, ◌∙◌, List, ◌++◌, ℕ, ◌+◌, ◌≤◌, ◌<◌, arith, length, take, drop, set}
 use Rattle.words.specs.Answers.{full, lent_after}
 use Rattle.words.specs.Turning.{column, transpose}
 use Rattle.words.proofs.Making.{list_fill, list_filled}

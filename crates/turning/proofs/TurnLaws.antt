@@ -1,15 +1,8 @@
 -- The calls *turn* and *turn back* answer as their rows and their results say, with nothing left open; and either after
 -- the other gives back what went in.
-use mathlib.Core.Path.{◌≡◌, refl, sym, ap, ◌∙◌, subst}
-use mathlib.Core.Bool.{false}
-use mathlib.Core.Logic.{inl, inr, ⊎_elim}
-use mathlib.Core.List.{List}
-use Prim.Native.Nat.{ℕ, ◌≤◌, ◌<◌}
-use native.Mathlib.Omega.{arith}
-use lib.ListN.{length}
-use lib.Seq.{ext_get_or}
-use borrow.Author.Tests.{le-ltb}
-use Rattle.words.specs.Answers.{Answer, full, ByTable, Decides}
+use Rattle.std.proofs.Common.{◌≡◌, refl, sym, ap, ◌∙◌, subst, false, inl, inr, ⊎_elim, List, ℕ, ◌≤◌, ◌<◌, arith}
+use Rattle.std.proofs.Common.{length, ext_get_or, le-ltb}
+use Rattle.words.specs.Answers.{Answer, full, ByTable, Decides, by_tests}
 use Rattle.words.specs.Bits.{at}
 use Rattle.words.specs.Turning.{transpose}
 use Rattle.words.proofs.Bits.{words_equal}
@@ -21,7 +14,6 @@ use Rattle.network.specs.Rows.{HighBit, bad_vector_count, has_high_bit}
 use Rattle.network.proofs.Rows.{decides_row_5, decides_count, decides_row_7, decides_high_bit, decides_row_12, no_high_bit}
 use Rattle.turning.specs.Turn.{Exchanged, TurnRows, turn_tests, turn_answer, WrongWords, TurnBackRows}
 use Rattle.turning.specs.Turn.{bad_nets, wrong_words, turn_back_tests, turn_back_answer}
-use Rattle.turning.proofs.Answering.{by_none}
 
 -- ---- row 7 of sequential words
 
@@ -103,15 +95,16 @@ module _ (nets : ℕ) (vectors : List ℕ) (room : ℕ) where
   -- vectors that were turned, turned back
   back_again : bad_nets nets ≡ false → bad_vector_count vectors ≡ false → has_high_bit nets vectors ≡ false
       → length vectors ≤ room → turn_back_answer nets (length vectors) (transpose nets vectors) room ≡ full vectors
-  unfolding turn_back_answer
+  unfolding turn_back_answer by_tests
   back_again a b c enough =
       let size = transpose_size nets vectors in
-      by_none _ _ _ _ (transpose (length vectors) (transpose nets vectors)) a
-      (test_fails (decides_words nets (length vectors) (transpose nets vectors))
-      (⊎_elim ((decides_row_7 vectors).1 b) (λ n. n size)))
-      (test_fails (decides_high_bit (length vectors) (transpose nets vectors)) (no_bit_above nets vectors))
-      (le-ltb room (length vectors) enough)
-      ∙ ap full (transpose_back nets vectors (no_high_bit nets vectors ((decides_high_bit nets vectors).1 c)))
+      rw (
+        a,
+        test_fails (decides_words nets (length vectors) (transpose nets vectors))
+            (⊎_elim ((decides_row_7 vectors).1 b) (λ n. n size)),
+        test_fails (decides_high_bit (length vectors) (transpose nets vectors)) (no_bit_above nets vectors),
+        le-ltb room (length vectors) enough,
+      ) (ap full (transpose_back nets vectors (no_high_bit nets vectors ((decides_high_bit nets vectors).1 c))))
 
   pub turned_back : (words : List ℕ) (room_then : ℕ) → turn_answer nets vectors room_then ≡ full words
       → length vectors ≤ room → turn_back_answer nets (length vectors) words room ≡ full vectors
@@ -125,19 +118,21 @@ module _ (nets count : ℕ) (words : List ℕ) (room : ℕ) where
   -- and words that were turned back, turned
   there_again : bad_nets nets ≡ false → wrong_words nets count words ≡ false → has_high_bit count words ≡ false
       → nets ≤ room → turn_answer nets (transpose count words) room ≡ full words
-  unfolding turn_answer
+  unfolding turn_answer by_tests
   there_again a b c enough =
       let size = transpose_size count words in
       let admitted = words_admitted nets count words b in
       let back : transpose (length words) (transpose count words) ≡ words =
       transpose_back count words (no_high_bit count words ((decides_high_bit count words).1 c)) in
-      by_none _ _ _ _ (transpose nets (transpose count words)) a
-      (test_fails (decides_row_7 (transpose count words))
-      (⊎_elim (λ l. omega (arith, l, size, admitted.0.0)) (λ l. omega (arith, l, size, admitted.0.1))))
-      (test_fails (decides_high_bit nets (transpose count words))
-      (subst (λ (n : ℕ). ¬ (HighBit n (transpose count words))) admitted.1 (no_bit_above count words)))
-      (le-ltb room nets enough)
-      ∙ ap full (ap (λ (n : ℕ). transpose n (transpose count words)) (sym admitted.1) ∙ back)
+      let high : ¬ (HighBit nets (transpose count words)) =
+      subst (λ (n : ℕ). ¬ (HighBit n (transpose count words))) admitted.1 (no_bit_above count words) in
+      rw (
+        a,
+        test_fails (decides_row_7 (transpose count words))
+            (⊎_elim (λ l. omega (arith, l, size, admitted.0.0)) (λ l. omega (arith, l, size, admitted.0.1))),
+        test_fails (decides_high_bit nets (transpose count words)) high,
+        le-ltb room nets enough,
+      ) (ap full (ap (λ (n : ℕ). transpose n (transpose count words)) (sym admitted.1) ∙ back))
 
   pub turned_again : (vectors : List ℕ) (room_then : ℕ) → turn_back_answer nets count words room_then ≡ full vectors
       → nets ≤ room → (length vectors ≡ count) × (turn_answer nets vectors room ≡ full words)

@@ -1,13 +1,11 @@
 -- The calls *turn*, v parallel words into n sequential ones, and *turn back*: rows 5, 7, 8, 12.
 use Rattle.std.specs.Prelude.{ℕ, ◌^◌, ◌<◌, ◌≡◌, ◌⊎◌, ◌≢◌, Bool, not, ◌||◌, List, [], ◌∷◌, eqb, length}
-use Rattle.words.specs.Answers.{Answer, refused, full, by_tests}
+use Rattle.words.specs.Answers.{Answer, by_tests}
 use Rattle.words.specs.Bits.{has, at}
 use Rattle.words.specs.Turning.{transpose}
 use Rattle.network.specs.Reading.{network_of}
 use Rattle.network.specs.Rows.{Row5, BadCount, Row7, HighBit, Row12, bad_net_count, bad_count, bad_vector_count}
 use Rattle.network.specs.Rows.{has_high_bit, no_room}
-use Rattle.turning.specs.declared.Turned.{Turned}
-use Rattle.turning.specs.declared.Turned.TheVariants.{Wrote, Refused}
 
 -- Rows and columns exchanged: one word for each column, with one bit for each row. Of v parallel words (PTV) the rows
 -- are the vectors and the columns the nets, and bit t of sequential word i (STV) is bit i of parallel word t.
@@ -52,8 +50,3 @@ turn_back_tests nets count words room =
 -- the call's answer, computed
 unfoldable pub turn_back_answer : (nets count : ℕ) → List ℕ → ℕ → Answer (List ℕ)
 turn_back_answer nets count words room = by_tests (turn_back_tests nets count words room) (transpose count words)
-
--- document 01's number and values for each case of the answer
-abbrev pub meaning : Turned → Answer ℕ
-meaning (Wrote count) = full count
-meaning (Refused number) = refused number

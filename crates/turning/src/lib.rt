@@ -1,60 +1,33 @@
 // Turning: the calls *turn*, parallel words into sequential ones, and *turn back*. Both exchange rows and columns, as a
-// matrix is transposed. `fill_sequential` and `fill_parallel` are helpers between crates: each asks for at most 64 rows
-// and columns, and for room.
+// matrix is transposed, and are one body for both kinds of words. `fill` is a helper between crates: it asks for at most
+// 64 rows and columns, and for room.
 
 #![tactic(auto)]
 
-ghost use Rattle.std.specs.Prelude.{◌≡◌, ◌≤◌, length};
-ghost use Rattle.words.specs.Answers.{full, count_of, lent_after};
+ghost use Rattle.std.specs.Prelude.{◌≡◌, ◌∷◌, [], ◌≤◌, length};
+ghost use Rattle.words.specs.Answers.{by_tests, full, count_of, lent_after};
 ghost use Rattle.words.specs.Turning.{transpose};
-ghost use Rattle.turning.specs.Turn.{bad_nets, wrong_words, turn_answer, turn_back_answer, meaning};
+ghost use Rattle.network.specs.Refusing.{answer_of};
+ghost use Rattle.network.specs.Rows.{has_high_bit, no_room};
+ghost use Rattle.turning.specs.Turn.{wrong_words, turn_answer, turn_back_answer};
 
 use network::Network;
+use network::admitting::admit_nets;
+use network::refusal::{Refusal, refuse_if};
+use words::{Ptv, Stv, Word};
 
-// What the calls *turn* and *turn back* answer: how many words they wrote, or the refusal.
-#[derive(Clone, Copy)]
-pub enum Turned {
-    Wrote(u64),
-    Refused(u64),
-}
-
-// The sequential words of these vectors, one for each net, into the front of `out`.
-pub fn fill_sequential(vectors: &[u64], nets: u64, out: &mut [u64])
-    requires { (length vectors.now ≤ 64) × (nets ≤ 64) × (nets ≤ length out.old) }
-    ensures { out.new ≡ lent_after (full (transpose nets vectors.now)) out.old }
+// Words of a kind, turned, into the front of `out`: of these vectors the sequential words, one for each net, of these
+// sequential words the parallel words, one for each vector. `count` says how many are turned out.
+pub fn fill<W: Word>(rows: &[u64], count: u64, out: &mut [u64])
+where
+    W::Turned: Word,
+    requires { (length rows.now ≤ 64) × (count ≤ 64) × (count ≤ length out.old) }
+    ensures { out.new ≡ lent_after (full (transpose count rows.now)) out.old }
 {
-    let columns = words::turning::columns(vectors, nets);
-    let mut i: u64 = 0;
-    while i < nets {
-        let word = words::turning::sequential_word(&columns, i);
-        out[i as usize] = word.0;
-        i += 1;
+    let columns = words::turning::columns::<W>(rows, count);
+    for i in 0..count {
+        out[i as usize] = words::turning::turned_word::<W>(&columns, i).bits();
     }
-}
-
-// The parallel words of these sequential ones, one for each vector, into the front of `out`.
-pub fn fill_parallel(words: &[u64], count: u64, out: &mut [u64])
-    requires { (length words.now ≤ 64) × (count ≤ 64) × (count ≤ length out.old) }
-    ensures { out.new ≡ lent_after (full (transpose count words.now)) out.old }
-{
-    let columns = words::turning::vector_columns(words, count);
-    let mut t: u64 = 0;
-    while t < count {
-        let vector = words::turning::turned_vector(&columns, t);
-        out[t as usize] = vector.0;
-        t += 1;
-    }
-}
-
-// Row 5: n below 2 or above 48.
-fn bad_nets(nets: u64) -> bool
-    ensures { result ≡ bad_nets nets }
-{
-    network::refusals::bad_net_count(Network {
-        nets: nets,
-        level: 1,
-        gate: 0,
-    })
 }
 
 // Row 7 of sequential words: fewer than 1 vector or more than 64, or words that are not n.
@@ -64,50 +37,59 @@ fn wrong_words(nets: u64, count: u64, words: &[u64]) -> bool
     network::refusals::bad_count(count) | (words.len() as u64 != nets)
 }
 
-// The call *turn*: the sequential words of v vectors, one for each net, into the front of `out`. Rows 5, 7, 8, 12.
-pub fn turn(nets: u64, vectors: &[u64], out: &mut [u64]) -> Turned
-    ensures answer { meaning result
+// Words of a kind, as many as the rows before admit, turned into the front of `out`. Rows 8 and 12.
+#[tactic(auto, using(words::proofs::Columns::transpose_size), unfolding(words::specs::Answers::by_tests, words::specs::Answers::count_of, words::specs::Answers::lent_after))]
+fn turned<W: Word>(rows: &[u64], count: u64, out: &mut [u64]) -> Result<u64, Refusal>
+where
+    W::Turned: Word,
+    requires { (length rows.now ≤ 64) × (count ≤ 64) }
+    ensures answer { answer_of result
+        ≡ count_of (by_tests ((8, has_high_bit count rows.now) ∷ (12, no_room count (length out.old)) ∷ [])
+        (transpose count rows.now)) }
+    ensures list { out.new
+        ≡ lent_after (by_tests ((8, has_high_bit count rows.now) ∷ (12, no_room count (length out.old)) ∷ [])
+        (transpose count rows.now)) out.old }
+{
+    refuse_if(
+        network::refusals::has_high_bit(count, rows),
+        Refusal::VectorBits,
+    )?;
+    refuse_if(
+        network::refusals::no_room(count as usize, out.len()),
+        Refusal::Room,
+    )?;
+    fill::<W>(rows, count, out);
+    Ok(count)
+}
+
+// The call *turn*: the sequential words of v vectors, one for each net, into the front of `out`, and how many they are.
+// Rows 5, 7, 8, 12.
+#[tactic(auto, unfolding(words::specs::Answers::by_tests, words::specs::Answers::count_of, words::specs::Answers::lent_after, crate::specs::Turn::turn_answer))]
+pub fn turn(nets: u64, vectors: &[u64], out: &mut [u64]) -> Result<u64, Refusal>
+    ensures answer { answer_of result
         ≡ count_of (turn_answer nets vectors.now (length out.old)) }
     ensures list { out.new
         ≡ lent_after (turn_answer nets vectors.now (length out.old)) out.old }
 {
-    if bad_nets(nets) {
-        return Turned::Refused(5);
-    }
-    if network::refusals::bad_count(vectors.len() as u64) {
-        return Turned::Refused(7);
-    }
-    if network::refusals::has_high_bit(nets, vectors) {
-        return Turned::Refused(8);
-    }
-    if network::refusals::no_room(nets as usize, out.len()) {
-        return Turned::Refused(12);
-    }
-    fill_sequential(vectors, nets, out);
-    Turned::Wrote(nets)
+    admit_nets(Network::of(nets))?;
+    refuse_if(
+        network::refusals::bad_count(vectors.len() as u64),
+        Refusal::VectorCount,
+    )?;
+    turned::<Ptv>(vectors, nets, out)
 }
 
-// The call *turn back*: from sequential words, one for each net, the v vectors into the front of `out`. Rows 5, 7, 8,
-// 12.
-pub fn turn_back(nets: u64, count: u64, words: &[u64], out: &mut [u64]) -> Turned
-    ensures answer { meaning result
+// The call *turn back*: from sequential words, one for each net, the v vectors into the front of `out`, and how many they
+// are. Rows 5, 7, 8, 12.
+#[tactic(auto, unfolding(words::specs::Answers::by_tests, words::specs::Answers::count_of, words::specs::Answers::lent_after, crate::specs::Turn::turn_back_answer))]
+pub fn turn_back(nets: u64, count: u64, words: &[u64], out: &mut [u64]) -> Result<u64, Refusal>
+    ensures answer { answer_of result
         ≡ count_of (turn_back_answer nets count words.now (length out.old)) }
     ensures list { out.new
         ≡ lent_after (turn_back_answer nets count words.now (length out.old))
         out.old }
 {
-    if bad_nets(nets) {
-        return Turned::Refused(5);
-    }
-    if wrong_words(nets, count, words) {
-        return Turned::Refused(7);
-    }
-    if network::refusals::has_high_bit(count, words) {
-        return Turned::Refused(8);
-    }
-    if network::refusals::no_room(count as usize, out.len()) {
-        return Turned::Refused(12);
-    }
-    fill_parallel(words, count, out);
-    Turned::Wrote(count)
+    admit_nets(Network::of(nets))?;
+    refuse_if(wrong_words(nets, count, words), Refusal::VectorCount)?;
+    turned::<Stv>(words, count, out)
 }

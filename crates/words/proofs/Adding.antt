@@ -1,11 +1,6 @@
 -- The loops that add words as rows to columns: what the columns hold after t rows, a row more, and the end.
-use mathlib.Core.Path.{◌≡◌, sym, ap, ◌∙◌}
-use mathlib.Core.Bool.{Bool, ◌&&◌}
-use mathlib.Core.List.{List, map}
-use Prim.Native.Nat.{ℕ, ◌+◌, ◌-◌, ◌*◌, ◌^◌, ◌≤◌, ◌<◌}
-use native.Mathlib.Omega.{arith}
-use lib.Bits.{bit_and}
-use lib.ListN.{length, take}
+use Rattle.std.proofs.Common.{◌≡◌, sym, ap, ◌∙◌, Bool, ◌&&◌, List, map, ℕ, ◌+◌, ◌-◌, ◌*◌, ◌^◌, ◌≤◌, ◌<◌, arith}
+use Rattle.std.proofs.Common.{bit_and, length, take}
 use Rattle.words.specs.Bits.{has, bit_value, word, at}
 use Rattle.words.specs.Turning.{column, Columns}
 use Rattle.words.proofs.Bits.{has_all, has_and}

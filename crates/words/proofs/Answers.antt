@@ -1,11 +1,6 @@
 -- The table computed is the table said, and it leaves nothing open.
-use mathlib.Core.Path.{◌≡◌, refl, sym, ap, ap₂, ◌∙◌, subst}
-use mathlib.Core.Bool.{Bool, true, false, cond}
-use mathlib.Core.Logic.{◌⊎◌, inl, inr, ◌≢◌}
-use mathlib.Core.List.{List, [], ◌∷◌, ◌++◌}
-use Prim.Native.Nat.{ℕ, ◌≤◌}
-use native.Mathlib.Omega.{arith}
-use lib.ListN.{length, take, drop, length-append, length-drop}
+use Rattle.std.proofs.Common.{◌≡◌, refl, sym, ap, ap₂, ◌∙◌, subst, Bool, true, false, cond, ◌⊎◌, inl, inr, ◌≢◌, List}
+use Rattle.std.proofs.Common.{[], ◌∷◌, ◌++◌, ℕ, ◌≤◌, arith, length, take, drop, length-append, length-drop}
 use lib.Seq.{drop-append_seam, take-append_seam}
 use Rattle.words.specs.Answers.{Answer, refused, full, ByTable, NoneHolds, by_tests, first_number, Decided, lent_after}
 use Rattle.words.specs.Answers.{count_of, Filled, FillsByTable}

@@ -1,16 +1,14 @@
 -- Laws of a word's bits. What stands above goes by `has` and these laws, and not by `/` and `%`.
-use mathlib.Core.Path.{◌≡◌, refl, sym, ap, ap₂, ◌∙◌}
-use mathlib.Core.Bool.{Bool, true, false, not, ◌&&◌, ◌||◌, cond, true≢false, false≢true}
-use mathlib.Core.Logic.{◌≢◌}
-use Prim.Native.Nat.{ℕ, zero, suc, ◌+◌, ◌-◌, ◌*◌, ◌/◌, ◌%◌, ◌^◌, ◌≤◌, ◌<◌, zero-le, min, max}
-use native.Mathlib.Nat.{mod-lt, zero-div, zero-lt-suc, div-one, le_of_suc-le-suc, lt_of_not-le, not-suc-le-zero}
-use native.Mathlib.Numerals.{one-add}
-use native.Mathlib.Omega.{arith}
-use lib.Dec.{eqb, eqb-zero-suc, eqb-suc-zero, eqb-suc-suc}
+use Rattle.std.proofs.Common.{◌≡◌, refl, sym, ap, ap₂, ◌∙◌, Bool, true, false, not, ◌&&◌, ◌||◌, cond, true≢false, ◌≢◌}
+use Rattle.std.proofs.Common.{ℕ, zero, suc, ◌+◌, ◌-◌, ◌*◌, ◌/◌, ◌%◌, ◌^◌, ◌≤◌, ◌<◌, zero-le, min, max, mod-lt}
+use Rattle.std.proofs.Common.{zero-lt-suc, div-one, le_of_suc-le-suc, lt_of_not-le, not-suc-le-zero, one-add, arith}
+use Rattle.std.proofs.Common.{eqb, bit_and, bit_or, bit_xor, pow_pos, pow_mono, shr-shr, eq-eqb, ne_eqb, eqb-true}
+use mathlib.Core.Bool.{false≢true}
+use native.Mathlib.Nat.{zero-div}
+use lib.Dec.{eqb-zero-suc, eqb-suc-zero, eqb-suc-suc}
 use lib.Arith.{digits_mod, lt-one}
-use lib.Bits.{bit_and, bit_or, bit_xor, differ, and_step, or_step, xor_step, and_shr, or_shr, xor_shr, or_shifted}
-use lib.Pow.{pow_pos, pow-lt, pow_mono, shr-shr, split}
-use borrow.Author.Tests.{eq-eqb, ne_eqb, eqb-true}
+use lib.Bits.{differ, and_step, or_step, xor_step, and_shr, or_shr, xor_shr, or_shifted}
+use lib.Pow.{pow-lt, split}
 use mir.Val.{bool_byte}
 use Rattle.words.specs.Bits.{bit, has, bit_value}
 use Rattle.words.proofs.Tests.{and_true, and_false}

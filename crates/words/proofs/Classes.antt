@@ -1,14 +1,12 @@
 -- Counts of ones, and trailing zeros.
-use mathlib.Core.Path.{◌≡◌, refl, sym, ap, ap₂, ◌∙◌}
-use mathlib.Core.Bool.{true, false}
-use Prim.Native.Nat.{ℕ, zero, suc, ◌+◌, ◌-◌, ◌*◌, ◌/◌, ◌%◌, ◌^◌, ◌≤◌, ◌<◌, zero-le, min}
-use native.Mathlib.Nat.{mod-eq_of_lt, lt_of_not-le, mod-lt, not-suc-le-zero, le_of_suc-le-suc, pow-suc, mod-one, add-zero, one-mul}
-use native.Mathlib.Omega.{arith}
+use Rattle.std.proofs.Common.{◌≡◌, refl, sym, ap, ap₂, ◌∙◌, true, false, ℕ, zero, suc, ◌+◌, ◌-◌, ◌*◌, ◌/◌, ◌%◌, ◌^◌}
+use Rattle.std.proofs.Common.{◌≤◌, ◌<◌, zero-le, min, mod-eq_of_lt, lt_of_not-le, mod-lt, not-suc-le-zero}
+use Rattle.std.proofs.Common.{le_of_suc-le-suc, pow-suc, add-zero, one-mul, arith, bit_and, pow_pos, eq-eqb, ne_eqb}
+use native.Mathlib.Nat.{mod-one}
 use lib.Arith.{lt-one, mod-mul, bin_ind}
-use lib.Bits.{bit_and, and_step, and_self}
-use lib.Pow.{pow_pos, split}
+use lib.Bits.{and_step, and_self}
+use lib.Pow.{split}
 use lib.Count.{ones, ones_in, ones_step, ones_cat, count_trailing_zeros, under}
-use borrow.Author.Tests.{eq-eqb, ne_eqb}
 use Rattle.words.specs.Bits.{has, ones_of}
 use Rattle.words.proofs.Bits.{two_positive, has_half, has_low}
 

@@ -1,5 +1,5 @@
 -- The facts of a contract's named clauses, as its `ensures` joins them, and all as one.
-use mathlib.Core.List.{List, [], ◌∷◌}
+use Rattle.std.proofs.Common.{List, [], ◌∷◌}
 use seplogic.Ra.Ura.{Ura}
 use base.Logic.{SProp, ent, sep, emp, id⊢, via, comm∗, emp∗, mono∗, mono_l, fst∗, snd∗}
 use types.Logic.{Logic}

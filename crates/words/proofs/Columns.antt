@@ -1,10 +1,6 @@
 -- Laws of turning: which bits the turned words have, and that turning back gives what went in.
-use mathlib.Core.Path.{◌≡◌, refl, ap, ◌∙◌}
-use mathlib.Core.List.{List}
-use Prim.Native.Nat.{ℕ, zero, suc, ◌^◌, ◌<◌}
-use native.Mathlib.Nat.{le_of_suc-le-suc, not-suc-le-zero}
-use lib.ListN.{length}
-use lib.Seq.{ext_get_or}
+use Rattle.std.proofs.Common.{◌≡◌, refl, ap, ◌∙◌, List, ℕ, zero, suc, ◌^◌, ◌<◌, le_of_suc-le-suc, not-suc-le-zero}
+use Rattle.std.proofs.Common.{length, ext_get_or}
 use Rattle.words.specs.Bits.{has, at}
 use Rattle.words.specs.Turning.{tabulate, column, transpose}
 use Rattle.words.proofs.Bits.{words_equal}

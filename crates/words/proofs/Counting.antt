@@ -1,17 +1,11 @@
 -- How many words a class has, the entries of their list, and the search in it.
-use mathlib.Core.Path.{◌≡◌, refl, sym, ap, ◌∙◌}
-use mathlib.Core.Bool.{Bool, true, false, ◌&&◌}
-use mathlib.Core.List.{List, [], ◌∷◌, ◌++◌}
-use Prim.Native.Nat.{ℕ, zero, suc, ◌+◌, ◌-◌, ◌^◌, ◌≤◌, ◌<◌}
-use native.Mathlib.Nat.{not-suc-le-zero, le_of_suc-le-suc, le_refl}
-use native.Mathlib.Omega.{arith}
-use lib.Dec.{leb, leb-zero, leb-suc-suc}
-use lib.Pow.{pow_pos, pow_mono}
+use Rattle.std.proofs.Common.{◌≡◌, refl, sym, ap, ◌∙◌, Bool, true, false, ◌&&◌, List, [], ◌∷◌, ◌++◌, ℕ, zero, suc}
+use Rattle.std.proofs.Common.{◌+◌, ◌-◌, ◌^◌, ◌≤◌, ◌<◌, not-suc-le-zero, le_of_suc-le-suc, le_refl, arith, leb}
+use Rattle.std.proofs.Common.{pow_pos, pow_mono, length, get_or-take, leb-true, le-leb}
+use lib.Dec.{leb-zero, leb-suc-suc}
 use lib.Count.{ones}
-use lib.ListN.{length}
-use lib.Seq.{get_or-take}
-use borrow.Author.Tests.{leb-true, le-leb, lt-leb}
-use Rattle.words.specs.declared.Search.TheVariants.{Found, Missing}
+use borrow.Author.Tests.{lt-leb}
+use Rattle.std.specs.Prelude.{Some, None}
 use Rattle.words.specs.Bits.{at}
 use Rattle.words.specs.Searching.{least, passing, sets_of_class}
 use Rattle.words.specs.Counting.{class_size}
@@ -200,11 +194,11 @@ sets_grow k = count_grows (λ z. leb (ones z) k)
 
 module _ (k b : ℕ) (q : ℕ → Bool) where
   pub least_in_class : (m : ℕ) → m < length (sets_of_class k b) → q (at (sets_of_class k b) m) ≡ true
-      → ((j : ℕ) → j < m → q (at (sets_of_class k b) j) ≡ false) → least b 0 (λ a. leb (ones a) k && q a) ≡ Found (at (sets_of_class k b) m)
+      → ((j : ℕ) → j < m → q (at (sets_of_class k b) j) ≡ false) → least b 0 (λ a. leb (ones a) k && q a) ≡ Some (at (sets_of_class k b) m)
   unfolding sets_of_class
   least_in_class = least_in (λ z. leb (ones z) k) b q
 
   pub none_in_class : ((j : ℕ) → j < length (sets_of_class k b) → q (at (sets_of_class k b) j) ≡ false)
-      → least b 0 (λ a. leb (ones a) k && q a) ≡ Missing
+      → least b 0 (λ a. leb (ones a) k && q a) ≡ None
   unfolding sets_of_class
   none_in_class = none_in (λ z. leb (ones z) k) b q

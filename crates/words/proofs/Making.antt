@@ -1,16 +1,11 @@
 -- Words made bit by bit, and lists filled from the front, as loops do it.
-use mathlib.Core.Path.{◌≡◌, refl, sym, ap, ap₂, ◌∙◌}
-use mathlib.Core.Bool.{Bool, true, false}
-use mathlib.Core.List.{List, [], ◌∷◌, ◌++◌, map}
-use Prim.Native.Nat.{ℕ, zero, suc, ◌+◌, ◌*◌, ◌%◌, ◌^◌, ◌≤◌, ◌<◌}
-use native.Mathlib.Nat.{pow-suc, one-mul, le_of_suc-le-suc, not-suc-le-zero}
-use native.Mathlib.Numerals.{add-one}
-use native.Mathlib.Omega.{arith}
-use lib.Dec.{lit<}
-use lib.Pow.{shl_exact}
-use lib.ListN.{length, take, drop, get_or, set, length-map}
-use lib.Seq.{take-suc, drop-cons, set_at, length-take-le, append_snoc, take_all}
-use lib.Bits.{bit_or, or_shifted_r}
+use Rattle.std.proofs.Common.{◌≡◌, refl, sym, ap, ap₂, ◌∙◌, Bool, true, false, List, [], ◌∷◌, ◌++◌, map, ℕ, zero, suc}
+use Rattle.std.proofs.Common.{◌+◌, ◌*◌, ◌%◌, ◌^◌, ◌≤◌, ◌<◌, pow-suc, one-mul, le_of_suc-le-suc, not-suc-le-zero}
+use Rattle.std.proofs.Common.{add-one, arith, lit<, shl_exact, length, take, drop, get_or, set, take-suc, drop-cons}
+use Rattle.std.proofs.Common.{length-take-le, take_all, bit_or}
+use lib.ListN.{length-map}
+use lib.Seq.{set_at, append_snoc}
+use lib.Bits.{or_shifted_r}
 use Rattle.words.specs.Bits.{has, bit_value, word, at}
 use Rattle.words.proofs.Bits.{has_zero, has_lowest, has_rest, bit_value_below_two, bit_value_is, words_equal}
 

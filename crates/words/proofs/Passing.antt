@@ -1,14 +1,10 @@
 -- Laws of the list of the numbers that pass a test.
-use mathlib.Core.Path.{◌≡◌, refl, sym, ap, ◌∙◌}
-use mathlib.Core.Bool.{Bool, true, false, cond, ◌&&◌}
-use mathlib.Core.Logic.{⊎_elim}
-use mathlib.Core.List.{List, [], ◌∷◌, ◌++◌}
-use Prim.Native.Nat.{ℕ, zero, suc, ◌+◌, ◌≤◌, ◌<◌}
-use native.Mathlib.Nat.{not-suc-le-zero, eq-or-lt_of_le, le_of_suc-le-suc, le_refl, add-zero, add-suc}
-use native.Mathlib.Omega.{arith}
-use lib.ListN.{length, take, length-append, get_or-append}
+use Rattle.std.proofs.Common.{◌≡◌, refl, sym, ap, ◌∙◌, Bool, true, false, cond, ◌&&◌, ⊎_elim, List, [], ◌∷◌, ◌++◌, ℕ}
+use Rattle.std.proofs.Common.{zero, suc, ◌+◌, ◌≤◌, ◌<◌, not-suc-le-zero, eq-or-lt_of_le, le_of_suc-le-suc, le_refl}
+use Rattle.std.proofs.Common.{add-zero, add-suc, arith, length, take, length-append}
+use lib.ListN.{get_or-append}
 use lib.Seq.{get_or_at, take-length, take-append-le}
-use Rattle.words.specs.declared.Search.TheVariants.{Found, Missing}
+use Rattle.std.specs.Prelude.{Some, None}
 use Rattle.words.specs.Bits.{at, bit_value}
 use Rattle.words.specs.Searching.{least, passing}
 use Rattle.words.proofs.Bits.{bit_value_below_two}
@@ -132,11 +128,11 @@ module _ (p : ℕ → Bool) where
         (λ e. rw e) (cases (p z))
 
     pub least_in : (m : ℕ) → m < length (passing p b) → q (at (passing p b) m) ≡ true → ((j : ℕ) → j < m → q (at (passing p b) j) ≡ false)
-        → least b 0 (λ a. p a && q a) ≡ Found (at (passing p b) m)
+        → least b 0 (λ a. p a && q a) ≡ Some (at (passing p b) m)
     least_in m l e h =
         let r : Entry p b m (at (passing p b) m) = entry_is b m l in
         least_found (λ a. p a && q a) b (at (passing p b) m) r.below
         (λ z i. fails z (omega arith) (λ f. h _ (rw (← r.index) (count_grows_past z (at (passing p b) m) i f)))) (and_both r.passes e)
 
-    pub none_in : ((j : ℕ) → j < length (passing p b) → q (at (passing p b) j) ≡ false) → least b 0 (λ a. p a && q a) ≡ Missing
+    pub none_in : ((j : ℕ) → j < length (passing p b) → q (at (passing p b) j) ≡ false) → least b 0 (λ a. p a && q a) ≡ None
     none_in h = least_missing (λ a. p a && q a) b (λ z i. fails z i (λ f. h _ (count_grows_past z b i f)))

@@ -1,14 +1,7 @@
 -- Things with a place each.
-use mathlib.Core.Path.{◌≡◌, sym, ap, ◌∙◌}
-use mathlib.Core.Bool.{true, false, cond}
-use mathlib.Core.Logic.{◌⊎◌, inl, inr, ⊎_elim, ◌≢◌}
-use mathlib.Core.List.{List}
-use Prim.Native.Nat.{ℕ, zero, suc, ◌≤◌, ◌<◌}
-use native.Mathlib.Nat.{not-suc-le-zero}
-use native.Mathlib.Omega.{arith}
-use lib.Dec.{eqb}
-use lib.ListN.{length}
-use borrow.Author.Tests.{eqb-true, eqb-false}
+use Rattle.std.proofs.Common.{◌≡◌, sym, ap, ◌∙◌, true, false, cond, ◌⊎◌, inl, inr, ⊎_elim, ◌≢◌, List, ℕ, zero, suc}
+use Rattle.std.proofs.Common.{◌≤◌, ◌<◌, not-suc-le-zero, arith, eqb, length, eqb-true}
+use borrow.Author.Tests.{eqb-false}
 use Rattle.words.specs.Bits.{at}
 use Rattle.words.specs.Searching.{or_zero, any, position}
 use Rattle.words.proofs.Tests.{cases, not_less}

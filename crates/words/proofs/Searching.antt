@@ -1,16 +1,11 @@
 -- Laws of the search for the smallest.
-use mathlib.Core.Path.{◌≡◌, refl, sym, ap, ◌∙◌, subst}
-use mathlib.Core.Bool.{Bool, true, false, ◌||◌, true≢false, false≢true}
-use mathlib.Core.Logic.{⊎_elim}
-use mathlib.Core.List.{List}
-use Prim.Native.Nat.{ℕ, zero, suc, ◌+◌, ◌≤◌, ◌<◌, zero-le}
-use native.Mathlib.Nat.{not-suc-le-zero, eq-or-lt_of_le, le_refl, zero-add}
-use native.Mathlib.Omega.{arith}
-use lib.Dec.{eqb}
-use lib.ListN.{length}
-use borrow.Author.Tests.{eq-eqb, eqb-true, eqb-false}
-use Rattle.words.specs.declared.Search.{Search}
-use Rattle.words.specs.declared.Search.TheVariants.{Found, Missing}
+use Rattle.std.proofs.Common.{◌≡◌, refl, sym, ap, ◌∙◌, subst, Bool, true, false, ◌||◌, true≢false, ⊎_elim, List, ℕ}
+use Rattle.std.proofs.Common.{zero, suc, ◌+◌, ◌≤◌, ◌<◌, zero-le, not-suc-le-zero, eq-or-lt_of_le, le_refl, zero-add}
+use Rattle.std.proofs.Common.{arith, eqb, length, eq-eqb, eqb-true}
+use mathlib.Core.Bool.{false≢true}
+use borrow.Author.Tests.{eqb-false}
+use Rattle.std.specs.Prelude.{Option}
+use Rattle.std.specs.Prelude.{Some, None}
 use Rattle.words.specs.Answers.{Decides}
 use Rattle.words.specs.Bits.{at}
 use Rattle.words.specs.Searching.{least, is_found, or_zero, any, position, among}
@@ -18,23 +13,23 @@ use Rattle.words.proofs.Tests.{contrary, same_truth, or_right, or_cases, less_or
 
 module _ (p : ℕ → Bool) where
   -- what a search from x to e finds
-  pub data Least (x e : ℕ) : Search → Type 0 where
-    first : {y : ℕ} → x ≤ y → y < e → p y ≡ true → ((z : ℕ) → x ≤ z → z < y → p z ≡ false) → Least x e (Found y)
-    nowhere : ((z : ℕ) → x ≤ z → z < e → p z ≡ false) → Least x e Missing
+  pub data Least (x e : ℕ) : Option ℕ → Type 0 where
+    first : {y : ℕ} → x ≤ y → y < e → p y ≡ true → ((z : ℕ) → x ≤ z → z < y → p z ≡ false) → Least x e (Some y)
+    nowhere : ((z : ℕ) → x ≤ z → z < e → p z ≡ false) → Least x e None
 
   least_is : (d x e : ℕ) → x + d ≡ e → Least x e (least d x p)
   unfolding least
   least_is zero x e q = nowhere (λ z l m. absurd (not-suc-le-zero {n = 0} (omega arith)))
   least_is (suc d) x e q = go (p x) refl (least_is d (suc x) e (omega arith))
     where
-      step : (s : Search) → p x ≡ false → Least (suc x) e s → Least x e s
-      step (Found y) f (first a b c g) =
+      step : (s : Option ℕ) → p x ≡ false → Least (suc x) e s → Least x e s
+      step (Some y) f (first a b c g) =
           first {y = y} (omega arith) b c
           (λ z l m. ⊎_elim (λ q. ap p (sym q) ∙ f) (λ k. g z k m) (eq-or-lt_of_le l))
-      step Missing f (nowhere g) = nowhere (λ z l m. ⊎_elim (λ q. ap p (sym q) ∙ f) (λ k. g z k m) (eq-or-lt_of_le l))
+      step None f (nowhere g) = nowhere (λ z l m. ⊎_elim (λ q. ap p (sym q) ∙ f) (λ k. g z k m) (eq-or-lt_of_le l))
 
       go : (b : Bool) → p x ≡ b → Least (suc x) e (least d (suc x) p)
-          → Least x e (elim b as (λ _. Search) [ true ↦ Found x | false ↦ least d (suc x) p ])
+          → Least x e (elim b as (λ _. Option ℕ) [ true ↦ Some x | false ↦ least d (suc x) p ])
       go true f r = first {y = x} (le_refl x) (omega arith) f (λ z l m. absurd (not-suc-le-zero {n = 0} (omega arith)))
       go false f r = step (least d (suc x) p) f r
 
@@ -43,22 +38,22 @@ module _ (p : ℕ → Bool) where
 
   -- ---- what a loop that goes upward has found
 
-  pub least_found : (n y : ℕ) → y < n → ((z : ℕ) → z < y → p z ≡ false) → p y ≡ true → least n 0 p ≡ Found y
+  pub least_found : (n y : ℕ) → y < n → ((z : ℕ) → z < y → p z ≡ false) → p y ≡ true → least n 0 p ≡ Some y
   least_found n y l h e = go (least n 0 p) (least_below n)
     where
-      go : (s : Search) → Least 0 n s → s ≡ Found y
-      go (Found x) (first a b c g) =
+      go : (s : Option ℕ) → Least 0 n s → s ≡ Some y
+      go (Some x) (first a b c g) =
           let up : x < y → ⊥ = λ m. contrary c (h x m) in
           let down : y < x → ⊥ = λ m. contrary e (g y zero-le m) in
-          let q : x ≡ y = omega (arith, up, down) in ap Found q
-      go Missing (nowhere g) = contrary e (g y zero-le l)
+          let q : x ≡ y = omega (arith, up, down) in ap Some q
+      go None (nowhere g) = contrary e (g y zero-le l)
 
-  pub least_missing : (n : ℕ) → ((z : ℕ) → z < n → p z ≡ false) → least n 0 p ≡ Missing
+  pub least_missing : (n : ℕ) → ((z : ℕ) → z < n → p z ≡ false) → least n 0 p ≡ None
   least_missing n h = go (least n 0 p) (least_below n)
     where
-      go : (s : Search) → Least 0 n s → s ≡ Missing
-      go (Found x) (first a b c g) = contrary c (h x b)
-      go Missing r = refl
+      go : (s : Option ℕ) → Least 0 n s → s ≡ None
+      go (Some x) (first a b c g) = contrary c (h x b)
+      go None r = refl
 
   -- ---- some number below n passes
 
@@ -66,9 +61,9 @@ module _ (p : ℕ → Bool) where
   unfolding any is_found
   any_at n i l e = go (least n 0 p) (least_below n)
     where
-      go : (s : Search) → Least 0 n s → is_found s ≡ true
-      go (Found x) r = refl
-      go Missing (nowhere g) = contrary e (g i zero-le l)
+      go : (s : Option ℕ) → Least 0 n s → is_found s ≡ true
+      go (Some x) r = refl
+      go None (nowhere g) = contrary e (g i zero-le l)
 
   pub any_none : (n : ℕ) → ((i : ℕ) → i < n → p i ≡ false) → any n p ≡ false
   unfolding any is_found
@@ -78,17 +73,17 @@ module _ (p : ℕ → Bool) where
   unfolding any is_found
   any_some n e = go (least n 0 p) (least_below n) e
     where
-      go : (s : Search) → Least 0 n s → is_found s ≡ true → (i : ℕ) × (i < n) × (p i ≡ true)
-      go (Found x) (first a b c g) q = (x, b, c)
-      go Missing r q = absurd (false≢true q)
+      go : (s : Option ℕ) → Least 0 n s → is_found s ≡ true → (i : ℕ) × (i < n) × (p i ≡ true)
+      go (Some x) (first a b c g) q = (x, b, c)
+      go None r q = absurd (false≢true q)
 
   pub any_false : (n i : ℕ) → i < n → any n p ≡ false → p i ≡ false
   unfolding any is_found
   any_false n i l e = go (least n 0 p) (least_below n) e
     where
-      go : (s : Search) → Least 0 n s → is_found s ≡ false → p i ≡ false
-      go (Found x) r q = absurd (true≢false q)
-      go Missing (nowhere g) q = g i zero-le l
+      go : (s : Option ℕ) → Least 0 n s → is_found s ≡ false → p i ≡ false
+      go (Some x) r q = absurd (true≢false q)
+      go None (nowhere g) q = g i zero-le l
 
   -- one number more
   pub any_more : (n : ℕ) → any (n + 1) p ≡ any n p || p n
@@ -117,9 +112,9 @@ module _ (p : ℕ → Bool) where
 pub least_same : (p q : ℕ → Bool) (n : ℕ) → ((z : ℕ) → z < n → p z ≡ q z) → least n 0 p ≡ least n 0 q
 least_same p q n h = go (least n 0 q) (least_below q n)
   where
-    go : (s : Search) → Least q 0 n s → least n 0 p ≡ s
-    go (Found y) (first a b c g) = least_found p n y b (λ z l. h z (omega arith) ∙ g z zero-le l) (h y b ∙ c)
-    go Missing (nowhere g) = least_missing p n (λ z l. h z l ∙ g z zero-le l)
+    go : (s : Option ℕ) → Least q 0 n s → least n 0 p ≡ s
+    go (Some y) (first a b c g) = least_found p n y b (λ z l. h z (omega arith) ∙ g z zero-le l) (h y b ∙ c)
+    go None (nowhere g) = least_missing p n (λ z l. h z l ∙ g z zero-le l)
 
 -- ---- a word in a list
 
@@ -132,9 +127,9 @@ module _ (w : ℕ) (ws : List ℕ) where
       → (or_zero (position w ws) < length ws) × (at ws (or_zero (position w ws)) ≡ w)
   position_found (t, l, e) = go (position w ws) position_is
     where
-      go : (s : Search) → Least (λ x. eqb (at ws x) w) 0 (length ws) s → (or_zero s < length ws) × (at ws (or_zero s) ≡ w)
-      go (Found x) (first a b c g) = (b, eqb-true _ _ c)
-      go Missing (nowhere g) = contrary (eq-eqb _ _ e) (g t zero-le l)
+      go : (s : Option ℕ) → Least (λ x. eqb (at ws x) w) 0 (length ws) s → (or_zero s < length ws) × (at ws (or_zero s) ≡ w)
+      go (Some x) (first a b c g) = (b, eqb-true _ _ c)
+      go None (nowhere g) = contrary (eq-eqb _ _ e) (g t zero-le l)
 
   pub decides_among : Decides (among w ws) ((t : ℕ) × (t < length ws) × (at ws t ≡ w))
   unfolding among position any

@@ -1,10 +1,8 @@
 -- Laws of writing into a list.
-use mathlib.Core.Path.{◌≡◌, sym, ap, ap₂, ◌∙◌}
-use mathlib.Core.List.{List, [], ◌∷◌, ◌++◌, append_assoc, append-nil}
-use Prim.Native.Nat.{ℕ, suc, ◌+◌, ◌≤◌, ◌<◌}
-use native.Mathlib.Omega.{arith}
-use lib.ListN.{length, take, drop, set, length-append, length-drop, take-append-drop}
-use lib.Seq.{length-take-le, take_at, drop-drop, drop-append-add, set_split}
+use Rattle.std.proofs.Common.{◌≡◌, sym, ap, ap₂, ◌∙◌, List, [], ◌∷◌, ◌++◌, append_assoc, append-nil, ℕ, suc, ◌+◌, ◌≤◌}
+use Rattle.std.proofs.Common.{◌<◌, arith, length, take, drop, set, length-append, length-drop, take-append-drop}
+use Rattle.std.proofs.Common.{length-take-le, take_at, drop-drop}
+use lib.Seq.{drop-append-add, set_split}
 use Rattle.words.specs.Answers.{lent_after, full}
 use Rattle.words.specs.Writing.{written}
 

@@ -2,22 +2,22 @@
 use Rattle.std.specs.Prelude.{ℕ, zero, suc, Bool, true, false, cond, List, [], ◌∷◌, ◌++◌, eqb, leb, length}
 use Rattle.std.specs.Int.Count.{ones}
 use Rattle.words.specs.Bits.{at}
-use Rattle.words.specs.declared.Search.{Search}
-use Rattle.words.specs.declared.Search.TheVariants.{Found, Missing}
+use Rattle.std.specs.Prelude.{Option}
+use Rattle.std.specs.Prelude.{Some, None}
 
 -- of the d numbers from x on, the smallest that passes
-unfoldable pub least : ℕ → ℕ → (ℕ → Bool) → Search
-least zero x p = Missing
-least (suc d) x p = elim (p x) [ true ↦ Found x | false ↦ least d (suc x) p ]
+unfoldable pub least : ℕ → ℕ → (ℕ → Bool) → Option ℕ
+least zero x p = None
+least (suc d) x p = elim (p x) [ true ↦ Some x | false ↦ least d (suc x) p ]
 
-unfoldable pub is_found : Search → Bool
-is_found (Found x) = true
-is_found Missing = false
+unfoldable pub is_found : Option ℕ → Bool
+is_found (Some x) = true
+is_found None = false
 
 -- the number found, and 0 where there is none
-abbrev pub or_zero : Search → ℕ
-or_zero (Found x) = x
-or_zero Missing = 0
+abbrev pub or_zero : Option ℕ → ℕ
+or_zero (Some x) = x
+or_zero None = 0
 
 -- the numbers below n that pass, ascending
 unfoldable pub passing : (ℕ → Bool) → ℕ → List ℕ
@@ -33,7 +33,7 @@ unfoldable pub any : ℕ → (ℕ → Bool) → Bool
 any n p = is_found (least n 0 p)
 
 -- where a word stands first in a list
-unfoldable pub position : ℕ → List ℕ → Search
+unfoldable pub position : ℕ → List ℕ → Option ℕ
 position w ws = least (length ws) 0 (λ t. eqb (at ws t) w)
 
 -- whether a word stands in a list

@@ -2,14 +2,10 @@
 ghost use Rattle.std.specs.Prelude.{◌≡◌, ◌≤◌, length};
 ghost use Rattle.words.specs.Answers.{lent_after, full};
 
-// The words into the front of `out`; the rest of `out` is kept.
-pub fn copy_words(from: &[u64], out: &mut [u64])
+// Words, or bytes, into the front of `out`; the rest of `out` is kept.
+pub fn copy_words<T: Copy>(from: &[T], out: &mut [T])
     requires { length from.now ≤ length out.old }
     ensures { out.new ≡ lent_after (full from.now) out.old }
 {
-    let mut t: usize = 0;
-    while t < from.len() {
-        out[t] = from[t];
-        t += 1;
-    }
+    out[..from.len()].copy_from_slice(from);
 }

@@ -7,6 +7,11 @@ ghost use Rattle.words.specs.Searching.{sets_of_class};
 
 use crate::sets::bit_word;
 
+// How many sets there are of at most two, and of at most three, of 48 drivers.
+const AT_MOST_TWO: u64 = 1177;
+
+const AT_MOST_THREE: u64 = 18473;
+
 // The set at an index among the sets of at most one driver: the empty one, then each driver alone.
 fn one_at(index: u64) -> u64
     requires { index ≤ 48 }
@@ -25,6 +30,7 @@ fn two_at(index: u64, drivers: u64, size: u64) -> u64
     }
     let mut driver = drivers;
     let mut two = size;
+    // A `while`: it runs down until the sets of lower drivers end at or before the index.
     while index < two {
         driver -= 1;
         two -= driver + 1;
@@ -41,8 +47,9 @@ fn three_at(index: u64) -> u64
         return 0;
     }
     let mut driver: u64 = 48;
-    let mut two: u64 = 1177;
-    let mut three: u64 = 18473;
+    let mut two = AT_MOST_TWO;
+    let mut three = AT_MOST_THREE;
+    // A `while`, as in `two_at`.
     while index < three {
         driver -= 1;
         two -= driver + 1;
@@ -56,11 +63,9 @@ pub fn set_at(class: u64, index: u64) -> u64
     requires { (class ≤ 3) × (index < length (sets_of_class class (2 ^ 48))) }
     ensures { result ≡ at (sets_of_class class (2 ^ 48)) index }
 {
-    if class == 3 {
-        three_at(index)
-    } else if class == 2 {
-        two_at(index, 48, 1177)
-    } else {
-        one_at(index)
+    match class {
+        3 => three_at(index),
+        2 => two_at(index, 48, AT_MOST_TWO),
+        _ => one_at(index),
     }
 }

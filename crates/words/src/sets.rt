@@ -17,7 +17,7 @@ pub fn low_ones(count: u64) -> u64
     ensures { result ≡ 2 ^ count - 1 }
 {
     if count == 64 {
-        return 18446744073709551615;
+        return u64::MAX;
     }
     bit_word(count) - 1
 }

@@ -1,2 +1,4 @@
-pub mod WriteLoops
 pub mod WriterLaws
+pub mod Appending
+pub mod ContentLaws
+pub mod WriteRows

@@ -1,15 +1,9 @@
 -- The call *write a job file*: how long its file is, and that it answers as its rows and its result say, with nothing
 -- left open.
-use mathlib.Core.Path.{◌≡◌, refl, sym, ◌∙◌}
-use mathlib.Core.Bool.{false, ◌&&◌, true≢false, false≢true}
-use mathlib.Core.Logic.{◌≢◌}
-use mathlib.Core.List.{List, [], ◌∷◌, ◌++◌}
-use Prim.Native.Nat.{ℕ, ◌+◌, ◌*◌, ◌≤◌, ◌<◌}
-use native.Mathlib.Nat.{not-suc-le-zero}
-use native.Mathlib.Omega.{arith}
-use lib.Dec.{eqb, ltb}
-use lib.ListN.{length, length-append}
-use borrow.Author.Tests.{lt-ltb, eqb-true, not-false}
+use Rattle.std.proofs.Common.{◌≡◌, refl, sym, ◌∙◌, false, ◌&&◌, true≢false, ◌≢◌, List, [], ◌∷◌, ◌++◌, ℕ, ◌+◌, ◌*◌}
+use Rattle.std.proofs.Common.{◌≤◌, ◌<◌, not-suc-le-zero, arith, eqb, ltb, length, length-append, lt-ltb, eqb-true}
+use mathlib.Core.Bool.{false≢true}
+use borrow.Author.Tests.{not-false}
 use Rattle.words.specs.Answers.{Answer, ByTable, Decides, Decided}
 use Rattle.words.proofs.Answers.{decided_append, tests_by_table, table_determined}
 use Rattle.words.proofs.Tests.{decides_and, decides_not}

@@ -1,2 +1,3 @@
 pub mod Writer
+pub mod Content
 pub mod Open

@@ -1,13 +1,11 @@
 -- The call *write a job file*: rows 2, 5, 6, 17, 20, 7, 8, 9, 10, 12.
 use Rattle.std.specs.Prelude.{ℕ, ◌+◌, ◌*◌, Bool, true, false, not, ◌&&◌, ◌≢◌, List, [], ◌∷◌, ◌++◌, length}
-use Rattle.words.specs.Answers.{Answer, refused, full, by_tests}
+use Rattle.words.specs.Answers.{Answer, by_tests}
 use Rattle.network.specs.declared.Network.{Network}
 use Rattle.network.specs.Rows.{SetRows, Row9, HighBit, Row12, set_tests, bad_response_count, has_high_bit, no_room}
 use Rattle.jobfile.specs.Bytes.{bytes_of, word_bytes}
 use Rattle.jobfile.specs.VectorsBody.{VectorsKind, vectors_kind, vectors_bytes}
 use Rattle.jobfile.specs.Layout.{mark, bodies_at, nets_bytes, nets_size}
-use Rattle.writer.specs.declared.Wrote.{Wrote}
-use Rattle.writer.specs.declared.Wrote.TheVariants.{Bytes, Refused}
 
 -- kind, offset and length
 abbrev pub entry_bytes : ℕ → ℕ → ℕ → List ℕ
@@ -78,8 +76,3 @@ writer_tests kind net k vectors responses room = (2, bad_kind kind) ∷ set_test
 -- the call's answer, computed
 unfoldable pub write_answer : ℕ → Network → ℕ → (vectors responses : List ℕ) → ℕ → Answer (List ℕ)
 write_answer kind net k vectors responses room = by_tests (writer_tests kind net k vectors responses room) (file_of kind net k vectors responses)
-
--- document 01's number and values for each case of the answer
-abbrev pub meaning : Wrote → Answer ℕ
-meaning (Bytes count) = full count
-meaning (Refused number) = refused number

@@ -1,11 +1,11 @@
-use mathlib.Core.Path.{◌∙◌}
-use Rattle.exports.proofs.CallLaws.{stepped_code}
+use Rattle.std.proofs.Common.{◌∙◌}
+use Rattle.exports.proofs.CallLaws.{answered_code, stepped_code}
 use Rattle.agreement.proofs.first_answers.Goals as goal
 
 pub returns : goal.returns
 returns c = let done = c.first_answers in
     record {
-      returned = done.ensures.code ∙ stepped_code _ _ _;
+      returned = answered_code done.result ∙ done.ensures.code ∙ stepped_code _ _ _;
       session = done.ensures.session;
       list = done.ensures.list;
     }

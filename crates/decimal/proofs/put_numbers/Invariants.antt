@@ -1,10 +1,7 @@
-use Prim.Native.Nat.{◌-◌}
-use lib.ListN.{length}
-use Rattle.decimal.proofs.NumbersPut.{Put}
+use Rattle.std.proofs.Common.{◌≡◌, ◌++◌, drop}
+use Rattle.decimal.specs.Decimal.{numbers_end}
 use Rattle.decimal.proofs.put_numbers.Given as goal
 
-abbrev pub invariant-loop-i : goal.invariant-loop-i
-invariant-loop-i l = Put l.initial.text l.at l.numbers l.text l.end l.i
-
-abbrev pub decreases-loop-i : goal.decreases-loop-i
-decreases-loop-i l = length l.numbers - l.i
+-- the rest of the line makes the text whole
+abbrev pub invariant-loop-n : goal.invariant-loop-n
+invariant-loop-n l = l.text.items ++ numbers_end (drop l.n-index l.numbers) ≡ l.initial.text.items ++ numbers_end l.numbers

@@ -1,17 +1,12 @@
-use borrow.Author.Tests.{ltb-false, not-false, eqb-true}
-use Prim.Native.Nat.{ℕ, ◌≤◌}
-use mathlib.Core.Path.{◌≡◌, sym, ap, ◌∙◌}
-use mathlib.Core.Bool.{true, false}
-use mathlib.Core.List.{List}
-use lib.ListN.{length}
-use Rattle.words.specs.Answers.{NoneHolds, refused, full, by_tests}
+use Rattle.std.proofs.Common.{ℕ, ◌≡◌, true, false, List, length, sym, ap, ◌∙◌, ltb-false, eqb-true}
+use Rattle.std.proofs.lemmas.Bool.{not-false}
+use Rattle.std.proofs.lemmas.Result.{err_from_is_err_and}
+use Rattle.words.specs.Answers.{refused, full, by_tests}
 use Rattle.words.proofs.Answers.{owed_refused}
 use Rattle.network.specs.declared.Network.{Network}
-use Rattle.network.specs.Rows.{SetRows, board_admission, bad_response_count, has_high_bit, no_room}
-use Rattle.network.proofs.Rows.{board_set_refuses, board_set_admits, board_set_none_holds, set_of_board_set}
-use Rattle.network.proofs.Rows.{receivers_of_board_set, decides_high_bit}
+use Rattle.network.specs.Rows.{board_admission, bad_response_count, has_high_bit, no_room}
+use Rattle.network.proofs.Rows.{board_set_refuses, board_set_admits, board_set_none_holds, receivers_of_board_set, decides_high_bit}
 use Rattle.checker.specs.Passed.{is_pass, passes}
-use Rattle.checker.proofs.PassedSets.{decides_pass}
 use Rattle.diagnosis.specs.ReadBack.{read_back}
 use Rattle.diagnosis.specs.Diagnosis.{own_tests, fit_answer, diagnosis_answer}
 use Rattle.diagnosis.proofs.diagnose.Goals as goal
@@ -62,97 +57,87 @@ module _ (net : Network) (owners : List ℕ) (k : ℕ) (vectors responses lent :
           unfolding by_tests fit_answer
           by_fit e = by_own ∙ rw (nine, ten, twelve, e)
 
--- what else the rows of a test set tell where they do not refuse
-module _ (net : Network) (owners : List ℕ) (k : ℕ) (vectors : List ℕ)
-    (admitted : board_admission net owners k vectors ≡ full tt) where
-  set_admitted : NoneHolds (SetRows net k vectors)
-  set_admitted = set_of_board_set net owners k vectors (board_set_none_holds net owners k vectors admitted)
-
-  receivers_most : length owners ≤ 64
-  receivers_most =
-      (receivers_of_board_set net owners k vectors (board_set_none_holds net owners k vectors admitted)).most
-
-pub returns-in-Refused : goal.returns-in-Refused
-returns-in-Refused c =
+pub returns-in_err-board : goal.returns-in_err-board
+returns-in_err-board c =
     let a = c.args in
-    let number = c.in-Refused.number in
-    let owed = owed_refused _ number a.out.now
-    (by_set a.net a.receivers.now a.class a.vectors.now a.responses.now a.out.now number
-    (sym c.in-Refused.ensures)) in record { answer = owed.0; list = owed.1 }
+    let p = err_from_is_err_and c.from_residual.result c.from_residual.ensures.1 in
+    let owed = owed_refused _ _ a.out.now
+    (by_set a.net a.receivers.now a.class a.vectors.now a.responses.now a.out.now _ (sym c.in_err-board.ensures.rows)) in
+    record { answer = rw (p.1, p.2) owed.0; list = owed.1 }
 
-pub returns-then-bad_response_count : goal.returns-then-bad_response_count
-returns-then-bad_response_count c =
+pub returns-in_err-refuse_if : goal.returns-in_err-refuse_if
+returns-in_err-refuse_if c =
     let a = c.args in
+    let p = err_from_is_err_and c.from_residual-in_err-refuse_if.result c.from_residual-in_err-refuse_if.ensures.1 in
+    let refused = c.in_err-refuse_if.ensures.refused in
     let owed = owed_refused _ 9 a.out.now
-    (by_row_9 a.net a.receivers.now a.class a.vectors.now a.responses.now a.out.now
-    (sym c.in_default.ensures)
-    (sym c.bad_response_count.ensures ∙ c.if-bad_response_count.true)) in record { answer = owed.0; list = owed.1 }
+    (by_row_9 a.net a.receivers.now a.class a.vectors.now a.responses.now a.out.now (sym c.in_ok-board.ensures.rows)
+    (sym c.bad_response_count.ensures ∙ refused.1)) in
+    record { answer = rw (p.1, p.2, refused.0) owed.0; list = owed.1 }
 
-pub has_high_bit-requires : goal.has_high_bit-requires
-has_high_bit-requires c =
+pub returns-in_err-refuse_if-2 : goal.returns-in_err-refuse_if-2
+returns-in_err-refuse_if-2 c =
     let a = c.args in
-    receivers_most a.net a.receivers.now a.class a.vectors.now
-    (sym c.in_default.ensures)
-
-pub returns-then-has_high_bit : goal.returns-then-has_high_bit
-returns-then-has_high_bit c =
-    let a = c.args in
+    let p = err_from_is_err_and c.from_residual-in_err-refuse_if-2.result c.from_residual-in_err-refuse_if-2.ensures.1 in
+    let refused = c.in_err-refuse_if-2.ensures.refused in
     let owed = owed_refused _ 10 a.out.now
-    (by_row_10 a.net a.receivers.now a.class a.vectors.now a.responses.now a.out.now
-    (sym c.in_default.ensures)
-    (sym c.bad_response_count.ensures ∙ c.if-bad_response_count.false)
-    (sym c.has_high_bit.ensures ∙ c.if-has_high_bit.true)) in record { answer = owed.0; list = owed.1 }
+    (by_row_10 a.net a.receivers.now a.class a.vectors.now a.responses.now a.out.now (sym c.in_ok-board.ensures.rows)
+    (sym c.bad_response_count.ensures ∙ c.in_ok-refuse_if.ensures.passed)
+    (sym c.has_high_bit.ensures ∙ refused.1)) in
+    record { answer = rw (p.1, p.2, refused.0) owed.0; list = owed.1 }
 
-pub returns-then-no_room : goal.returns-then-no_room
-returns-then-no_room c =
+pub returns-in_err-refuse_if-3 : goal.returns-in_err-refuse_if-3
+returns-in_err-refuse_if-3 c =
     let a = c.args in
+    let p = err_from_is_err_and c.from_residual-in_err-refuse_if-3.result c.from_residual-in_err-refuse_if-3.ensures.1 in
+    let refused = c.in_err-refuse_if-3.ensures.refused in
     let owed = owed_refused _ 12 a.out.now
-    (by_row_12 a.net a.receivers.now a.class a.vectors.now a.responses.now a.out.now
-    (sym c.in_default.ensures)
-    (sym c.bad_response_count.ensures ∙ c.if-bad_response_count.false)
-    (sym c.has_high_bit.ensures ∙ c.if-has_high_bit.false)
-    (sym c.no_room.ensures ∙ c.if-no_room.true)) in record { answer = owed.0; list = owed.1 }
+    (by_row_12 a.net a.receivers.now a.class a.vectors.now a.responses.now a.out.now (sym c.in_ok-board.ensures.rows)
+    (sym c.bad_response_count.ensures ∙ c.in_ok-refuse_if.ensures.passed)
+    (sym c.has_high_bit.ensures ∙ c.in_ok-refuse_if-2.ensures.passed)
+    (sym c.no_room.ensures ∙ refused.1)) in
+    record { answer = rw (p.1, p.2, refused.0) owed.0; list = owed.1 }
 
-pub verdict_of-verdict-requires : goal.verdict_of-verdict-requires
-verdict_of-verdict-requires c =
+pub returns-in_default : goal.returns-in_default
+returns-in_default c =
     let a = c.args in
-    set_admitted a.net a.receivers.now a.class a.vectors.now
-    (sym c.in_default.ensures)
-
-pub returns-in_default-verdict : goal.returns-in_default-verdict
-returns-in_default-verdict c =
-    let a = c.args in
+    let board = c.in_ok-board.ensures.admitted in
+    let verdict = rw (board.1, board.2, board.3) at (ap is_pass (sym c.of-verdict.ensures ∙ c.in_default.is)) in
     let owed = owed_refused _ 13 a.out.now
-    (by_row_13 a.net a.receivers.now a.class a.vectors.now a.responses.now a.out.now
-    (sym c.in_default.ensures)
-    (sym c.bad_response_count.ensures ∙ c.if-bad_response_count.false)
-    (sym c.has_high_bit.ensures ∙ c.if-has_high_bit.false)
-    (sym c.no_room.ensures ∙ c.if-no_room.false)
-    (ap is_pass (sym c.verdict_of-verdict.ensures ∙ c.in_default-verdict.is))) in
+    (by_row_13 a.net a.receivers.now a.class a.vectors.now a.responses.now a.out.now (sym c.in_ok-board.ensures.rows)
+    (sym c.bad_response_count.ensures ∙ c.in_ok-refuse_if.ensures.passed)
+    (sym c.has_high_bit.ensures ∙ c.in_ok-refuse_if-2.ensures.passed)
+    (sym c.no_room.ensures ∙ c.in_ok-refuse_if-3.ensures.passed) verdict) in
     record { answer = owed.0; list = owed.1 }
+
+pub invariant_of-passed : goal.invariant_of-passed
+invariant_of-passed c = record { passed = ap is_pass (sym c.of-verdict.ensures ∙ c.in-Pass.is) }
 
 pub read_back-requires : goal.read_back-requires
 read_back-requires c =
     let a = c.args in
-    let ten = sym c.has_high_bit.ensures ∙ c.if-has_high_bit.false in (
-      receivers_most a.net a.receivers.now a.class a.vectors.now (sym c.in_default.ensures),
-      (
-        set_admitted a.net a.receivers.now a.class a.vectors.now (sym c.in_default.ensures),
-        (decides_pass a.net a.class a.vectors.now).0 (ap is_pass (sym c.verdict_of-verdict.ensures ∙ c.in-Pass.is)),
-      ),
-      eqb-true _ _ (not-false _ (sym c.bad_response_count.ensures ∙ c.if-bad_response_count.false)),
-      (decides_high_bit (length a.receivers.now) a.responses.now).1 ten,
-      ltb-false _ _ (sym c.no_room.ensures ∙ c.if-no_room.false),
+    let board = c.in_ok-board.ensures.admitted in
+    let receivers = receivers_of_board_set a.net a.receivers.now a.class a.vectors.now
+    (board_set_none_holds a.net a.receivers.now a.class a.vectors.now (sym c.in_ok-board.ensures.rows)) in (
+      receivers.most,
+      rw board.3 (eqb-true _ _ (not-false _ (sym c.bad_response_count.ensures ∙ c.in_ok-refuse_if.ensures.passed))),
+      (decides_high_bit (length a.receivers.now) a.responses.now).1
+          (sym c.has_high_bit.ensures ∙ c.in_ok-refuse_if-2.ensures.passed),
+      ltb-false _ _ (sym c.no_room.ensures ∙ c.in_ok-refuse_if-3.ensures.passed),
     )
 
 pub returns : goal.returns
 returns c =
     let a = c.args in
+    let board = c.in_ok-board.ensures.admitted in
+    let passed = rw (board.1, board.2, board.3) at (ap is_pass (sym c.of-verdict.ensures ∙ c.in-Pass.is)) in
     let fit =
-    by_fit a.net a.receivers.now a.class a.vectors.now a.responses.now a.out.now
-    (sym c.in_default.ensures)
-    (sym c.bad_response_count.ensures ∙ c.if-bad_response_count.false)
-    (sym c.has_high_bit.ensures ∙ c.if-has_high_bit.false)
-    (sym c.no_room.ensures ∙ c.if-no_room.false)
-    (ap is_pass (sym c.verdict_of-verdict.ensures ∙ c.in-Pass.is)) in
-    record { answer = rw fit c.read_back.ensures.answer; list = rw fit c.read_back.ensures.list }
+    by_fit a.net a.receivers.now a.class a.vectors.now a.responses.now a.out.now (sym c.in_ok-board.ensures.rows)
+    (sym c.bad_response_count.ensures ∙ c.in_ok-refuse_if.ensures.passed)
+    (sym c.has_high_bit.ensures ∙ c.in_ok-refuse_if-2.ensures.passed)
+    (sym c.no_room.ensures ∙ c.in_ok-refuse_if-3.ensures.passed)
+    passed in
+    record {
+      answer = rw fit (rw (board.1, board.2, board.3) at c.read_back.ensures.answer);
+      list = rw fit (rw (board.1, board.2, board.3) at c.read_back.ensures.list);
+    }

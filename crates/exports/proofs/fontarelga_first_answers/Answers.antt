@@ -1,12 +1,8 @@
-use Prim.Native.Nat.{ℕ}
-use mathlib.Core.Path.{◌≡◌, refl, ap, ◌∙◌}
-use mathlib.Core.List.{List}
-use lib.ListN.{length}
+use Rattle.std.proofs.Common.{ℕ, ◌≡◌, refl, ap, ◌∙◌, List, length}
 use Rattle.words.specs.Answers.{Answer, lent_after}
 use Rattle.session.specs.declared.Session.{Session}
-use Rattle.session.specs.declared.Stepped.{Stepped}
-use Rattle.session.specs.Calls.{stepped, first_answer, first_answered}
-use Rattle.exports.proofs.CallLaws.{step_code, step_words}
+use Rattle.session.specs.Calls.{Stepped, stepped, first_answer, first_answered}
+use Rattle.exports.proofs.CallLaws.{answered_code, step_code, step_words}
 use Rattle.exports.proofs.fontarelga_first_answers.Goals as goal
 
 pub returns : goal.returns
@@ -17,9 +13,10 @@ returns c =
     let by : (session : Session) → (new : Session) × (done session ≡ stepped (answer session) new session) =
     λ session. (_, refl) in
     let held = c.session_of-held.ensures in
-    let said = c.first_answers-done.ensures in
+    let said = c.first_answers-answered.ensures in
+    let number = c.code_of.ensures ∙ answered_code c.first_answers-answered.result ∙ said.code in
     record {
-      answer = step_code answer done by a.session.now _ held.«record» _ said.code;
-      session = step_words answer done by a.session.now _ held.«record» _ _ held.size said.session c.words_of-words.ensures;
+      answer = step_code answer done by a.session.now _ held.«record» _ number;
+      session = step_words answer done by a.session.now _ held.«record» _ _ held.size said.session c.words_of.ensures;
       second = said.list ∙ ap (λ (session : Session). lent_after (answer session) a.second.now) held.«record»;
     }

@@ -1,11 +1,8 @@
-use Prim.Native.Nat.{ℕ}
-use mathlib.Core.Path.{◌≡◌, refl}
-use mathlib.Core.List.{List}
+use Rattle.std.proofs.Common.{ℕ, ◌≡◌, refl, ◌∙◌, List}
 use Rattle.words.specs.Answers.{Answer}
 use Rattle.session.specs.declared.Session.{Session}
-use Rattle.session.specs.declared.Stepped.{Stepped}
-use Rattle.session.specs.Calls.{stepped, second_answer, second_answered}
-use Rattle.exports.proofs.CallLaws.{step_code, step_words}
+use Rattle.session.specs.Calls.{Stepped, stepped, second_answer, second_answered}
+use Rattle.exports.proofs.CallLaws.{answered_code, step_code, step_words}
 use Rattle.exports.proofs.fontarelga_second_answers.Goals as goal
 
 pub returns : goal.returns
@@ -16,8 +13,9 @@ returns c =
     let by : (session : Session) → (new : Session) × (done session ≡ stepped (answer session) new session) =
     λ session. (_, refl) in
     let held = c.session_of-held.ensures in
-    let said = c.second_answers-done.ensures in
+    let said = c.second_answers-answered.ensures in
+    let number = c.code_of.ensures ∙ answered_code c.second_answers-answered.result ∙ said.code in
     record {
-      answer = step_code answer done by a.session.now _ held.«record» _ said.code;
-      session = step_words answer done by a.session.now _ held.«record» _ _ held.size said.session c.words_of-words.ensures;
+      answer = step_code answer done by a.session.now _ held.«record» _ number;
+      session = step_words answer done by a.session.now _ held.«record» _ _ held.size said.session c.words_of.ensures;
     }

@@ -1,5 +1,4 @@
-use mathlib.Core.Path.{ap, ◌∙◌}
-use lib.ListN.{length}
+use Rattle.std.proofs.Common.{ap, ◌∙◌, length}
 use Rattle.session.specs.declared.Session.{Session}
 use Rattle.session.specs.Drive.{to_drive}
 use Rattle.exports.proofs.fontarelga_to_drive.Goals as goal

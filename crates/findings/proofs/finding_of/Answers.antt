@@ -1,7 +1,4 @@
-use mathlib.Core.Path.{◌≡◌, refl}
-use mathlib.Core.Bool.{true}
-use mathlib.Core.List.{[], ◌∷◌}
-use native.Mathlib.Omega.{arith}
+use Rattle.std.proofs.Common.{◌≡◌, refl, true, [], ◌∷◌, arith}
 use Rattle.findings.specs.Findings.{is_open, finding}
 use Rattle.findings.specs.OneWay.{is_among, is_call_of, one_way}
 use Rattle.findings.proofs.FindingsLaws.{net_below}
@@ -14,12 +11,11 @@ unfolding one_way is_among is_call_of
 one_way_through = refl
 
 pub bounds-state-r : goal.bounds-state-r
-bounds-state-r c = let p = c.requires in omega (arith, p.0, p.2.size)
+bounds-state-r c = let p = c.requires in omega (arith, p.0, p.1.size)
 
 pub kind_of-requires : goal.kind_of-requires
 kind_of-requires c =
-    let (few, inside) = net_below c.args.net c.args.receivers.now c.requires.1 c.args.r
-    c.requires.0 in
+    let (few, inside) = net_below _ _ c.args.board.admitted c.args.r c.requires.0 in
     omega (arith, few, inside)
 
 pub returns : goal.returns

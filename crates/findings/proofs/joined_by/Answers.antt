@@ -1,8 +1,5 @@
-use borrow.Author.Tests.{eq-eqb, ne_eqb}
-use mathlib.Core.Path.{◌≡◌, refl, sym, ap, ◌∙◌}
-use mathlib.Core.Bool.{Bool, true, false, not, ◌&&◌, ◌||◌}
-use Prim.Native.Nat.{ℕ, ◌^◌}
-use lib.Dec.{eqb}
+use Rattle.std.proofs.Common.{eq-eqb, ne_eqb, ◌≡◌, refl, sym, ap, ◌∙◌, Bool, true, false, not, ◌&&◌, ◌||◌, ℕ, ◌^◌}
+use Rattle.std.proofs.Common.{eqb}
 use Rattle.words.specs.Bits.{has}
 use Rattle.words.proofs.Bits.{has_zero, has_power, has_or}
 use Rattle.findings.specs.Findings.{joins}

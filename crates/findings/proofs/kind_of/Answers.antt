@@ -1,8 +1,4 @@
-use native.Mathlib.Omega.{arith}
-use mathlib.Core.Path.{◌≡◌, refl, ap₂, ◌∙◌}
-use mathlib.Core.Bool.{true}
-use mathlib.Core.List.{[]}
-use Prim.Native.Nat.{ℕ, ◌+◌, ◌*◌, ◌^◌, ◌<◌}
+use Rattle.std.proofs.Common.{arith, ◌≡◌, refl, ap₂, ◌∙◌, true, [], ℕ, ◌+◌, ◌*◌, ◌^◌, ◌<◌}
 use Rattle.words.specs.Bits.{has}
 use Rattle.words.proofs.Bits.{cast_value, cast_below_two}
 use Rattle.findings.specs.OneWay.{one_way, is_number, numbers_alone}

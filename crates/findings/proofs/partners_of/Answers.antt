@@ -1,12 +1,6 @@
-use borrow.Author.Rules.{rules}
-use Prim.Native.Nat.{ℕ, ◌+◌, ◌<◌, ◌^◌}
-use native.Mathlib.Omega.{arith}
-use native.Mathlib.Nat.{lt_of_le_of_lt, not-suc-le-zero}
-use mathlib.Core.Path.{◌≡◌, sym, ap, ap₂, ◌∙◌}
-use mathlib.Core.Bool.{Bool, ◌&&◌, ◌||◌}
-use mathlib.Core.List.{List}
-use lib.Bits.{bit_and, bit_or, and_le_l}
-use lib.ListN.{length}
+use Rattle.std.proofs.Common.{ℕ, ◌+◌, ◌<◌, ◌^◌, arith, lt_of_le_of_lt, not-suc-le-zero, ◌≡◌, sym, ap, ap₂, ◌∙◌, Bool}
+use Rattle.std.proofs.Common.{◌&&◌, ◌||◌, List, bit_and, bit_or, length}
+use lib.Bits.{and_le_l}
 use Rattle.words.specs.Bits.{has, at}
 use Rattle.words.specs.Searching.{any}
 use Rattle.words.proofs.Bits.{words_equal, has_zero, has_and, has_or}
@@ -51,43 +45,35 @@ module _ (net : Network) (owners state : List ℕ) (r joined : ℕ) (l : net_of 
           ∙ sym (has_partners net owners state r j m)
 
 pub bounds-state-r : goal.bounds-state-r
-bounds-state-r c = let p = c.requires in omega (arith, p.0, p.2.size)
+bounds-state-r c = let p = c.requires in omega (arith, p.0, p.1.size)
 
 pub loop-s-init : goal.loop-s-init
-loop-s-init c = (search rules, λ j. has_zero j ∙ sym (any_none _ 0 (λ z l. absurd (not-suc-le-zero l))))
-
-pub bounds-receivers-s : goal.bounds-receivers-s
-bounds-receivers-s c =
-    let p = c.requires in
-    omega (arith, c.loop-s-test.true, p.2.size)
+loop-s-init c j = has_zero j ∙ sym (any_none _ 0 (λ z l. absurd (not-suc-le-zero l)))
 
 pub joined_by-joined-requires : goal.joined_by-joined-requires
 joined_by-joined-requires c =
-    let owners = c.args.receivers.now in
-    let here : c.loop-s.s < length owners = omega (arith, c.loop-s-test.true, c.requires.2.size) in
-    let (few, mine) = net_below c.args.net owners c.requires.1 c.args.r c.requires.0 in
-    let its = (net_below c.args.net owners c.requires.1 c.loop-s.s here).1 in
+    let board = c.args.board in
+    let here : c.loop-s.s < length board.receivers.now = omega (arith, c.requires.1.size) in
+    let (few, mine) = net_below _ _ board.admitted c.args.r c.requires.0 in
+    let its = (net_below _ _ board.admitted c.loop-s.s here).1 in
     (omega (arith, few, mine), omega (arith, few, its))
 
 pub loop-s-preserved : goal.loop-s-preserved
 loop-s-preserved c =
     let l = c.loop-s in
-    let a = c.args in (
-      omega arith,
-      one_more a.receivers.now a.state.now a.r l.s l.joined c.joined_by-joined.result l.invariant.1
-          c.joined_by-joined.ensures,
-    )
+    one_more c.args.board.receivers.now c.args.state.now c.args.r l.s l.joined c.joined_by-joined.result l.invariant
+    c.joined_by-joined.ensures
 
 pub all_but-requires : goal.all_but-requires
-all_but-requires c =
-    net_below c.args.net c.args.receivers.now c.requires.1 c.args.r c.requires.0
+all_but-requires c = (net_below _ _ c.args.board.admitted c.args.r c.requires.0).1
 
 pub returns : goal.returns
 returns c =
     let l = c.loop-s in
     let a = c.args in
+    let board = a.board in
     let whole : l.s ≡ length a.state.now = omega arith in
-    let inside = (net_below a.net a.receivers.now c.requires.1 a.r c.requires.0).1 in
+    let inside = (net_below _ _ board.admitted a.r c.requires.0).1 in
     ap (λ (w : ℕ). bit_and w (bit_or l.joined (at a.state.now a.r))) c.all_but.ensures
-    ∙ all_partners a.net a.receivers.now a.state.now a.r l.joined inside
-    (λ j. l.invariant.1 j ∙ ap (λ (n : ℕ). any n (joins_at a.receivers.now a.state.now a.r j)) whole)
+    ∙ all_partners board.nets.network board.receivers.now a.state.now a.r l.joined inside
+    (λ j. l.invariant j ∙ ap (λ (n : ℕ). any n (joins_at board.receivers.now a.state.now a.r j)) whole)

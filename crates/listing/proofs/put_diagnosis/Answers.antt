@@ -1,93 +1,97 @@
-use native.Mathlib.Omega.{arith}
-use Prim.Native.Nat.{ℕ, ◌+◌, ◌≤◌}
-use mathlib.Core.Path.{◌≡◌, sym, subst}
-use mathlib.Core.List.{List}
-use lib.ListN.{length, take, replicate}
-use lib.Seq.{length-take-le}
+use Rattle.std.proofs.Common.{ℕ, Result, Ok, Err, ◌≡◌, sym, subst, List, length, take, replicate}
 use Rattle.words.specs.Answers.{Answer, refused, full, lent_after, count_of}
-use Rattle.words.specs.Writing.{written}
 use Rattle.network.specs.declared.Network.{Network}
+use Rattle.network.specs.States.{State}
+use Rattle.network.specs.Rows.{AdmittedBoard}
+use Rattle.network.proofs.Rows.{nets_admitted}
 use Rattle.network.specs.OwnReceivers.{own_receivers}
-use Rattle.diagnosis.specs.declared.Diagnosed.{Diagnosed}
-use Rattle.diagnosis.specs.Diagnosis.{diagnosis_answer, meaning}
-use Rattle.listing.specs.Report.{diagnosis_text}
+use Rattle.network.specs.declared.refusal.Refusal.{Refusal}
+use Rattle.network.specs.Refusing.{row_number, answer_of}
+use Rattle.diagnosis.specs.Diagnosis.{diagnosis_answer}
 use Rattle.listing.proofs.Reporting.{own_front, diagnosis_refused, diagnosis_wrote}
 use Rattle.listing.proofs.put_diagnosis.Goals as goal
 
--- what is put for an answer
-put_for : (net : Network) (at end : ℕ) (lent after : List ℕ) (said other : Answer (List ℕ)) → said ≡ other
-    → (end ≡ at + length (diagnosis_text net other)) × (after ≡ written lent at (diagnosis_text net other))
-    → (end ≡ at + length (diagnosis_text net said)) × (after ≡ written lent at (diagnosis_text net said))
-put_for net at end lent after said other e h = rw e h
-
 -- the own receivers are at the front of their list
-own_sized : (nets : ℕ) (list : List ℕ) → nets ≤ 48 → length list ≡ 48 → nets ≡ length (take nets list)
-own_sized nets list most size = sym (length-take-le nets list (omega arith))
-
 own : (nets : ℕ) (list : List ℕ) → list ≡ lent_after (full (own_receivers nets)) (replicate 48 0)
     → take nets list ≡ own_receivers nets
 own nets list e = own_front nets (replicate 48 0) list e
 
 -- the diagnosis has answered for own receivers
-module _ (net : Network) (k : ℕ) (vectors responses : List ℕ) (said : Diagnosed) (state : List ℕ) where
+module _ (net : Network) (k : ℕ) (vectors responses : List ℕ) (said : Result ℕ Refusal) (state list : List ℕ)
+    (front : list ≡ lent_after (full (own_receivers net.nets)) (replicate 48 0)) where
   abbrev answer_for : List ℕ → Answer (List ℕ)
   answer_for owners = diagnosis_answer net owners k vectors responses 48
 
-  abbrev answer : Answer (List ℕ)
-  answer = answer_for (own_receivers net.nets)
+  abbrev Told : List ℕ → Type 0
+  Told owners = (answer_of said ≡ count_of (answer_for owners)) × (state ≡ lent_after (answer_for owners) (replicate 48 0))
 
-  abbrev Told : Answer (List ℕ) → Type 0
-  Told other = (meaning said ≡ count_of other) × (state ≡ lent_after other (replicate 48 0))
+  module _ (answered : Told (take net.nets list)) where
+    told : Told (own_receivers net.nets)
+    told = subst Told (own net.nets list front) answered
 
-  answered : (list : List ℕ) → list ≡ lent_after (full (own_receivers net.nets)) (replicate 48 0)
-      → Told (answer_for (take net.nets list)) → Told answer
-  answered list e told = subst (λ (owners : List ℕ). Told (answer_for owners)) (own net.nets list e) told
+    refused_so : (refusal : Refusal) → said ≡ Err refusal → answer_for (own_receivers net.nets) ≡ refused (row_number refusal)
+    refused_so refusal is = diagnosis_refused net k vectors responses (replicate 48 0) state said refusal told.0 is
 
-pub slice_bounds-diagnose-end : goal.slice_bounds-diagnose-end
-slice_bounds-diagnose-end c = own_sized c.args.net.nets c.fill_own.new.out c.requires.0 c.fill_own.auto.out
+    wrote_so : (count : ℕ) → said ≡ Ok count
+        → (answer_for (own_receivers net.nets) ≡ full (take net.nets state)) × AdmittedBoard net (own_receivers net.nets)
+        × State net (length (own_receivers net.nets)) net.nets (take net.nets state)
+    wrote_so count is = diagnosis_wrote net k vectors responses (replicate 48 0) state said count told.0 told.1 is
 
-pub slice_bounds-put_nets-end : goal.slice_bounds-put_nets-end
-slice_bounds-put_nets-end c = own_sized c.args.net.nets c.fill_own.new.out c.requires.0 c.fill_own.auto.out
-
-pub slice_bounds-put_nets-end-in-Wrote : goal.slice_bounds-put_nets-end-in-Wrote
-slice_bounds-put_nets-end-in-Wrote c =
-    own_sized c.args.net.nets c.diagnose-answer.new.out c.requires.0 c.diagnose-answer.auto.out
-
--- it has written a state that *findings* accepts
-pub put_nets-requires : goal.put_nets-requires
-put_nets-requires c =
-    let a = c.args in
+pub put_refused-requires : goal.put_refused-requires
+put_refused-requires c =
+    let set = c.args.set in
     let d = c.diagnose-answer in
-    let told = answered a.net a.class a.vectors.now a.responses.now d.result d.new.out c.fill_own.new.out c.fill_own.ensures
-    (d.ensures.answer, d.ensures.list) in (
-      own a.net.nets c.fill_own.new.out c.fill_own.ensures,
-      (diagnosis_wrote a.net a.class a.vectors.now a.responses.now (replicate 48 0) d.new.out d.result
-          c.in-Wrote.field-0 told.0 told.1 c.in-Wrote.is).1,
-      omega (arith, c.requires),
-    )
+    rw (
+      refused_so set.nets.network set.class set.vectors.now c.args.responses.now d.result d.new.out
+          c.fill_own.new.out c.fill_own.ensures (d.ensures.answer, d.ensures.list) c.in-Err.refusal c.in-Err.is,
+      sym c.from.ensures,
+    ) at c.requires
 
-pub returns-in-Refused : goal.returns-in-Refused
-returns-in-Refused c =
-    let a = c.args in
+pub invariant_of-put_nets : goal.invariant_of-put_nets
+invariant_of-put_nets c =
+    let set = c.args.set in
     let d = c.diagnose-answer in
-    let p = c.put_refused in
-    let told = answered a.net a.class a.vectors.now a.responses.now d.result d.new.out c.fill_own.new.out c.fill_own.ensures
-    (d.ensures.answer, d.ensures.list) in
-    put_for a.net a.at p.result a.text.now p.new.text (answer a.net a.class a.vectors.now a.responses.now d.result d.new.out)
-    (refused c.in-Refused.number)
-    (diagnosis_refused a.net a.class a.vectors.now a.responses.now (replicate 48 0) d.new.out d.result
-    c.in-Refused.number told.0 c.in-Refused.is)
-    p.ensures
+    let wrote = wrote_so set.nets.network set.class set.vectors.now c.args.responses.now d.result d.new.out
+    c.fill_own.new.out c.fill_own.ensures (d.ensures.answer, d.ensures.list) c.in-Ok.field-0 c.in-Ok.is in
+    record {
+      two = (nets_admitted set.nets.network wrote.1.0).0;
+      admitted = subst (AdmittedBoard set.nets.network)
+          (sym (own set.nets.network.nets c.fill_own.new.out c.fill_own.ensures)) wrote.1;
+    }
 
-pub returns-in-Wrote : goal.returns-in-Wrote
-returns-in-Wrote c =
-    let a = c.args in
+pub put_nets-requires-clause-own : goal.put_nets-requires-clause-own
+put_nets-requires-clause-own c = own c.args.set.nets.network.nets c.fill_own.new.out c.fill_own.ensures
+
+pub put_nets-requires-clause-state : goal.put_nets-requires-clause-state
+put_nets-requires-clause-state c =
+    let set = c.args.set in
+    let net = set.nets.network in
     let d = c.diagnose-answer in
-    let p = c.put_nets in
-    let told = answered a.net a.class a.vectors.now a.responses.now d.result d.new.out c.fill_own.new.out c.fill_own.ensures
-    (d.ensures.answer, d.ensures.list) in
-    put_for a.net a.at p.result a.text.now p.new.text (answer a.net a.class a.vectors.now a.responses.now d.result d.new.out)
-    (full (take a.net.nets d.new.out))
-    (diagnosis_wrote a.net a.class a.vectors.now a.responses.now (replicate 48 0) d.new.out d.result
-    c.in-Wrote.field-0 told.0 told.1 c.in-Wrote.is).0
-    p.ensures
+    let wrote = wrote_so net set.class set.vectors.now c.args.responses.now d.result d.new.out
+    c.fill_own.new.out c.fill_own.ensures (d.ensures.answer, d.ensures.list) c.in-Ok.field-0 c.in-Ok.is in
+    subst (λ (owners : List ℕ). State net (length owners) net.nets (take net.nets d.new.out))
+    (sym (own net.nets c.fill_own.new.out c.fill_own.ensures)) wrote.2
+
+pub put_nets-requires-clause-room : goal.put_nets-requires-clause-room
+put_nets-requires-clause-room c =
+    let set = c.args.set in
+    let d = c.diagnose-answer in
+    let wrote = wrote_so set.nets.network set.class set.vectors.now c.args.responses.now d.result d.new.out
+    c.fill_own.new.out c.fill_own.ensures (d.ensures.answer, d.ensures.list) c.in-Ok.field-0 c.in-Ok.is in
+    rw wrote.0 at c.requires
+
+pub returns-in-Err : goal.returns-in-Err
+returns-in-Err c =
+    let set = c.args.set in
+    let d = c.diagnose-answer in
+    rw (refused_so set.nets.network set.class set.vectors.now c.args.responses.now d.result d.new.out
+    c.fill_own.new.out c.fill_own.ensures (d.ensures.answer, d.ensures.list) c.in-Err.refusal c.in-Err.is)
+    (rw c.from.ensures at c.put_refused.ensures)
+
+pub returns-in-Ok : goal.returns-in-Ok
+returns-in-Ok c =
+    let set = c.args.set in
+    let d = c.diagnose-answer in
+    let wrote = wrote_so set.nets.network set.class set.vectors.now c.args.responses.now d.result d.new.out
+    c.fill_own.new.out c.fill_own.ensures (d.ensures.answer, d.ensures.list) c.in-Ok.field-0 c.in-Ok.is in
+    rw wrote.0 c.put_nets.ensures

@@ -1,13 +1,9 @@
-use Prim.Native.Nat.{ℕ}
-use mathlib.Core.Path.{refl, sym, ap, ◌∙◌}
-use mathlib.Core.List.{List}
-use lib.ListN.{length}
+use Rattle.std.proofs.Common.{ℕ, refl, sym, ap, ◌∙◌, List, length}
 use Rattle.words.specs.Answers.{Answer}
 use Rattle.network.specs.Reading.{network_with}
 use Rattle.shorter.specs.Shorten.{shorten_answer}
 use Rattle.exports.specs.Exported.{fixed_after}
-use Rattle.exports.proofs.CallLaws.{code_shortened}
-use Rattle.agreement.proofs.InWordsLaws.{shortened_in_words}
+use Rattle.exports.proofs.CallLaws.{code_returned, shortened_in_words}
 use Rattle.agreement.proofs.through_c.shorten.Goals as goal
 
 pub returns : goal.returns
@@ -18,7 +14,7 @@ returns c =
     (length a.kept.now) in
     let counts = ap (λ (b : Answer (List ℕ)). fixed_after b a.shortened.now) (shortened_in_words answer) in
     record {
-      returned = e.answer ∙ sym (code_shortened answer _ refl);
+      returned = e.answer ∙ sym (code_returned _ _ answer _ _ refl (shortened_in_words answer));
       kept = e.kept;
       shortened = e.shortened ∙ counts;
     }

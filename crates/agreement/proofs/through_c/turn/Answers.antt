@@ -1,4 +1,4 @@
-use mathlib.Core.Path.{refl, sym, ◌∙◌}
+use Rattle.std.proofs.Common.{refl, sym, ◌∙◌}
 use Rattle.exports.proofs.CallLaws.{code_counted}
 use Rattle.agreement.proofs.through_c.turn.Goals as goal
 

@@ -1,13 +1,10 @@
-use Prim.Native.Nat.{ℕ}
-use mathlib.Core.Path.{refl, sym, ap, ◌∙◌}
-use mathlib.Core.List.{List}
-use lib.ListN.{length}
+use Rattle.std.proofs.Common.{ℕ, refl, sym, ap, ◌∙◌, List, length}
 use Rattle.words.specs.Answers.{Answer}
 use Rattle.writer.specs.Writer.{write_answer}
 use Rattle.network.specs.Reading.{network_with}
 use Rattle.exports.specs.Exported.{fixed_after}
 use Rattle.exports.proofs.CallLaws.{code_counted}
-use Rattle.agreement.proofs.InWordsLaws.{wrote_in_words}
+use Rattle.exports.proofs.CallLaws.{wrote_in_words}
 use Rattle.agreement.proofs.through_c.write_job.Goals as goal
 
 pub returns : goal.returns

@@ -1,9 +1,4 @@
-use Prim.Native.Nat.{ℕ, ◌≤◌, ◌<◌, ◌-◌}
-use mathlib.Core.Path.{◌≡◌}
-use mathlib.Core.Bool.{cond}
-use mathlib.Core.List.{List}
-use lib.Dec.{eqb}
-use lib.ListN.{length}
+use Rattle.std.proofs.Common.{◌≡◌, ℕ, ◌≤◌, ◌<◌, cond, List, eqb, length}
 use Rattle.words.specs.Bits.{at}
 use Rattle.diagnosis.proofs.classes.note.Given as goal
 
@@ -16,6 +11,3 @@ Noted set word answers before now i =
 
 abbrev pub invariant-loop-i : goal.invariant-loop-i
 invariant-loop-i l = Noted l.set l.word l.answers l.initial.reaches l.reaches l.i
-
-abbrev pub decreases-loop-i : goal.decreases-loop-i
-decreases-loop-i l = length l.answers - l.i

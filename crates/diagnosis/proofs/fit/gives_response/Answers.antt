@@ -1,59 +1,29 @@
-use borrow.Author.Rules.{rules}
-use borrow.Author.Count.{below_more}
-use Prim.Native.Nat.{ℕ, ◌<◌}
-use native.Mathlib.Nat.{not-suc-le-zero}
-use native.Mathlib.Omega.{arith}
-use mathlib.Core.Path.{◌≡◌, sym, ap, ◌∙◌}
-use mathlib.Core.Bool.{true≢false, false≢true}
-use mathlib.Core.List.{List}
-use lib.ListN.{length}
-use lib.Seq.{ext_get_or}
-use Rattle.words.specs.Bits.{at}
-use Rattle.words.proofs.Making.{map_at}
-use Rattle.network.specs.declared.Network.{Network}
+use Rattle.std.proofs.Common.{ℕ, ◌≡◌, List, [], ◌∷◌, length, map, true≢false, nat_eq, rules, tests, refl, ap₂, arith}
+use Rattle.std.proofs.lemmas.Iterator.{YieldsList-from_slice, YieldsList-from_zip}
+use Rattle.std.proofs.lemmas.Iterator.Search.{all_from_yields_List}
+use Rattle.std.specs.List.{zip, list_all}
+use Rattle.words.specs.Answers.{Decides}
+use Rattle.words.proofs.Tests.{decides_equal, decides_and}
 use Rattle.network.specs.Reading.{response_word, response}
-use Rattle.network.proofs.Reading.{response_is}
 use Rattle.diagnosis.proofs.fit.gives_response.Goals as goal
 
-at_vector : (net : Network) (state vectors : List ℕ) (t : ℕ) → t < length vectors
-    → at (response net state vectors) t ≡ response_word net state (at vectors t)
-unfolding response
-at_vector net state vectors t l = map_at (response_word net state) 0 vectors t l
-
-pub loop-t-init : goal.loop-t-init
-loop-t-init c = (search rules, λ z l. absurd (not-suc-le-zero l))
-
-pub response_word-word-requires : goal.response_word-word-requires
-response_word-word-requires c =
-    (c.requires.1, c.requires.2)
-
-pub returns-then-word-responses : goal.returns-then-word-responses
-returns-then-word-responses c =
-    let l = c.loop-t in
-    let a = c.args in (
-      λ e. absurd (false≢true e),
-      λ e same. c.if-word-responses.true (c.response_word-word.ensures
-          ∙ sym (at_vector a.net a.state.now a.vectors.now l.t c.loop-t-test.true)
-          ∙ ap (λ (ws : List ℕ). at ws l.t) same),
-    )
-
-pub loop-t-preserved : goal.loop-t-preserved
-loop-t-preserved c =
-    let l = c.loop-t in
-    let a = c.args in (
-      search rules,
-      below_more (λ z. response_word a.net a.state.now (at a.vectors.now z) ≡ at a.responses.now z) l.t l.invariant.1
-          (sym c.response_word-word.ensures ∙ c.if-word-responses.false),
-    )
+-- place by place the same
+decides_same : (f : ℕ → ℕ) (xs ys : List ℕ) → length ys ≡ length xs
+    → Decides (list_all (λ p. nat_eq (f p.0) p.1) (zip xs ys)) (map f xs ≡ ys)
+decides_same f [] [] e = (λ t. refl, λ t. absurd (true≢false t))
+decides_same f [] (y ∷ ys) e = absurd (omega arith)
+decides_same f (x ∷ xs) [] e = absurd (omega arith)
+decides_same f (x ∷ xs) (y ∷ ys) e =
+    let both = decides_and (decides_equal (f x) y) (decides_same f xs ys (omega arith)) in
+    (λ t. let h = both.0 t in ap₂ (λ (z : ℕ) (zs : List ℕ). z ∷ zs) h.0 h.1, λ t q. both.1 t (cc, cc))
 
 pub returns : goal.returns
+unfolding response
 returns c =
-    let l = c.loop-t in
     let a = c.args in
-    let size : length (response a.net a.state.now a.vectors.now) ≡ length a.vectors.now =
-    (response_is a.net a.state.now a.vectors.now).one_a_vector in (
-      λ e. ext_get_or 0 (response a.net a.state.now a.vectors.now) a.responses.now (size ∙ sym c.requires.0)
-          (λ z m. let lt : z < length a.vectors.now = rw size at m in
-          at_vector a.net a.state.now a.vectors.now z lt ∙ l.invariant.1 z (omega arith)),
-      λ e. absurd (true≢false e),
-    )
+    let f = response_word a.net a.state.now in
+    let e : c.all.result ≡ list_all (λ p. nat_eq (f p.0) p.1) (zip a.vectors.now a.responses.now) =
+    all_from_yields_List (λ p. nat_eq (f p.0) p.1) c.all.new.self _ _ c.all.ensures.ran
+    (YieldsList-from_zip (YieldsList-from_slice a.vectors.now cc) (YieldsList-from_slice a.responses.now cc))
+    (λ x b q k. search (rules, tests)) in
+    rw e (decides_same f a.vectors.now a.responses.now c.requires.0)

@@ -1,63 +1,37 @@
-use borrow.Author.Rules.{rules}
-use Prim.Native.Nat.{ℕ, ◌<◌}
-use native.Mathlib.Nat.{not-suc-le-zero}
-use native.Mathlib.Omega.{arith}
-use mathlib.Core.Path.{◌≡◌, sym, ◌∙◌, subst}
-use mathlib.Core.Logic.{⊎_elim}
-use lib.ListN.{length, length-replicate, length-set}
-use lib.Seq.{get_or-set_same, get_or-set_other}
+use Rattle.std.proofs.Common.{ℕ, ◌+◌, ◌<◌, List, [], ◌∷◌, ◌++◌, length, arith, sym, subst, below_more}
+use Rattle.std.proofs.Math.ListN.{get_or-append}
+use Rattle.std.proofs.Math.Seq.{get_or-append_seam}
 use Rattle.words.specs.Bits.{at}
-use Rattle.words.proofs.Tests.{less_or_not}
-use Rattle.network.proofs.Rows.{AdmittedSet, admitted_set}
+use Rattle.network.proofs.Rows.{admitted_set}
 use Rattle.checker.specs.Seen.{OnlyAnswer}
+use Rattle.checker.proofs.PassedSets.{passed_by}
 use Rattle.diagnosis.proofs.Gathering.{walked_only, full_of_rule}
 use Rattle.diagnosis.proofs.walking.walking_reaches.Goals as goal
 
-pub loop-i-init : goal.loop-i-init
-loop-i-init c =
-    (search rules, length-replicate {A = ℕ} 64 0, λ z l. absurd (not-suc-le-zero l))
-
-pub offset_bounds-answers-i : goal.offset_bounds-answers-i
-offset_bounds-answers-i c = omega arith
-
-pub bounds-answers-i : goal.bounds-answers-i
-bounds-answers-i c = omega arith
-
-admitted : (c : goal.After-shared_slice_known-in-loop-i-1) → AdmittedSet c.args.net c.args.net.nets c.args.vectors.now
-admitted c = admitted_set c.args.net c.args.net.nets c.args.vectors.now c.requires.1.0
+-- what holds of each entry of a list holds with one more
+one_more : (P : ℕ → ℕ → Type 0) (xs : List ℕ) (x : ℕ) → ((z : ℕ) → z < length xs → P z (at xs z)) → P (length xs) x
+    → (z : ℕ) → z < length xs + 1 → P z (at (xs ++ x ∷ []) z)
+one_more P xs x before now =
+    below_more (λ z. P z (at (xs ++ x ∷ []) z)) (length xs)
+    (λ z l. subst (P z) (sym (get_or-append xs (x ∷ []) 0 z l)) (before z l))
+    (subst (P (length xs)) (sym (get_or-append_seam xs x [] 0)) now)
 
 pub walking_reach-requires : goal.walking_reach-requires
-walking_reach-requires c = let s = admitted c in (s.most, s.vectors_most)
+walking_reach-requires c =
+    let t = c.args.passed.set in
+    (admitted_set t.nets.network t.class t.vectors.now t.admitted).vectors_most
 
-pub offset_bounds-reaches-i : goal.offset_bounds-reaches-i
-offset_bounds-reaches-i c = omega arith
-
-pub bounds-reaches-i : goal.bounds-reaches-i
-bounds-reaches-i c = omega arith
-
-pub overflow_add-i : goal.overflow_add-i
-overflow_add-i c = omega arith
-
-pub loop-i-smaller : goal.loop-i-smaller
-loop-i-smaller c = omega arith
-
-pub loop-i-preserved : goal.loop-i-preserved
-loop-i-preserved c =
-    let a = c.args in
-    let l = c.loop-i in
-    let room : l.i < length l.reaches = omega (arith, l.invariant.1) in (
-      omega arith,
-      length-set l.reaches l.i _ ∙ l.invariant.1,
-      λ z m. ⊎_elim
-          (λ b. subst (λ (x : ℕ). OnlyAnswer a.net a.net.nets a.vectors.now (at a.answers.now z) x)
-          (sym (get_or-set_other l.reaches l.i z _ 0 (λ q. omega arith))) (l.invariant.2 z b))
-          (λ b. let q : z ≡ l.i = omega arith in
-          rw q (subst (λ (x : ℕ). OnlyAnswer a.net a.net.nets a.vectors.now (at a.answers.now l.i) x)
-          (sym (get_or-set_same l.reaches l.i _ 0 room))
-          (walked_only a.net a.vectors.now (at a.answers.now l.i) _
-          (full_of_rule a.net a.vectors.now c.requires.1.1)
-          c.walking_reach.ensures))) (less_or_not z l.i),
+pub loop-answered-preserved : goal.loop-answered-preserved
+loop-answered-preserved c =
+    let t = c.args.passed.set in
+    let net = t.nets.network in
+    let l = c.loop-answered in
+    let only = walked_only net t.vectors.now _ _
+    (full_of_rule net t.vectors.now
+    (rw c.requires.0 at (passed_by net t.class t.vectors.now t.admitted c.args.passed.passed).1))
+    c.walking_reach.ensures in (
+      omega (arith, c.push.ensures.len, l.invariant.0),
+      rw c.push.ensures.items (rw (sym l.invariant.0)
+          (one_more (λ z reach. OnlyAnswer net t.class t.vectors.now (at c.args.answers.now z) reach) l.reaches.items _
+          (rw l.invariant.0 l.invariant.1) (rw (l.invariant.0, c.requires.0) only))),
     )
-
-pub returns : goal.returns
-returns c = (c.loop-i.invariant.1, λ i l. c.loop-i.invariant.2 i (omega arith))

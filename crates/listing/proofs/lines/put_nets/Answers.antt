@@ -1,48 +1,60 @@
-use Prim.Native.Nat.{◌+◌}
-use native.Mathlib.Omega.{arith}
-use mathlib.Core.Path.{ap, ◌∙◌}
-use lib.ListN.{length}
-use Rattle.words.specs.Writing.{written}
-use Rattle.network.specs.OwnReceivers.{own_receivers}
+use Rattle.std.proofs.Common.{ℕ, ◌≡◌, ◌+◌, ◌<◌, ◌≤◌, ◌-◌, ◌∙◌, sym, ap, arith, List, ◌++◌, length, length-append}
+use Rattle.std.proofs.Common.{append_assoc, append-nil}
+use Rattle.network.specs.declared.Network.{Network}
+use Rattle.network.proofs.OwnReceivers.{own_size}
 use Rattle.findings.specs.declared.Finding.{Finding}
-use Rattle.findings.proofs.FindingsLaws.{none_holds_accepted}
-use Rattle.listing.specs.Report.{net_line}
-use Rattle.listing.proofs.NetsPut.{record_at, nets_none, nets_one, nets_all}
+use Rattle.findings.specs.Findings.{finding}
+use Rattle.listing.specs.Report.{net_line, net_lines}
+use Rattle.listing.proofs.NetsPut.{found_at, lines_next, lines_end}
 use Rattle.listing.proofs.lines.put_nets.Goals as goal
 
-pub loop-i-init : goal.loop-i-init
-loop-i-init c = let a = c.args in
-    nets_none a.text.now a.at a.net a.state.now
+-- The text up to the lines of the nets from net i on; with them it is the whole, which has room.
+module _ (net : Network) (state text whole : List ℕ) (i : ℕ)
+    (e : text ++ net_lines net state i (net.nets - i) ≡ whole) where
+  next_size : i < net.nets → length text + length (net_line i (found_at net state i)) ≤ length whole
+  next_size l =
+      let next = ap length (lines_next net state i l) in
+      let line = length-append (net_line i (found_at net state i)) (net_lines net state (i + 1) (net.nets - (i + 1))) in
+      let all = length-append text (net_lines net state i (net.nets - i)) in
+      let size = ap length e in
+      omega arith
 
-pub bounds-table-i : goal.bounds-table-i
-bounds-table-i c =
-    let a = c.args in
-    let accepted = none_holds_accepted a.net (own_receivers a.net.nets) a.state.now 64 c.requires.1 in
-    omega (arith, c.loop-i-test.true, accepted.few)
+  next : i < net.nets → (after : List ℕ) → after ≡ text ++ net_line i (found_at net state i)
+      → after ++ net_lines net state (i + 1) (net.nets - (i + 1)) ≡ whole
+  next l after f =
+      rw f (append_assoc text (net_line i (found_at net state i)) (net_lines net state (i + 1) (net.nets - (i + 1)))
+      ∙ ap (λ (rest : List ℕ). text ++ rest) (sym (lines_next net state i l)) ∙ e)
 
-pub put_net-end-requires : goal.put_net-end-requires
-put_net-end-requires c =
-    let p = c.loop-i.invariant in
-    omega (arith, p.size, p.bound, c.requires.2, c.loop-i-test.true)
+  last : net.nets ≤ i → text ≡ whole
+  last l = sym (append-nil text) ∙ ap (λ (rest : List ℕ). text ++ rest) (sym (lines_end net state i l)) ∙ e
+
+pub finding_of-requires : goal.finding_of-requires
+finding_of-requires c =
+    let b = c.args.board in
+    let size = ap length c.requires.own ∙ own_size b.nets.network.nets in
+    let here : c.loop-i.i < length b.receivers.now = omega (arith, size, c.loop-i-test.true) in
+    (here, c.requires.state)
+
+pub put_net-requires : goal.put_net-requires
+put_net-requires c =
+    let net = c.args.board.nets.network in
+    let state = c.args.state.now in
+    let l = c.loop-i in
+    let found = c.finding_of.ensures ∙ ap (λ (owners : List ℕ). finding net owners state l.i) c.requires.own in
+    let all = length-append c.args.text.now.items (net_lines net state 0 net.nets) in
+    let size = next_size net state _ _ l.i l.invariant c.loop-i-test.true in
+    rw found (omega (arith, c.requires.room))
 
 pub loop-i-preserved : goal.loop-i-preserved
 loop-i-preserved c =
-    let n = c.put_net-end in
-    let a = c.args in
+    let net = c.args.board.nets.network in
+    let state = c.args.state.now in
     let l = c.loop-i in
-    let found = record_at a.net a.receivers.now a.state.now c.by_value-tabled.result.table
-    c.requires.0 (none_holds_accepted a.net (own_receivers a.net.nets) a.state.now 64 c.requires.1)
-    c.by_value-tabled.ensures.table l.i c.loop-i-test.true in
-    nets_one a.text.now a.at a.net a.state.now l.text l.end l.i l.invariant c.requires.2 n.new.text
-    n.result c.loop-i-test.true
-    (n.ensures.0 ∙ ap (λ (x : Finding). l.end + length (net_line l.i x)) found)
-    (n.ensures.1 ∙ ap (λ (x : Finding). written l.text l.end (net_line l.i x)) found)
-
-pub shape_of-text : goal.shape_of-text
-shape_of-text c = c.loop-i.invariant.size
+    let found = c.finding_of.ensures ∙ ap (λ (owners : List ℕ). finding net owners state l.i) c.requires.own in
+    next net state _ _ l.i l.invariant c.loop-i-test.true _
+    (c.put_net.ensures ∙ ap (λ (x : Finding). l.text.items ++ net_line l.i x) found)
 
 pub returns : goal.returns
 returns c =
-    let a = c.args in
-    nets_all a.text.now a.at a.net a.state.now c.loop-i.text c.loop-i.end c.loop-i.i c.loop-i.invariant
-    c.requires.2 c.loop-i-test.false
+    let b = c.args.board.nets.network in
+    last b c.args.state.now _ _ c.loop-i.i c.loop-i.invariant (omega arith)

@@ -1,9 +1,9 @@
-use Prim.Native.Nat.{◌-◌}
-use Rattle.listing.proofs.NetsPut.{NetsPut}
+use Rattle.std.proofs.Common.{◌≡◌, ◌-◌, ◌++◌}
+use Rattle.listing.specs.Report.{net_lines}
 use Rattle.listing.proofs.lines.put_nets.Given as goal
 
+-- the lines of the nets that are left make the text whole
 abbrev pub invariant-loop-i : goal.invariant-loop-i
-invariant-loop-i l = NetsPut l.initial.text l.at l.net l.state l.text l.end l.i
-
-abbrev pub decreases-loop-i : goal.decreases-loop-i
-decreases-loop-i l = l.net.nets - l.i
+invariant-loop-i l =
+    let net = l.board.nets.network in
+    l.text.items ++ net_lines net l.state l.i (net.nets - l.i) ≡ l.initial.text.items ++ net_lines net l.state 0 net.nets

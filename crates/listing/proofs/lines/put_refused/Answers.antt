@@ -1,7 +1,10 @@
-use borrow.Author.Rules.{rules}
 use Rattle.listing.specs.Report.{refused_line}
 use Rattle.listing.proofs.lines.put_refused.Goals as goal
 
+pub put_line-requires : goal.put_line-requires
+unfolding refused_line
+put_line-requires c = c.requires
+
 pub returns : goal.returns
 unfolding refused_line
-returns c = search (rules, c.put_line.ensures)
+returns c = c.put_line.ensures

@@ -1,9 +1,5 @@
-use borrow.Author.Tests.{eq-eqb, ne_eqb}
-use Prim.Native.Nat.{ℕ}
-use mathlib.Core.Path.{ap, ◌∙◌}
-use native.Mathlib.Omega.{arith}
-use lib.Bits.{bit_xor, xor_lt}
-use lib.Pow.{pow_pos}
+use Rattle.std.proofs.Common.{eq-eqb, ne_eqb, ℕ, ap, ◌∙◌, arith, bit_xor, pow_pos}
+use lib.Bits.{xor_lt}
 use Rattle.words.specs.Bits.{has}
 use Rattle.words.proofs.Bits.{has_others}
 use Rattle.network.specs.Reading.{active}

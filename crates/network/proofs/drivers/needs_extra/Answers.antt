@@ -1,4 +1,4 @@
-use borrow.Author.Tests.{eq-eqb, ne_eqb}
+use Rattle.std.proofs.Common.{eq-eqb, ne_eqb}
 use Rattle.network.specs.Reading.{active, needs_extra}
 use Rattle.network.proofs.drivers.needs_extra.Goals as goal
 

@@ -1,9 +1,4 @@
-use borrow.Author.Rules.{rules}
-use Prim.Native.Nat.{ℕ}
-use native.Mathlib.Omega.{arith}
-use mathlib.Core.Path.{sym, ap₂, ◌∙◌}
-use mathlib.Core.List.{List}
-use lib.ListN.{set}
+use Rattle.std.proofs.Common.{rules, ℕ, arith, sym, ap₂, ◌∙◌, List, set}
 use Rattle.words.specs.Answers.{lent_after}
 use Rattle.words.proofs.Making.{list_fill, list_filled}
 use Rattle.network.specs.OwnReceivers.{own_receivers}
@@ -15,9 +10,8 @@ loop-i-preserved c =
     let a = c.args in
     let l = c.loop-i in
     let size = own_size a.nets in (
-      omega arith,
       search rules,
-      ap₂ (λ (m : List ℕ) (x : ℕ). set m l.i x) l.invariant.2 (sym (own_at a.nets l.i c.loop-i-test.true))
+      ap₂ (λ (m : List ℕ) (x : ℕ). set m l.i x) l.invariant.1 (sym (own_at a.nets l.i c.loop-i-test.true))
           ∙ list_fill (own_receivers a.nets) a.out.now l.i (omega (arith, size)) (omega arith),
     )
 
@@ -27,4 +21,4 @@ returns c =
     let a = c.args in
     let l = c.loop-i in
     let size = own_size a.nets in
-    l.invariant.2 ∙ list_filled (own_receivers a.nets) a.out.now l.i (omega (arith, size)) (omega (arith, size))
+    l.invariant.1 ∙ list_filled (own_receivers a.nets) a.out.now l.i (omega (arith, size)) (omega (arith, size))

@@ -1,9 +1,4 @@
-use borrow.Author.Rules.{rules}
-use Prim.Native.Nat.{ℕ}
-use native.Mathlib.Omega.{arith}
-use mathlib.Core.Path.{◌∙◌, ap₂}
-use mathlib.Core.List.{List}
-use lib.ListN.{set}
+use Rattle.std.proofs.Common.{rules, ℕ, arith, ◌∙◌, ap₂, List, set}
 use Rattle.words.specs.Answers.{lent_after}
 use Rattle.words.proofs.Making.{map_fill, map_filled}
 use Rattle.network.specs.Reading.{response_word, response}
@@ -14,8 +9,7 @@ loop-written-preserved c =
     let a = c.args in
     let l = c.loop-written in (
       search rules,
-      search rules,
-      ap₂ (λ (m : List ℕ) (r : ℕ). set m l.written r) l.invariant.2 c.response_word-word.ensures
+      ap₂ (λ (m : List ℕ) (r : ℕ). set m l.written r) l.invariant.1 c.response_word-word.ensures
           ∙ map_fill (response_word a.net a.state.now) a.vectors.now a.out.now l.written (omega arith) (omega arith),
     )
 
@@ -24,5 +18,5 @@ unfolding response lent_after
 returns c =
     let a = c.args in
     let l = c.loop-written in
-    l.invariant.2 ∙ map_filled (response_word a.net a.state.now) a.vectors.now a.out.now l.written
-    l.invariant.0 c.loop-written-test.false
+    l.invariant.1 ∙ map_filled (response_word a.net a.state.now) a.vectors.now a.out.now l.written
+    (omega arith) c.loop-written-test.false

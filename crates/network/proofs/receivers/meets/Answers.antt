@@ -1,4 +1,4 @@
-use mathlib.Core.Path.{sym}
+use Rattle.std.proofs.Common.{sym}
 use Rattle.network.proofs.Reading.{meets_and}
 use Rattle.network.proofs.receivers.meets.Goals as goal
 

@@ -1,4 +1,4 @@
-use borrow.Author.Tests.{eq-eqb, ne_eqb}
+use Rattle.std.proofs.Common.{eq-eqb, ne_eqb}
 use Rattle.network.specs.Joint.{no_drivers}
 use Rattle.network.proofs.receivers.no_drivers.Goals as goal
 

@@ -1,8 +1,4 @@
-use borrow.Author.Rules.{rules}
-use Prim.Native.Nat.{◌<◌, ◌^◌}
-use mathlib.Core.Path.{sym, ap₂, ◌∙◌}
-use mathlib.Core.Bool.{Bool, ◌&&◌, ◌||◌}
-use lib.Dec.{eqb}
+use Rattle.std.proofs.Common.{rules, ◌<◌, ◌^◌, sym, ap₂, ◌∙◌, Bool, ◌&&◌, ◌||◌, eqb}
 use Rattle.network.proofs.Reading.{active_reads}
 use Rattle.network.proofs.receivers.reads_active.Goals as goal
 

@@ -1,6 +1,4 @@
-use borrow.Author.Rules.{rules}
-use native.Mathlib.Omega.{arith}
-use mathlib.Core.Path.{sym, ◌∙◌}
+use Rattle.std.proofs.Common.{rules, arith, sym, ◌∙◌}
 use Rattle.words.specs.Bits.{word}
 use Rattle.words.proofs.Making.{word_set, word_keep, word_whole}
 use Rattle.network.specs.Reading.{active, reads, sequential_response}
@@ -20,15 +18,13 @@ pub loop-t-preserved : goal.loop-t-preserved
 loop-t-preserved c =
     let a = c.args in
     let l = c.loop-t in
-    let q = c.reads_active.ensures _ c.active_bits-bits.ensures.0 in (
-      omega arith,
-      elim c.if-reads_active.branch [
-        | then-reads_active w ↦ w.w-is ∙ word_set (λ vector. active a.net (reads a.net a.reach vector)) a.vectors.now l.t l.w
-            l.invariant.1 (omega arith) (omega arith) (sym q ∙ w.if-reads_active.true)
-        | else-reads_active w ↦ w.w-is ∙ word_keep (λ vector. active a.net (reads a.net a.reach vector)) a.vectors.now l.t l.w
-            l.invariant.1 (omega arith) (sym q ∙ w.if-reads_active.false)
-      ],
-    )
+    let q = c.reads_active.ensures _ c.active_bits-bits.ensures.0 in
+    elim c.if-reads_active.branch [
+      | then-reads_active w ↦ w.w-is ∙ word_set (λ vector. active a.net (reads a.net a.reach vector)) a.vectors.now l.t l.w
+          l.invariant (omega arith) (omega arith) (sym q ∙ w.if-reads_active.true)
+      | else-reads_active w ↦ w.w-is ∙ word_keep (λ vector. active a.net (reads a.net a.reach vector)) a.vectors.now l.t l.w
+          l.invariant (omega arith) (sym q ∙ w.if-reads_active.false)
+    ]
 
 pub returns : goal.returns
 unfolding sequential_response
@@ -36,6 +32,6 @@ returns c =
     let l = c.loop-t in
     let a = c.args in
     readings_turned a.net (reads a.net a.reach) a.vectors.now l.w c.active_bits.result
-    (l.invariant.1
+    (l.invariant
     ∙ word_whole (λ vector. active a.net (reads a.net a.reach vector)) a.vectors.now l.t c.loop-t-test.false)
     c.active_bits.ensures

@@ -1,15 +1,8 @@
-use Prim.Native.Nat.{◌≤◌, ◌-◌}
-use mathlib.Core.Path.{◌≡◌}
-use mathlib.Core.List.{map}
-use lib.ListN.{length, take}
+use Rattle.std.proofs.Common.{◌≡◌, map, take}
 use Rattle.words.specs.Bits.{word}
 use Rattle.network.specs.Reading.{active, reads}
 use Rattle.network.proofs.receivers.sequential_response.Given as goal
 
 -- the active readings so far
 abbrev pub invariant-loop-t : goal.invariant-loop-t
-invariant-loop-t l =
-    (l.t ≤ length l.vectors) × (l.w ≡ word (map (λ vector. active l.net (reads l.net l.reach vector)) (take l.t l.vectors)))
-
-abbrev pub decreases-loop-t : goal.decreases-loop-t
-decreases-loop-t l = length l.vectors - l.t
+invariant-loop-t l = l.w ≡ word (map (λ vector. active l.net (reads l.net l.reach vector)) (take l.t l.vectors))

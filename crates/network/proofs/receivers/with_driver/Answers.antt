@@ -1,4 +1,4 @@
-use borrow.Author.Tests.{eq-eqb, ne_eqb}
+use Rattle.std.proofs.Common.{eq-eqb, ne_eqb}
 use Rattle.network.specs.Joint.{with_driver}
 use Rattle.network.proofs.receivers.with_driver.Goals as goal
 

@@ -1,6 +1,4 @@
-use mathlib.Core.Path.{◌∙◌, sym, ap}
-use Prim.Native.Nat.{ℕ}
-use lib.Dec.{leb}
+use Rattle.std.proofs.Common.{◌∙◌, sym, ap, ℕ, leb}
 use Rattle.words.proofs.Classes.{ones_counted}
 use Rattle.network.specs.States.{few_drivers}
 use Rattle.network.proofs.refusals.few_drivers.Goals as goal

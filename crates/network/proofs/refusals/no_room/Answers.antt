@@ -1,4 +1,4 @@
-use mathlib.Core.Path.{refl}
+use Rattle.std.proofs.Common.{refl}
 use Rattle.network.proofs.refusals.no_room.Goals as goal
 
 pub returns : goal.returns

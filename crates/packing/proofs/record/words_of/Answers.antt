@@ -1,5 +1,4 @@
-use borrow.Author.Rules.{rules}
-use mathlib.Core.Path.{◌∙◌}
+use Rattle.std.proofs.Common.{rules, ◌∙◌}
 use Rattle.packing.specs.Packed.{session_words}
 use Rattle.packing.proofs.Words.{Sized, all_written, session_written, words_size}
 use Rattle.packing.proofs.record.words_of.Goals as goal

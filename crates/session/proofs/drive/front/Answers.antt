@@ -1,6 +1,5 @@
-use mathlib.Core.Path.{sym}
-use lib.Seq.{length-take-le}
-use borrow.Author.Tests.{le-leb, lt-leb}
+use Rattle.std.proofs.Common.{sym, length-take-le, le-leb}
+use borrow.Author.Tests.{lt-leb}
 use Rattle.session.proofs.drive.front.Goals as goal
 
 pub slice_bounds-result-end : goal.slice_bounds-result-end

@@ -1,12 +1,6 @@
-use Prim.Native.Nat.{ℕ}
-use native.Mathlib.Omega.{arith}
-use mathlib.Core.Path.{◌≡◌, refl, sym, ap, ◌∙◌}
-use mathlib.Core.Logic.{◌≢◌}
-use mathlib.Core.List.{List, [], ◌∷◌}
-use lib.ListN.{length, length-append}
-use borrow.Author.Tests.{eq-eqb, eqb-true}
+use Rattle.std.proofs.Common.{ℕ, arith, ◌≡◌, refl, sym, ap, ◌∙◌, ◌≢◌, List, [], ◌∷◌, length, length-append, eq-eqb}
+use Rattle.std.proofs.Common.{eqb-true}
 use Rattle.network.specs.declared.Network.{Network}
-use Rattle.network.proofs.Rows.{nets_admitted, receivers_of_board}
 use Rattle.steps.specs.FirstStep.{word_length, first_vectors}
 use Rattle.steps.specs.SecondStep.{unclear, second_vectors, session_vectors, fault_free_state}
 use Rattle.steps.proofs.StepOneWords.{length_bounds, first_size}
@@ -46,22 +40,18 @@ module _ (net : Network) (owners answers : List ℕ) where
 
 pub returns-then-count-eq0 : goal.returns-then-count-eq0
 returns-then-count-eq0 c =
-    let a = c.args in
-    c.finished.ensures
-    ∙ ap (λ (state : List ℕ). finished a.net a.receivers.now state c.word_length.result)
-    c.fault_free-state.ensures.1
-    ∙ ap (finished a.net a.receivers.now (fault_free_state a.receivers.now)) c.word_length.ensures
-    ∙ answered_none a.net a.receivers.now a.answers.now (sym c.requires.2 ∙ c.if-count-eq0.true)
+    let net = c.args.board.nets.network in
+    let owners = c.args.board.receivers.now in
+    rw (c.finished.ensures, c.as_slice.ensures.value, c.fault_free-state.ensures, c.word_length.ensures)
+    (answered_none net owners c.args.answers.now (sym c.requires.1 ∙ c.if-count-eq0.true))
 
 pub awaiting_second-requires : goal.awaiting_second-requires
 awaiting_second-requires c =
-    let a = c.args in
-    let nets = nets_admitted a.net c.requires.0.0 in
-    let bounds = length_bounds a.net nets.0 nets.1 in
-    ((receivers_of_board a.net a.receivers.now c.requires.0).most, omega (arith, bounds.1, c.requires.1))
+    let nets = c.args.board.nets in
+    omega (arith, length_bounds nets.network c.args.board.two nets.few, c.requires.0)
 
 pub returns : goal.returns
 returns c =
-    let a = c.args in
     c.awaiting_second.ensures
-    ∙ answered_some a.net a.receivers.now a.answers.now (λ e. c.if-count-eq0.false (c.requires.2 ∙ e))
+    ∙ answered_some c.args.board.nets.network c.args.board.receivers.now c.args.answers.now
+    (λ e. c.if-count-eq0.false (c.requires.1 ∙ e))

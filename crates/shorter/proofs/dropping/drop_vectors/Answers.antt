@@ -1,51 +1,25 @@
-use borrow.Author.Tests.{ltb-true}
-use mathlib.Core.Path.{◌≡◌, sym, ap, ◌∙◌, subst}
-use mathlib.Core.Bool.{Bool, true, false, cond, ◌&&◌}
-use mathlib.Core.List.{List}
-use Prim.Native.Nat.{ℕ, ◌-◌, ◌≤◌, ◌<◌}
-use native.Mathlib.Omega.{arith}
-use lib.Dec.{ltb}
-use lib.ListN.{length, take}
-use lib.Seq.{length-take-le}
-use Rattle.words.proofs.Tests.{and_left, and_right, test_passes}
-use Rattle.words.proofs.Answers.{front_written, lent_length}
+use Rattle.std.proofs.Common.{◌≡◌, ℕ, ◌-◌, ◌≤◌, ◌<◌, Bool, true, false, cond, ◌&&◌, List, length, Result, Ok, Err}
+use Rattle.std.proofs.Common.{IfOk, IfErr, arith, refl, sym, ap, ◌∙◌, subst, ltb, ltb-true}
+use Rattle.std.specs.List.{insert, remove}
+use Rattle.std.specs.Result.{is_err}
+use Rattle.std.proofs.lemmas.Result.{IfOk-weaker}
+use Rattle.words.proofs.Tests.{and_left, and_right, contrary}
 use Rattle.words.specs.Answers.{NoneHolds}
 use Rattle.network.specs.declared.Network.{Network}
 use Rattle.network.specs.Rows.{SetRows}
 use Rattle.network.proofs.Rows.{admitted_set}
 use Rattle.checker.specs.Passed.{passes}
-use Rattle.checker.proofs.PassedSets.{decides_pass}
 use Rattle.shorter.specs.Shorter.{InOrder, without}
-use Rattle.shorter.proofs.Ordered.{in_order_both, without_in_order, without_length}
+use Rattle.shorter.proofs.Ordered.{in_order_both, in_order_length, without_in_order, without_length, remove_is_without, put_back}
 use Rattle.shorter.proofs.Trying.{Going, going_first, going_on, going_last}
 use Rattle.shorter.proofs.Parts.{part_admitted, part_size}
 use Rattle.shorter.proofs.dropping.drop_vectors.Goals as goal
 
-vectors_most : (net : Network) (k : ℕ) (vectors : List ℕ) → NoneHolds (SetRows net k vectors) → length vectors ≤ 64
-vectors_most net k vectors admitted = (admitted_set net k vectors admitted).vectors_most
-
-pub copy_words-requires : goal.copy_words-requires
-copy_words-requires c = vectors_most c.args.net c.args.class c.args.vectors.now c.requires.0
-
 pub loop-t-init : goal.loop-t-init
 loop-t-init c =
-    let a = c.args in
-    let most = vectors_most a.net a.class a.vectors.now c.requires.0 in
-    let copied = c.copy_words.ensures in
-    let front : take (length a.vectors.now) _ ≡ a.vectors.now =
-    ap (take (length a.vectors.now)) copied ∙ front_written a.vectors.now _ in (
-      ap length copied ∙ lent_length a.vectors.now _ most,
-      most,
-      subst (λ (kept : List ℕ). Going (passes a.net a.class) a.vectors.now a.allowed kept
-          (length a.vectors.now) a.allowed)
-          (sym front)
-          (going_first (passes a.net a.class) a.vectors.now a.allowed
-          (test_passes (decides_pass a.net a.class a.vectors.now) c.requires.1)),
-    )
-
--- what is kept so far has the size that is counted
-kept_size : (array : List ℕ) (count : ℕ) → length array ≡ 64 → count ≤ 64 → length (take count array) ≡ count
-kept_size array count size most = length-take-le count array (omega arith)
+    let p = c.args.passed in
+    rw (c.len-t.ensures.value, c.list_of-kept.ensures)
+    (going_first (passes p.set.nets.network p.set.class) p.set.vectors.now c.args.allowed p.passed)
 
 -- a turn of the loop: of the set given, `kept` is left so far
 module _ (net : Network) (k : ℕ) (vectors : List ℕ) (admitted : NoneHolds (SetRows net k vectors)) (allowed : ℕ)
@@ -61,6 +35,10 @@ module _ (net : Network) (k : ℕ) (vectors : List ℕ) (admitted : NoneHolds (S
   -- the index of the vector to be tried
   tried_inside : t - 1 < length kept
   tried_inside = omega (arith, more_vectors, going.size)
+
+  kept_most : length kept ≤ 64
+  kept_most =
+      omega (arith, in_order_length kept vectors going.in_order, (admitted_set net k vectors admitted).vectors_most)
 
   less_in_order : InOrder (without (t - 1) kept) vectors
   less_in_order =
@@ -84,123 +62,84 @@ module _ (net : Network) (k : ℕ) (vectors : List ℕ) (admitted : NoneHolds (S
       going_on (passes net k) vectors allowed kept t left b going more_vectors more_checks
       (ap (passes net k) (sym e) ∙ outcome)
 
-pub overflow_sub-t : goal.overflow_sub-t
-overflow_sub-t c =
-    let a = c.args in
+-- what the answer on the others tells of the test
+refused_fails : {T E : Type 0} (Q : E → Type 0) (b : Bool) (r : Result T E) → IfErr r (λ e. Q e × (b ≡ false))
+    → is_err r ≡ true → b ≡ false
+refused_fails Q b (Ok x) h e = contrary e refl
+refused_fails Q b (Err y) h e = h.1
+
+passed_holds : {T E : Type 0} (b : Bool) (r : Result T E) → IfOk r (λ _. b ≡ true) → is_err r ≡ false → b ≡ true
+passed_holds b (Ok x) h e = h
+passed_holds b (Err y) h e = contrary refl e
+
+-- the others, where vector t - 1 is taken out
+others : (less new kept : List ℕ) (i : ℕ) → less ≡ new → new ≡ remove kept i → less ≡ without i kept
+others less new kept i e f = e ∙ f ∙ remove_is_without i kept
+
+pub invariant_of-others : goal.invariant_of-others
+invariant_of-others c =
+    let p = c.args.passed in
     let l = c.loop-t in
-    more_vectors a.net a.class a.vectors.now c.requires.0 a.allowed (take l.count l.kept) l.t l.left l.invariant.2
-    c.loop-t-test.true
+    record {
+      admitted = less_admitted p.set.nets.network p.set.class p.set.vectors.now p.set.admitted c.args.allowed l.kept.items l.t l.left
+          l.invariant c.loop-t-test.true _
+          (others _ _ l.kept.items _ c.as_slice.ensures.value c.remove-vector.ensures.items);
+    }
 
-pub overflow_sub-left : goal.overflow_sub-left
-overflow_sub-left c =
-    let a = c.args in
+pub insert-requires : goal.insert-requires
+insert-requires c =
+    let p = c.args.passed in
     let l = c.loop-t in
-    more_checks a.net a.class a.vectors.now c.requires.0 a.allowed (take l.count l.kept) l.t l.left l.invariant.2
-    c.loop-t-test.true
+    let inside = tried_inside p.set.nets.network p.set.class p.set.vectors.now p.set.admitted c.args.allowed l.kept.items l.t l.left
+    l.invariant c.loop-t-test.true in
+    let most = kept_most p.set.nets.network p.set.class p.set.vectors.now p.set.admitted c.args.allowed l.kept.items l.t l.left
+    l.invariant c.loop-t-test.true in
+    let one_less = c.remove-vector.ensures.len in
+    (omega arith, (omega arith, omega arith))
 
-pub slice_bounds-kept-end : goal.slice_bounds-kept-end
-slice_bounds-kept-end c = let l = c.loop-t in omega (arith, l.invariant.0, l.invariant.1)
-
-pub slice_bounds-without-end : goal.slice_bounds-without-end
-slice_bounds-without-end c =
-    let l = c.loop-t in sym (kept_size l.kept l.count l.invariant.0 l.invariant.1)
-
-pub without-less-requires : goal.without-less-requires
-without-less-requires c =
-    let a = c.args in
-    let l = c.loop-t in (
-      tried_inside a.net a.class a.vectors.now c.requires.0 a.allowed (take l.count l.kept) l.t l.left l.invariant.2
-          c.loop-t-test.true,
-      omega (arith, kept_size l.kept l.count l.invariant.0 l.invariant.1, l.invariant.1),
-    )
-
-pub overflow_sub-fewer : goal.overflow_sub-fewer
-overflow_sub-fewer c =
-    let a = c.args in
+pub loop-t-preserved-then-is_err : goal.loop-t-preserved-then-is_err
+loop-t-preserved-then-is_err c =
+    let p = c.args.passed in
+    let net = p.set.nets.network in
+    let k = p.set.class in
     let l = c.loop-t in
-    omega (
-      arith,
-      some_left a.net a.class a.vectors.now c.requires.0 a.allowed (take l.count l.kept) l.t l.left l.invariant.2
-          c.loop-t-test.true,
-      kept_size l.kept l.count l.invariant.0 l.invariant.1,
-    )
-
-pub slice_bounds-less-end : goal.slice_bounds-less-end
-slice_bounds-less-end c = omega (arith, c.without-less.ensures.0, c.loop-t.invariant.1)
-
-pub slice_bounds-passes-end : goal.slice_bounds-passes-end
-slice_bounds-passes-end c =
-    let fits : c.loop-t.count - 1 ≤ length c.without-less.result =
-    omega (arith, c.without-less.ensures.0, c.loop-t.invariant.1) in
-    sym (length-take-le (c.loop-t.count - 1) c.without-less.result fits)
-
--- what `without` leaves is counted by one less
-counted_less : (array kept result : List ℕ) (count : ℕ) → length kept ≡ count
-    → take (length kept - 1) result ≡ array → take (count - 1) result ≡ array
-counted_less array kept result count e f = ap (λ (n : ℕ). take (n - 1) result) (sym e) ∙ f
-
-pub passes-requires : goal.passes-requires
-passes-requires c =
-    let a = c.args in
-    let l = c.loop-t in
-    less_admitted a.net a.class a.vectors.now c.requires.0 a.allowed (take l.count l.kept) l.t l.left l.invariant.2
-    c.loop-t-test.true _
-    (counted_less _ (take l.count l.kept) c.without-less.result l.count
-    (kept_size l.kept l.count l.invariant.0 l.invariant.1) c.without-less.ensures.1)
-
-pub loop-t-smaller-then-passes : goal.loop-t-smaller-then-passes
-loop-t-smaller-then-passes c =
-    let a = c.args in
-    let l = c.loop-t in
-    omega (
-      arith,
-      more_checks a.net a.class a.vectors.now c.requires.0 a.allowed (take l.count l.kept) l.t l.left l.invariant.2
-          c.loop-t-test.true,
-    )
-
-pub loop-t-smaller : goal.loop-t-smaller
-loop-t-smaller c =
-    let a = c.args in
-    let l = c.loop-t in
-    omega (
-      arith,
-      more_checks a.net a.class a.vectors.now c.requires.0 a.allowed (take l.count l.kept) l.t l.left l.invariant.2
-          c.loop-t-test.true,
-    )
-
-pub loop-t-preserved-then-passes : goal.loop-t-preserved-then-passes
-loop-t-preserved-then-passes c =
-    let a = c.args in
-    let l = c.loop-t in
-    let e = counted_less (without (l.t - 1) (take l.count l.kept)) (take l.count l.kept) c.without-less.result l.count
-    (kept_size l.kept l.count l.invariant.0 l.invariant.1) c.without-less.ensures.1 in (
-      c.without-less.ensures.0,
-      omega (arith, l.invariant.1),
-      subst (λ (kept : List ℕ). Going (passes a.net a.class) a.vectors.now a.allowed kept (l.t - 1) (l.left - 1)) (sym e)
-          (goes_on a.net a.class a.vectors.now c.requires.0 a.allowed (take l.count l.kept) l.t l.left l.invariant.2
-          c.loop-t-test.true _ e true (sym c.passes.ensures ∙ c.if-passes.true)),
-    )
+    let less = others _ _ l.kept.items _ c.as_slice.ensures.value c.remove-vector.ensures.items in
+    let inside = tried_inside net k p.set.vectors.now p.set.admitted c.args.allowed l.kept.items l.t l.left
+    l.invariant c.loop-t-test.true in
+    let fails = refused_fails _ _ c.passed.result c.passed.ensures.refused (sym c.is_err.ensures.value ∙ c.if-is_err.true) in
+    let back : insert (without (l.t - 1) l.kept.items) (l.t - 1) c.remove-vector.result ≡ l.kept.items =
+    ap (insert (without (l.t - 1) l.kept.items) (l.t - 1)) c.remove-vector.ensures.value
+    ∙ put_back (l.t - 1) l.kept.items c.remove-vector.result inside in
+    let same : c.insert.new.self.items ≡ l.kept.items =
+    c.insert.ensures.items
+    ∙ ap (λ (xs : List ℕ). insert xs (l.t - 1) c.remove-vector.result)
+    (c.remove-vector.ensures.items ∙ remove_is_without (l.t - 1) l.kept.items) ∙ back in
+    rw same (goes_on net k p.set.vectors.now p.set.admitted c.args.allowed l.kept.items l.t l.left l.invariant
+    c.loop-t-test.true _ less false fails)
 
 pub loop-t-preserved : goal.loop-t-preserved
 loop-t-preserved c =
-    let a = c.args in
+    let p = c.args.passed in
+    let net = p.set.nets.network in
+    let k = p.set.class in
     let l = c.loop-t in
-    let e = counted_less (without (l.t - 1) (take l.count l.kept)) (take l.count l.kept) c.without-less.result l.count
-    (kept_size l.kept l.count l.invariant.0 l.invariant.1) c.without-less.ensures.1 in (
-      l.invariant.0,
-      l.invariant.1,
-      goes_on a.net a.class a.vectors.now c.requires.0 a.allowed (take l.count l.kept) l.t l.left l.invariant.2
-          c.loop-t-test.true _ e false (sym c.passes.ensures ∙ c.if-passes.false),
-    )
+    let less = others _ _ l.kept.items _ c.as_slice.ensures.value c.remove-vector.ensures.items in
+    let holds = passed_holds _ c.passed.result (IfOk-weaker c.passed.result _ _ (λ _ h. h.3) c.passed.ensures.passed)
+    (sym c.is_err.ensures.value ∙ c.if-is_err.false) in
+    rw (c.remove-vector.ensures.items ∙ remove_is_without (l.t - 1) l.kept.items)
+    (goes_on net k p.set.vectors.now p.set.admitted c.args.allowed l.kept.items l.t l.left l.invariant
+    c.loop-t-test.true _ less true holds)
 
-pub overflow_sub-result : goal.overflow_sub-result
-overflow_sub-result c = c.loop-t.invariant.2.spent
-
-pub returns : goal.returns
-returns c =
+pub returns-clause-kept : goal.returns-clause-kept
+returns-clause-kept c =
+    let p = c.args.passed.set in
     let l = c.loop-t in
-    let a = c.args in
-    let end =
-    going_last (passes a.net a.class) a.vectors.now a.allowed (take l.count l.kept) l.t l.left
-    l.invariant.2 c.loop-t-test.false in
-    (l.invariant.0, l.invariant.1, end.0, end.1)
+    (going_last (passes p.nets.network p.class) p.vectors.now c.args.allowed l.kept.items l.t l.left l.invariant
+    c.loop-t-test.false).0
+
+pub returns-clause-checks : goal.returns-clause-checks
+returns-clause-checks c =
+    let p = c.args.passed.set in
+    let l = c.loop-t in
+    (going_last (passes p.nets.network p.class) p.vectors.now c.args.allowed l.kept.items l.t l.left l.invariant
+    c.loop-t-test.false).1

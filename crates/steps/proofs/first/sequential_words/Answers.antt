@@ -1,58 +1,43 @@
-use borrow.Author.Rules.{rules}
-use Prim.Native.Nat.{ℕ, ◌/◌}
-use native.Mathlib.Omega.{arith}
-use mathlib.Core.Path.{◌≡◌, sym, ap, ◌∙◌}
-use lib.Pow.{pow_mono}
+use Rattle.std.proofs.Common.{◌≡◌, sym, ap, ◌∙◌, arith, length, ◌<◌, ◌^◌, ◌/◌, ℕ}
 use Rattle.steps.specs.FirstStep.{word_length}
 use Rattle.steps.proofs.StepOneWords.{length_bounds}
-use Rattle.steps.proofs.WordsTaken.{none_taken, more_to_try, word_taken, word_left, all_taken}
+use Rattle.steps.proofs.WordsTaken.{words_taken, none_taken, word_taken, word_left, none_missing, all_taken}
 use Rattle.steps.proofs.first.sequential_words.Goals as goal
-use Rattle.steps.proofs.first.sequential_words.Goals.{else-count_of_ones-half, then-count_of_ones-half}
+use Rattle.steps.proofs.first.sequential_words.Goals.{then-len-n+then-count_of_ones-half, else-len-n}
+use Rattle.steps.proofs.first.sequential_words.Goals.{else-len-n-via-then-len-n+else-count_of_ones-half}
+use Rattle.steps.proofs.first.sequential_words.Goals.{else-len-n-via-else-len-n}
 
-pub loop-count-init : goal.loop-count-init
-loop-count-init c =
-    let net = c.args.net in
-    let half : c.word_length-half.result / 2 ≡ word_length net / 2 = ap (λ (p : ℕ). p / 2) c.word_length-half.ensures in
-    (search rules, search rules, half, pow_mono (length_bounds net c.requires.0 c.requires.1).1, none_taken net _)
+pub bit_word-word-end-requires : goal.bit_word-word-end-requires
+bit_word-word-end-requires c =
+    let nets = c.args.nets in
+    omega (arith, c.word_length-p.ensures, length_bounds nets.network c.requires nets.few)
 
-pub overflow_add-word : goal.overflow_add-word
-overflow_add-word c =
-    let l = c.loop-count in
-    let low = more_to_try c.args.net c.requires.0 c.requires.1 l.words l.count l.word l.invariant.4 c.loop-count-test.true in
-    search rules
+pub loop-word-init : goal.loop-word-init
+loop-word-init c = c.new-words.ensures ∙ sym (none_taken c.args.nets.network)
 
-pub loop-count-smaller : goal.loop-count-smaller
-loop-count-smaller c =
-    let l = c.loop-count in
-    omega (arith, more_to_try c.args.net c.requires.0 c.requires.1 l.words l.count l.word l.invariant.4 c.loop-count-test.true)
-
-pub loop-count-preserved : goal.loop-count-preserved
-loop-count-preserved c =
-    let l = c.loop-count in
-    let net = c.args.net in
-    let tried = c.count_of_ones.ensures in
-    let half = l.invariant.2 in
-    elim c.if-count_of_ones-half.branch [
-      | then-count_of_ones-half w ↦ rw (w.words-is, w.count-is) (
-        search rules,
-        search rules,
-        half,
-        l.invariant.3,
-        word_taken net c.requires.0 c.requires.1 l.words l.count l.word l.invariant.4 c.loop-count-test.true (omega arith)
-            (sym tried ∙ w.if-count_of_ones-half.true ∙ half),
-      )
-      | else-count_of_ones-half w ↦ rw (w.words-is, w.count-is) (
-        l.invariant.0,
-        l.invariant.1,
-        half,
-        l.invariant.3,
-        word_left net c.requires.0 c.requires.1 l.words l.count l.word l.invariant.4 c.loop-count-test.true
-            (λ e. w.if-count_of_ones-half.false (tried ∙ e ∙ sym half)),
-      )
+pub loop-word-preserved : goal.loop-word-preserved
+loop-word-preserved c =
+    let net = c.args.nets.network in
+    let word = c.loop-word.word in
+    let p = c.word_length-p.ensures in
+    let end = c.bit_word-word-end.ensures in
+    let low : word < 2 ^ word_length net = rw (← p, ← end) c.loop-word-test.true in
+    let half : c.word_length-p.result / 2 ≡ word_length net / 2 = ap (λ (q : ℕ). q / 2) p in
+    elim c.if-len-n.branch [
+      | then-len-n+then-count_of_ones-half w ↦
+          let short : length (words_taken net word) < net.nets = rw (← c.loop-word.invariant) (omega (arith, c.len.ensures.value)) in
+          rw (w.words-is, w.push.ensures.items, c.loop-word.invariant)
+          (word_taken net word low short (sym w.count_of_ones.ensures ∙ w.if-count_of_ones-half.true ∙ half))
+      | else-len-n w ↦ rw (w.words-is, c.loop-word.invariant) (elim w.else-len-n.branch [
+        | else-len-n-via-then-len-n+else-count_of_ones-half v ↦
+            word_left net word low (λ e. v.if-count_of_ones-half.false (v.count_of_ones.ensures ∙ e ∙ sym half))
+        | else-len-n-via-else-len-n v ↦ none_missing net word (rw (← c.loop-word.invariant) (omega (arith, c.len.ensures.value)))
+      ])
     ]
 
 pub returns : goal.returns
 returns c =
-    let l = c.loop-count in
-    let all : l.count ≡ c.args.net.nets = omega arith in
-    (l.invariant.1, all_taken c.args.net c.requires.0 c.requires.1 l.words l.count l.word l.invariant.4 all)
+    let net = c.args.nets.network in
+    let end : c.loop-word.word ≡ c.bit_word-word-end.result = omega arith in
+    let all : c.loop-word.word ≡ 2 ^ word_length net = rw (end, c.bit_word-word-end.ensures, c.word_length-p.ensures) in
+    c.loop-word.invariant ∙ ap (words_taken net) all ∙ all_taken net

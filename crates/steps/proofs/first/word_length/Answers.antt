@@ -1,22 +1,14 @@
-use borrow.Author.Rules.{rules}
-use native.Mathlib.Omega.{arith}
-use Rattle.steps.proofs.StepOneWords.{length_bounds, length_further, length_reached}
+use Rattle.std.proofs.Common.{◌≡◌, sym, ◌∙◌, arith}
+use Rattle.steps.proofs.StepOneWords.{length_reached, length_last}
 use Rattle.steps.proofs.first.word_length.Goals as goal
 
-pub loop-p-init : goal.loop-p-init
-loop-p-init c = (search rules, (length_bounds c.args.net c.requires.0 c.requires.1).1)
-
-pub loop-p-smaller : goal.loop-p-smaller
-loop-p-smaller c =
-    let l = c.loop-p in
-    omega (arith, length_further c.args.net c.requires.0 c.requires.1 l.p l.invariant.0 c.loop-p-test.true)
-
-pub loop-p-preserved : goal.loop-p-preserved
-loop-p-preserved c =
-    let l = c.loop-p in
-    (omega (arith, length_further c.args.net c.requires.0 c.requires.1 l.p l.invariant.0 c.loop-p-test.true), l.invariant.1)
+pub returns-then-nets-words : goal.returns-then-nets-words
+returns-then-nets-words c =
+    let nets = c.args.nets in
+    length_reached nets.network c.requires nets.few c.loop-p.p c.loop-p.invariant c.loop-p-test.true c.if-nets-words.true
 
 pub returns : goal.returns
 returns c =
-    let l = c.loop-p in
-    length_reached c.args.net c.requires.0 c.requires.1 l.p l.invariant.0 c.loop-p-test.false
+    let nets = c.args.nets in
+    let last : c.loop-p.p ≡ 8 = omega arith in
+    sym last ∙ length_last nets.network c.requires nets.few c.loop-p.p c.loop-p.invariant last

@@ -1,9 +1,7 @@
-use Prim.Native.Nat.{◌≤◌, ◌-◌}
-use Rattle.steps.specs.FirstStep.{word_length}
+use Rattle.std.proofs.Common.{ℕ, ◌<◌}
+use Rattle.words.specs.Bits.{at}
+use Rattle.steps.proofs.StepOneWords.{central_numbers}
 use Rattle.steps.proofs.first.word_length.Given as goal
 
 abbrev pub invariant-loop-p : goal.invariant-loop-p
-invariant-loop-p l = (l.p ≤ word_length l.net) × (word_length l.net ≤ 8)
-
-abbrev pub decreases-loop-p : goal.decreases-loop-p
-decreases-loop-p l = word_length l.net - l.p
+invariant-loop-p l = (q : ℕ) → q < l.p → at central_numbers q < l.fn.nets.network.nets

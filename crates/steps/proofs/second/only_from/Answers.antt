@@ -1,11 +1,6 @@
-use borrow.Author.Count.{below_more}
-use borrow.Author.Rules.{rules}
-use mathlib.Core.Path.{◌≡◌, refl, sym, ap, ◌∙◌}
-use mathlib.Core.Bool.{Bool, true, false, not, ◌&&◌, beq, false≢true}
-use native.Mathlib.Nat.{not-suc-le-zero}
-use native.Mathlib.Omega.{arith}
-use lib.Dec.{eqb}
-use lib.ListN.{length}
+use Rattle.std.proofs.Common.{below_more, rules, ◌≡◌, refl, sym, ap, ◌∙◌, Bool, true, false, not, ◌&&◌}
+use Rattle.std.proofs.Common.{not-suc-le-zero, arith, eqb, length}
+use mathlib.Core.Bool.{beq, false≢true}
 use Rattle.words.specs.Bits.{at}
 use Rattle.words.proofs.Searching.{any_at, any_none}
 use Rattle.steps.specs.SecondStep.{only_from}

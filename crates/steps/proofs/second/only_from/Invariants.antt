@@ -1,8 +1,4 @@
-use mathlib.Core.Path.{◌≡◌}
-use mathlib.Core.Bool.{Bool, false, not, cond}
-use Prim.Native.Nat.{ℕ, ◌≤◌, ◌<◌, ◌-◌}
-use lib.Dec.{eqb}
-use lib.ListN.{length}
+use Rattle.std.proofs.Common.{◌≡◌, Bool, false, not, cond, ℕ, ◌≤◌, ◌<◌, ◌-◌, eqb, length}
 use Rattle.words.specs.Bits.{at}
 use Rattle.steps.proofs.second.only_from.Given as goal
 

@@ -1,7 +1,4 @@
-use Prim.Native.Nat.{ℕ, ◌≤◌, ◌<◌, ◌-◌}
-use mathlib.Core.Path.{◌≡◌}
-use mathlib.Core.List.{List, ◌++◌}
-use lib.ListN.{length}
+use Rattle.std.proofs.Common.{ℕ, ◌<◌, ◌≡◌, List, ◌++◌, length}
 use Rattle.words.specs.Bits.{at}
 use Rattle.network.specs.declared.Network.{Network}
 use Rattle.network.specs.States.{Fits}
@@ -16,7 +13,7 @@ OnlyReach net owners first second i reach = (state : List ℕ)
 
 abbrev pub invariant-loop-r : goal.invariant-loop-r
 invariant-loop-r l =
-    (l.r ≤ l.m) × (length l.reaches ≡ 64) × ((z : ℕ) → z < l.r → OnlyReach l.net l.receivers l.first l.second z (at l.reaches z))
-
-abbrev pub decreases-loop-r : goal.decreases-loop-r
-decreases-loop-r l = l.m - l.r
+    let both = l.fn.both in
+    let owners = both.board.receivers.now in
+    (length l.reaches.items ≡ l.r)
+    × ((z : ℕ) → z < l.r → OnlyReach both.board.nets.network owners both.first.now both.second.now z (at l.reaches.items z))

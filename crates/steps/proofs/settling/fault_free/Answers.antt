@@ -1,44 +1,46 @@
-use borrow.Author.Rules.{rules}
-use borrow.Author.Count.{below_more}
-use Prim.Native.Nat.{◌<◌, ◌^◌}
-use native.Mathlib.Nat.{not-suc-le-zero}
-use native.Mathlib.Omega.{arith}
-use mathlib.Core.Path.{◌≡◌, sym, ◌∙◌}
-use lib.ListN.{length, take, set}
-use lib.Seq.{get_or-set_same, get_or-set_other, get_or-take, length-take-le, ext_get_or}
-use Rattle.words.specs.Bits.{at}
+use Rattle.std.proofs.Common.{◌∙◌, arith, length, take_all, length-take, ◌<◌}
+use Rattle.std.proofs.lemmas.List.{take_more}
+use Rattle.network.proofs.Rows.{receivers_of_board}
 use Rattle.steps.specs.SecondStep.{fault_free_state}
 use Rattle.steps.proofs.BothSteps.{fault_free_size, fault_free_at}
 use Rattle.steps.proofs.settling.fault_free.Goals as goal
 
-pub loop-r-init : goal.loop-r-init
-loop-r-init c = (search rules, search rules, λ z l. absurd (not-suc-le-zero l))
-
 pub bit_word-requires : goal.bit_word-requires
-bit_word-requires c = c.requires.1 c.loop-r.r c.loop-r-test.true
+bit_word-requires c =
+    let board = c.args.board in
+    omega (
+      arith,
+      (receivers_of_board board.nets.network board.receivers.now board.admitted).owner c.loop-i.i-index c.loop-i-test.true,
+      board.nets.few,
+    )
 
-pub loop-r-preserved : goal.loop-r-preserved
-loop-r-preserved c =
-    let l = c.loop-r in
-    let owners = c.args.receivers.now in
-    let w = c.bit_word.result in
-    let room : l.r < length l.reaches =
-    omega (arith, l.invariant.1, c.requires.0, c.loop-r-test.true) in (
-      search rules,
-      search rules,
-      below_more (λ z. at (set l.reaches l.r w) z ≡ 2 ^ at owners z) l.r
-          (λ z m. get_or-set_other l.reaches l.r z w 0 (λ e. omega arith) ∙ l.invariant.2 z m)
-          (get_or-set_same l.reaches l.r w 0 room ∙ c.bit_word.ensures),
+pub push-requires : goal.push-requires
+push-requires c =
+    let board = c.args.board in (
+      omega arith,
+      rw c.loop-i.invariant (omega (
+        arith,
+        length-take c.loop-i.i-index (fault_free_state board.receivers.now),
+        c.loop-i-test.true,
+        (receivers_of_board board.nets.network board.receivers.now board.admitted).most,
+      )),
+    )
+
+pub loop-i-preserved : goal.loop-i-preserved
+loop-i-preserved c =
+    let owners = c.args.board.receivers.now in
+    let i = c.loop-i.i-index in
+    let inside : i < length owners = c.loop-i-test.true in
+    rw (
+      c.push.ensures.items,
+      c.loop-i.invariant,
+      c.bit_word.ensures,
+      take_more (fault_free_state owners) i 0 (rw (fault_free_size owners) inside),
+      fault_free_at owners i inside,
     )
 
 pub returns : goal.returns
 returns c =
-    let l = c.loop-r in
-    let owners = c.args.receivers.now in
-    let size : length (take (length owners) l.reaches) ≡ length owners =
-    length-take-le (length owners) l.reaches (omega (arith, l.invariant.1, c.requires.0)) in (
-      l.invariant.1,
-      ext_get_or 0 (take (length owners) l.reaches) (fault_free_state owners) (size ∙ sym (fault_free_size owners))
-          (λ r m. let k : r < length owners = rw size at m in
-          get_or-take (length owners) l.reaches r 0 k ∙ l.invariant.2 r (omega arith) ∙ sym (fault_free_at owners r k)),
-    )
+    let owners = c.args.board.receivers.now in
+    c.loop-i.invariant
+    ∙ take_all c.loop-i.i-index (fault_free_state owners) (omega (arith, fault_free_size owners, c.loop-i-test.false))

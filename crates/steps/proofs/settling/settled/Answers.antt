@@ -1,51 +1,61 @@
-use native.Mathlib.Omega.{arith}
-use mathlib.Core.Path.{◌≡◌, sym, ap, ◌∙◌}
-use Prim.Native.Nat.{ℕ}
-use mathlib.Core.List.{List}
-use lib.ListN.{length, take}
-use lib.Seq.{length-take-le}
-use Rattle.network.specs.declared.Network.{Network}
-use Rattle.network.specs.Rows.{AdmittedBoard}
-use Rattle.network.proofs.Rows.{no_high_bit, nets_admitted, receivers_of_board}
+use Rattle.std.proofs.Common.{◌≡◌, sym, ap, ◌∙◌, Bool, true, not, List, ◌++◌, length, ℕ}
+use borrow.Author.Tests.{not-true, not-false}
+use Rattle.network.proofs.Rows.{no_high_bit, receivers_of_board}
+use Rattle.words.specs.Answers.{Decides}
+use Rattle.network.specs.States.{Fits}
+use Rattle.network.specs.Rows.{HighBit}
+use Rattle.steps.specs.declared.settling.BothSteps.{BothSteps}
+use Rattle.diagnosis.specs.ReadBack.{read_back, no_state_fits}
+use Rattle.steps.specs.SecondStep.{session_vectors}
 use Rattle.steps.proofs.StepOneWords.{words_apart}
 use Rattle.steps.proofs.BothSteps.{candidate_decides}
 use Rattle.steps.proofs.settling.settled.Goals as goal
 
--- a reach for each receiver
-reaches_size : (net : Network) (owners reaches : List ℕ) → AdmittedBoard net owners → length reaches ≡ 64
-    → length (take (length owners) reaches) ≡ length owners
-reaches_size net owners reaches board size =
-    length-take-le (length owners) reaches (omega (arith, (receivers_of_board net owners board).most, size))
+-- the reaches decoded decide whether a state fits, and are what is read back
+module _ (both : BothSteps) where
+  abbrev fits : List ℕ → Type 0
+  fits state =
+      Fits both.board.nets.network (length both.board.receivers.now) both.board.nets.network.nets
+      (session_vectors both.board.nets.network both.board.receivers.now both.first.now)
+      (both.first.now ++ both.second.now) state
 
-pub slice_bounds-state-end : goal.slice_bounds-state-end
-slice_bounds-state-end c =
-    omega (arith, (receivers_of_board c.args.net c.args.receivers.now c.requires.0).most, c.decoded-state.ensures.0)
+  abbrev none_fits : Bool
+  none_fits =
+      no_state_fits both.board.nets.network (length both.board.receivers.now) both.board.nets.network.nets
+      (session_vectors both.board.nets.network both.board.receivers.now both.first.now)
+      (both.first.now ++ both.second.now)
 
-pub slice_bounds-fits_both-end : goal.slice_bounds-fits_both-end
-slice_bounds-fits_both-end c =
-    sym (reaches_size c.args.net c.args.receivers.now c.decoded-state.result c.requires.0 c.decoded-state.ensures.0)
+  abbrev back : List ℕ
+  back =
+      read_back both.board.nets.network (length both.board.receivers.now) both.board.nets.network.nets
+      (session_vectors both.board.nets.network both.board.receivers.now both.first.now)
+      (both.first.now ++ both.second.now)
 
-pub fits_both-fits-requires : goal.fits_both-fits-requires
-fits_both-fits-requires c =
-    let p = c.requires in (
-      p.0,
-      p.1,
-      p.2,
-      p.3,
-      reaches_size c.args.net c.args.receivers.now c.decoded-state.result p.0 c.decoded-state.ensures.0,
-    )
+  decides : (HighBit (length both.board.receivers.now) both.first.now → ⊥)
+      → (HighBit (length both.board.receivers.now) both.second.now → ⊥)
+      → (reaches lent : List ℕ) (test : Bool) → ((state : List ℕ) → fits state → reaches ≡ state) → lent ≡ reaches
+      → Decides test (fits lent) → (test ≡ not none_fits) × (test ≡ true → reaches ≡ back)
+  decides narrow also_narrow reaches lent test only same told =
+      let nets = both.board.nets in
+      let owners = both.board.receivers.now in
+      candidate_decides nets.network owners both.first.now both.second.now both.one_a_word
+      (both.one_a_vector ∙ ap length both.asked)
+      (no_high_bit (length owners) both.first.now narrow)
+      (no_high_bit (length owners) both.second.now also_narrow)
+      (words_apart nets.network both.board.two nets.few)
+      (receivers_of_board nets.network owners both.board.admitted)
+      reaches test only (rw same at told)
 
-pub returns : goal.returns
-returns c =
-    let a = c.args in
-    let p = c.requires in
-    let bounds = nets_admitted a.net p.0.0 in
-    let decides =
-    candidate_decides a.net a.receivers.now a.first.now a.second.now p.1 (p.3 ∙ ap length p.2)
-    (no_high_bit (length a.receivers.now) a.first.now p.4)
-    (no_high_bit (length a.receivers.now) a.second.now p.5) (words_apart a.net bounds.0 bounds.1)
-    (receivers_of_board a.net a.receivers.now p.0)
-    (take (length a.receivers.now) c.decoded-state.result) c.fits_both-fits.result
-    c.decoded-state.ensures.1 c.fits_both-fits.ensures
-    in
-    (c.decoded-state.ensures.0, decides.0, decides.1)
+pub returns-then-fits_both : goal.returns-then-fits_both
+returns-then-fits_both c =
+    let state = c.decoded-state in
+    let found = decides c.args.both c.requires.0 c.requires.1 state.result.items c.as_slice.result.now c.fits_both.result
+    state.ensures.only c.as_slice.ensures.value c.fits_both.ensures in
+    (not-true _ (sym found.0 ∙ c.if-fits_both.true), found.1 c.if-fits_both.true)
+
+pub returns-else-fits_both : goal.returns-else-fits_both
+returns-else-fits_both c =
+    let state = c.decoded-state in
+    let found = decides c.args.both c.requires.0 c.requires.1 state.result.items c.as_slice.result.now c.fits_both.result
+    state.ensures.only c.as_slice.ensures.value c.fits_both.ensures in
+    not-false _ (sym found.0 ∙ c.if-fits_both.false)

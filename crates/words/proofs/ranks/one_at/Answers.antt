@@ -1,6 +1,4 @@
-use Prim.Native.Nat.{suc, ◌-◌}
-use mathlib.Core.Path.{◌≡◌, sym, ◌∙◌}
-use native.Mathlib.Omega.{arith}
+use Rattle.std.proofs.Common.{suc, ◌-◌, ◌≡◌, sym, ◌∙◌, arith}
 use Rattle.words.proofs.Counting.{sets_zero, sets_single}
 use Rattle.words.proofs.ranks.one_at.Goals as goal
 

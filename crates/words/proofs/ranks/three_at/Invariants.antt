@@ -1,6 +1,4 @@
-use Prim.Native.Nat.{◌^◌}
-use mathlib.Core.Path.{◌≡◌}
-use lib.ListN.{length}
+use Rattle.std.proofs.Common.{◌^◌, ◌≡◌, length}
 use Rattle.words.specs.Searching.{sets_of_class}
 use Rattle.words.proofs.Counting.{Top}
 use Rattle.words.proofs.ranks.three_at.Given as goal

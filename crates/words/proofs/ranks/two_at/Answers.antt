@@ -1,8 +1,4 @@
-use Prim.Native.Nat.{suc, ◌+◌, ◌-◌, ◌^◌, ◌≤◌}
-use mathlib.Core.Path.{◌≡◌, sym}
-use native.Mathlib.Omega.{arith}
-use lib.Pow.{pow_mono}
-use lib.ListN.{length}
+use Rattle.std.proofs.Common.{suc, ◌+◌, ◌-◌, ◌^◌, ◌≤◌, ◌≡◌, sym, arith, pow_mono, length}
 use Rattle.words.specs.Searching.{sets_of_class}
 use Rattle.words.proofs.Counting.{sets_of_one, sets_some, sets_less, sets_below, sets_zero}
 use Rattle.words.proofs.Counting.{top_first, top_less, top_rest, top_is}

@@ -1,4 +1,4 @@
-use native.Mathlib.Omega.{arith}
+use Rattle.std.proofs.Common.{arith}
 use lib.Count.{ones-le}
 use Rattle.words.proofs.sets.count_of_ones.Goals as goal
 

@@ -1,7 +1,4 @@
-use Prim.Native.Nat.{ℕ, ◌-◌, ◌^◌}
-use mathlib.Core.Path.{◌≡◌, refl, sym, ap, ◌∙◌}
-use native.Mathlib.Omega.{arith}
-use lib.Pow.{pow_pos}
+use Rattle.std.proofs.Common.{ℕ, ◌-◌, ◌^◌, ◌≡◌, refl, sym, ap, ◌∙◌, arith, pow_pos}
 use Rattle.words.proofs.sets.low_ones.Goals as goal
 
 all_ones : 18446744073709551615 ≡ 2 ^ 64 - 1

@@ -1,18 +1,10 @@
-use borrow.Author.Rules.{rules}
-use borrow.Author.Tests.{eqb-true, eqb-false, eq-eqb}
-use Prim.Native.Nat.{ℕ, suc, ◌+◌, ◌-◌, ◌*◌, ◌^◌, ◌≤◌, ◌<◌}
-use native.Mathlib.Nat.{le_of_suc-le-suc, mul-le-mul_right}
-use native.Mathlib.Omega.{arith}
-use mathlib.Core.Path.{◌≡◌, refl, sym, ap, ap₂, ◌∙◌, subst}
-use mathlib.Core.Bool.{Bool, true, false, not, ◌&&◌, false≢true}
-use mathlib.Core.List.{List}
-use mathlib.Core.Logic.{⊎_elim}
-use lib.Bits.{bit_and}
+use Rattle.std.proofs.Common.{rules, eqb-true, eq-eqb, ℕ, suc, ◌+◌, ◌-◌, ◌*◌, ◌^◌, ◌≤◌, ◌<◌, le_of_suc-le-suc}
+use Rattle.std.proofs.Common.{mul-le-mul_right, arith, ◌≡◌, refl, sym, ap, ap₂, ◌∙◌, subst, Bool, true, false, not}
+use Rattle.std.proofs.Common.{◌&&◌, List, ⊎_elim, bit_and, eqb, length, set, pow_pos, pow_mono, get_or-set_same}
+use Rattle.std.proofs.Common.{get_or-set_other}
+use borrow.Author.Tests.{eqb-false}
+use mathlib.Core.Bool.{false≢true}
 use Rattle.std.specs.Int.Count.{count_trailing_zeros}
-use lib.Dec.{eqb}
-use lib.ListN.{length, set}
-use lib.Pow.{pow_pos, pow_mono}
-use lib.Seq.{get_or-set_same, get_or-set_other}
 use Rattle.words.specs.Bits.{has, bit_value, at}
 use Rattle.words.proofs.Bits.{bit_value_below_two, has_zero, has_inside, has_without}
 use Rattle.words.proofs.Classes.{has_lowest_one, lowest_one_out}
@@ -56,7 +48,7 @@ unfolding bit_value
 settled x t rest i e = rw (e, has_zero i) (omega arith)
 
 pub loop-rest-init : goal.loop-rest-init
-loop-rest-init c = (search rules, search rules, λ i l. refl)
+loop-rest-init g c = (search rules, search rules, λ i l. refl)
 
 -- the lowest net of the rest
 module _ (rest i : ℕ) (some : 0 < rest) (fits : rest < 2 ^ 64) (lowest : i ≡ count_trailing_zeros 64 rest) where
@@ -70,14 +62,14 @@ module _ (rest i : ℕ) (some : 0 < rest) (fits : rest < 2 ^ 64) (lowest : i ≡
   rest_next = lowest_one_out 64 rest some fits ∙ ap (λ (z : ℕ). rest - 2 ^ z) (sym lowest)
 
 pub offset_bounds-columns-i : goal.offset_bounds-columns-i
-offset_bounds-columns-i c =
+offset_bounds-columns-i g c =
     omega (arith, net_inside c.loop-rest.rest _ (omega arith) c.loop-rest.invariant.0 c.lowest_net-i.ensures)
 
 pub bounds-columns-i : goal.bounds-columns-i
-bounds-columns-i c = net_inside c.loop-rest.rest _ (omega arith) c.loop-rest.invariant.0 c.lowest_net-i.ensures
+bounds-columns-i g c = net_inside c.loop-rest.rest _ (omega arith) c.loop-rest.invariant.0 c.lowest_net-i.ensures
 
 pub overflow_add-columns : goal.overflow_add-columns
-overflow_add-columns c =
+overflow_add-columns g c =
     let l = c.loop-rest in
     let i = c.lowest_net-i.result in
     let some : 0 < l.rest = omega arith in
@@ -87,17 +79,17 @@ overflow_add-columns c =
     }
 
 pub bounds-columns-i-in-loop-rest : goal.bounds-columns-i-in-loop-rest
-bounds-columns-i-in-loop-rest c =
+bounds-columns-i-in-loop-rest g c =
     net_inside c.loop-rest.rest _ (omega arith) c.loop-rest.invariant.0 c.lowest_net-i.ensures
 
 pub loop-rest-smaller : goal.loop-rest-smaller
-loop-rest-smaller c =
+loop-rest-smaller g c =
     let some : 0 < c.loop-rest.rest = omega arith in
     rw (rest_next c.loop-rest.rest _ some c.loop-rest.invariant.0 c.lowest_net-i.ensures)
     (omega (arith, pow_pos c.lowest_net-i.result, some))
 
 pub loop-rest-preserved : goal.loop-rest-preserved
-loop-rest-preserved c =
+loop-rest-preserved g c =
     let l = c.loop-rest in
     let i = c.lowest_net-i.result in
     let some : 0 < l.rest = omega arith in
@@ -111,7 +103,7 @@ loop-rest-preserved c =
     )
 
 pub returns : goal.returns
-returns c = (
+returns g c = (
   search rules,
-  λ i l. settled _ _ _ i c.loop-rest-test.false ∙ c.loop-rest.invariant.2 i l,
+  λ i l. rw (← c.bits-rest.ensures) (settled _ _ _ i c.loop-rest-test.false ∙ c.loop-rest.invariant.2 i l),
 )

@@ -1,12 +1,9 @@
-use borrow.Author.Rules.{rules}
-use borrow.Author.Tests.{eq-eqb, ne_eqb}
-use native.Mathlib.Omega.{arith}
-use mathlib.Core.Path.{◌∙◌}
+use Rattle.std.proofs.Common.{rules, arith, ◌∙◌, eq-eqb, ne_eqb}
 use Rattle.words.specs.Bits.{has, word}
 use Rattle.words.specs.Turning.{column}
 use Rattle.words.proofs.Making.{word_set, word_keep, word_whole}
 use Rattle.words.proofs.turning.column.Goals as goal
-use Rattle.words.proofs.turning.column.Goals.{else-rows-t-eq1, then-rows-t-eq1}
+use Rattle.words.proofs.turning.column.Goals.{else-row-i-eq1, then-row-i-eq1}
 
 pub loop-t-init : goal.loop-t-init
 unfolding word
@@ -16,17 +13,15 @@ pub loop-t-preserved : goal.loop-t-preserved
 unfolding has
 loop-t-preserved c =
     let a = c.args in
-    let l = c.loop-t in (
-      omega arith,
-      elim c.if-rows-t-eq1.branch [
-        | then-rows-t-eq1 w ↦ w.w-is ∙ word_set (λ v. has v a.i) a.rows.now l.t l.w l.invariant.1 (omega arith)
-            (omega arith) (eq-eqb _ 1 w.if-rows-t-eq1.true)
-        | else-rows-t-eq1 w ↦ w.w-is ∙ word_keep (λ v. has v a.i) a.rows.now l.t l.w l.invariant.1 (omega arith) (ne_eqb _ 1 w.if-rows-t-eq1.false)
-      ],
-    )
+    let l = c.loop-t in
+    elim c.if-row-i-eq1.branch [
+      | then-row-i-eq1 w ↦ w.w-is ∙ word_set (λ v. has v a.i) a.rows.now l.t l.w l.invariant (omega arith)
+          (omega arith) (eq-eqb _ 1 w.if-row-i-eq1.true)
+      | else-row-i-eq1 w ↦ w.w-is ∙ word_keep (λ v. has v a.i) a.rows.now l.t l.w l.invariant (omega arith) (ne_eqb _ 1 w.if-row-i-eq1.false)
+    ]
 
 pub returns : goal.returns
 unfolding column
 returns c =
     let a = c.args in
-    c.loop-t.invariant.1 ∙ word_whole (λ v. has v a.i) a.rows.now c.loop-t.t c.loop-t-test.false
+    c.loop-t.invariant ∙ word_whole (λ v. has v a.i) a.rows.now c.loop-t.t c.loop-t-test.false
