@@ -107,13 +107,15 @@ for path in source_files():
         body = text[m.end():matching(text, m.end() - 1, '{}')]
         variants = [v.strip() for v in re.split(r',(?![^(]*\))', body) if v.strip()]
         if len(variants) <= 3 and any('(' in v for v in variants):
-            note('1', 'enum with few variants, one with a value', '%s %s { %s }' % (os.path.relpath(path, top), m.group(1), ', '.join(variants)))
+            shown = '%s %s { %s }' % (os.path.relpath(path, top), m.group(1), ', '.join(variants))
+            note('1', 'enum with few variants, one with a value', shown)
 for w in lines_with(r'\b(code|fits|own|mark|done): (u64|bool|u8)\b'):
     note('1', 'flag or code in a struct', w)
 for w in lines_with(r'\b(Refused|refused)\((\d+|number)\b(?!\w)'):
     note('1', 'refusal by its number', w)
 for f in all_functions:
-    if f.result == '-> u64' and re.search(r'return (1?\d|2[0-2]);', f.body) and re.search(r'refusal|code', f.body + f.name + str(f.clauses)):
+    words = f.body + f.name + str(f.clauses)
+    if f.result == '-> u64' and re.search(r'return (1?\d|2[0-2]);', f.body) and re.search(r'refusal|code', words):
         note('1', 'function whose result is a refusal number or 0', place(f))
 
 # 2: functions of one shape: the same tokens but for names, types and numbers
