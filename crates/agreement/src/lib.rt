@@ -18,6 +18,7 @@ ghost use Rattle.demands.specs.Programs.{our_reader, our_writer, our_sessions, o
 pub mod through_c;
 
 use checker::Verdict;
+use decimal::Page;
 use findings::Finding;
 use listing::Text;
 use network::Network;
@@ -269,4 +270,11 @@ pub fn report(file: &[u8]) -> Text
     ensures bytes { result.bytes ≡ lent_after (full (our_report file.now)) (replicate 4142 0) }
 {
     listing::report(file)
+}
+
+// the same as the report program writes it
+pub fn report_text(file: &[u8]) -> Page
+    ensures { result.items ≡ our_report file.now }
+{
+    listing::report_text(file)
 }

@@ -21,6 +21,7 @@ use calls::Calls;
 use std::io;
 
 fn main(rt: HostRuntime) -> io::Result<()> {
-    let table = trials::input(&rt);
-    trials::try_each(&rt, &mut Calls::default(), table.as_slice())
+    let mut buffer = [0; 65536];
+    let count = trials::input(&rt, &mut buffer);
+    trials::try_each(&rt, &mut Calls::default(), &buffer[..count])
 }

@@ -1,7 +1,8 @@
 -- Laws of numbers in base ten, and how long they are.
-use Rattle.std.proofs.Common.{ℕ, zero, suc, ◌+◌, ◌*◌, ◌/◌, ◌%◌, ◌<◌, ◌≤◌, ◌^◌, ◌≡◌, ◌≢◌, refl, sym, ap, ◌∙◌, arith}
+use Rattle.std.proofs.Common.{ℕ, zero, suc, ◌+◌, ◌-◌, ◌*◌, ◌/◌, ◌%◌, ◌<◌, ◌≤◌, ◌^◌, ◌≡◌, ◌≢◌, refl, sym, ap, ◌∙◌, arith}
 use Rattle.std.proofs.Common.{zero-le, Bool, true, false, List, [], ◌∷◌, ◌++◌, length, drop, get_or, length-append}
-use Rattle.std.proofs.Common.{drop-cons, ltb, ltb-true, ltb-false}
+use Rattle.std.proofs.Common.{drop-cons, append_assoc, set, ltb, ltb-true, ltb-false}
+use Rattle.std.proofs.lemmas.List.{drop-set}
 use Rattle.decimal.specs.Decimal.{digit_byte, digits, decimal, spaced, numbers_end}
 
 -- the last digit stands alone, or after those of the rest
@@ -49,6 +50,30 @@ decimal_step n l fits =
     let low : n / 10 < 10 ^ 19 = omega arith in
     let some : n / 10 ≢ 0 = λ z. (omega arith) in
     long 19 n l ∙ ap (λ (high : List ℕ). high ++ digit_byte (n % 10) ∷ []) (sym (enough 19 (n / 10) low some))
+
+-- ---- digits put before those at the end of a buffer
+
+module _ (n rest start : ℕ) (buffer : List ℕ) (some : 0 < start) (inside : start ≤ length buffer)
+    (e : decimal n ≡ decimal rest ++ drop start buffer) where
+  abbrev last : ℕ
+  last = 48 + rest % 10
+
+  put : drop (start - 1) (set buffer (start - 1) last) ≡ last ∷ drop start buffer
+  put = let next : start - 1 + 1 ≡ start = omega arith in rw (drop-set buffer (start - 1) last (omega arith), next)
+
+  -- it is the first of the number
+  pub first_put : rest < 10 → drop (start - 1) (set buffer (start - 1) last) ≡ decimal n
+  first_put l = let same : rest % 10 ≡ rest = omega arith in rw (put, e, decimal_digit rest l, same)
+
+  -- others come before it
+  pub digit_put : 10 ≤ rest → rest < 2 ^ 64 → decimal n ≡ decimal (rest / 10) ++ drop (start - 1) (set buffer (start - 1) last)
+  digit_put l fits =
+      rw (put, e, decimal_step rest l fits) (append_assoc (decimal (rest / 10)) (last ∷ []) (drop start buffer))
+
+-- one digit less needs one place less
+pub place_less : (start rest : ℕ) → rest < 10 ^ start → 10 ≤ rest → rest / 10 < 10 ^ (start - 1)
+place_less zero rest l some = absurd (omega arith)
+place_less (suc start) rest l some = let less : suc start - 1 ≡ start = omega arith in rw less (omega arith)
 
 -- ---- lengths
 

@@ -8,7 +8,7 @@ ghost use Rattle.words.specs.Answers.{count_of, lent_after};
 ghost use Rattle.words.specs.Bits.{has};
 ghost use Rattle.network.specs.States.{State};
 ghost use Rattle.findings.specs.Findings.{joins, partners, kind, finding};
-ghost use Rattle.findings.specs.FindingsTable.{findings_answer, table_meaning};
+ghost use Rattle.findings.specs.FindingsTable.{findings_answer, table_meaning, blank_table};
 
 use network::admitting::{Board, admit_board};
 use network::refusal::{Refusal, refuse_if};
@@ -119,4 +119,20 @@ pub fn findings(
         table[r] = finding_of(board, state, r);
     }
     Ok(())
+}
+
+// The call *findings* by value, with a blank table lent.
+pub fn by_value(net: Network, receivers: &[u64], state: &[u64]) -> Result<[Finding; 64], Refusal>
+    ensures answer { table_meaning (length receivers.now) result
+        ≡ count_of (findings_answer net receivers.now state.now 64) }
+    ensures table { IfOk result
+        (λ table. table ≡ lent_after (findings_answer net receivers.now state.now 64) blank_table) }
+{
+    let mut table = [Finding {
+        kind: 0,
+        reach: 0,
+        partners: 0,
+    }; 64];
+    findings(net, receivers, state, &mut table)?;
+    Ok(table)
 }

@@ -1,10 +1,18 @@
 -- The lines of the nets of a board, one after another, and how long they are.
-use Rattle.std.proofs.Common.{ℕ, zero, suc, ◌+◌, ◌*◌, ◌-◌, ◌<◌, ◌≤◌, ◌≡◌, ap, arith, List, [], ◌∷◌, ◌++◌, length}
-use Rattle.std.proofs.Common.{length-append, zero-le}
+use Rattle.std.proofs.Common.{ℕ, zero, suc, ◌+◌, ◌*◌, ◌-◌, ◌<◌, ◌≤◌, ◌≡◌, ap, ◌∙◌, arith, List, [], ◌∷◌, ◌++◌, length}
+use Rattle.std.proofs.Common.{length-append, zero-le, get_or}
+use Rattle.words.specs.Answers.{NoneHolds, lent_after}
+use Rattle.words.proofs.Answers.{none_both}
 use Rattle.network.specs.declared.Network.{Network}
+use Rattle.network.specs.States.{State}
+use Rattle.network.specs.Rows.{BoardRows, AdmittedBoard}
 use Rattle.network.specs.OwnReceivers.{own_receivers}
+use Rattle.network.proofs.Rows.{receivers_of_board}
+use Rattle.network.proofs.OwnReceivers.{own_size}
 use Rattle.findings.specs.declared.Finding.{Finding}
 use Rattle.findings.specs.Findings.{finding}
+use Rattle.findings.specs.FindingsTable.{TableRows, findings_answer, blank, blank_table}
+use Rattle.findings.proofs.FindingsLaws.{Accepted, none_holds_accepted, record_written}
 use Rattle.decimal.specs.Decimal.{decimal, numbers_end}
 use Rattle.decimal.proofs.Numerals.{decimal_most, numbers_most}
 use Rattle.listing.specs.Report.{net_line, net_lines}
@@ -12,6 +20,27 @@ use Rattle.listing.specs.Report.{net_line, net_lines}
 -- what is found at the one receiver of net i
 abbrev pub found_at : Network → List ℕ → ℕ → Finding
 found_at net state i = finding net (own_receivers net.nets) state i
+
+-- *findings* accepts a state of a board, with a table of 64
+accepts : (net : Network) (owners state : List ℕ) → AdmittedBoard net owners
+    → State net (length owners) net.nets state → Accepted net owners state 64
+accepts net owners state board is_state =
+    let most : length owners ≤ 64 = (receivers_of_board net owners board).most in
+    let table : NoneHolds (TableRows net (length owners) state 64) =
+    (λ eleven. eleven is_state, (λ twelve. omega (arith, most, twelve), tt)) in
+    none_holds_accepted net owners state 64
+    (none_both (BoardRows net owners) (TableRows net (length owners) state 64) board table)
+
+-- and record i of the table that it has filled is what is found at the one receiver of net i
+pub record_at : (net : Network) (owners state : List ℕ) (table : List Finding) → owners ≡ own_receivers net.nets
+    → AdmittedBoard net owners → State net (length owners) net.nets state
+    → table ≡ lent_after (findings_answer net owners state 64) blank_table
+    → (i : ℕ) → i < net.nets → get_or table i blank ≡ found_at net state i
+record_at net owners state table own board is_state e i l =
+    let size = ap length own ∙ own_size net.nets in
+    record_written net owners state blank_table table (accepts net owners state board is_state) e i
+    (omega (arith, size, l)) blank
+    ∙ ap (λ (list : List ℕ). finding net list state i) own
 
 -- a net's line has at most 84 bytes
 line_most : (i : ℕ) (found : Finding) → length (net_line i found) ≤ 84

@@ -1,4 +1,4 @@
-// What the rows with which calls begin admit: values of these types, which only a test of the rows makes.
+// What the rows with which calls begin admit, as types: each place that makes a value of one proves that they do.
 ghost use Rattle.std.specs.Prelude.{◌≡◌, ◌≤◌, true, false, IfOk, IfErr, length};
 ghost use Rattle.words.specs.Answers.{NoneHolds};
 ghost use Rattle.network.specs.Rows.{bad_net_count, network_admission, set_admission, board_admission};

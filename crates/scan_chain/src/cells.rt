@@ -76,12 +76,28 @@ pub fn admit_chain<'a>(
     })
 }
 
+// The clocks of one scan.
+pub(crate) fn scan_length(cells: usize) -> usize
+    requires { cells ≤ 200 }
+    ensures { result ≡ cells + 5 }
+{
+    cells + 5
+}
+
+// The clocks for so many vectors: the last one is scanned twice.
+pub(crate) fn clock_count(vectors: usize, cells: usize) -> usize
+    requires { (vectors ≤ 64) × (cells ≤ 200) }
+    ensures { result ≡ clock_count vectors cells }
+{
+    (vectors + 1) * scan_length(cells)
+}
+
 impl Chain<'_> {
     // The clocks of one scan.
     pub fn scan_length(self) -> usize
         ensures { result ≡ self.entry.cells + 5 }
     {
-        self.cells + 5
+        scan_length(self.cells)
     }
 
     // The clocks for so many vectors: the last one is scanned twice.
@@ -89,6 +105,6 @@ impl Chain<'_> {
         requires { vectors ≤ 64 }
         ensures { result ≡ clock_count vectors self.entry.cells }
     {
-        (vectors + 1) * self.scan_length()
+        clock_count(vectors, self.cells)
     }
 }

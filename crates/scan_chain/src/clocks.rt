@@ -1,12 +1,12 @@
-// The clocks for a test set, one byte each. All cells but the drivers' get 0. Helpers: each asks for room, and for at
-// most 64 vectors.
-ghost use Rattle.std.specs.Prelude.{◌≡◌, false, ◌+◌, ◌<◌, ◌≤◌, length};
+// The clocks for a test set, one byte each. `drivers` has the cell of each driver; all other cells get 0. Helpers: each
+// asks for room, and for at most 64 vectors.
+ghost use Rattle.std.specs.Prelude.{◌≡◌, false, ◌+◌, ◌<◌, ◌≤◌, length, replicate};
 ghost use Rattle.words.specs.Bits.{at};
 ghost use Rattle.words.specs.Writing.{written};
 ghost use Rattle.words.specs.Answers.{lent_after, full};
 ghost use Rattle.scan_chain.specs.Scans.{clock, scan, cells_by, contents, clock_count, all_zero};
 ghost use Rattle.scan_chain.specs.Scans.{scanned, clocks};
-ghost use Rattle.scan_chain.specs.Cells.{BeginsWith};
+ghost use Rattle.scan_chain.specs.Cells.{Distinct, BeginsWith};
 
 use crate::cells::Chain;
 
@@ -31,30 +31,46 @@ fn scanned(vectors: &[u64], t: usize) -> u64
     }
 }
 
+// All scans into the front of a list. Of a chain they need the drivers alone.
+pub fn put_clocks(cells: usize, drivers: &[u64], vectors: &[u64], out: &mut [u8])
+    requires { (0 < cells) × (cells ≤ 200) × (length drivers.now ≤ 64) × Distinct cells drivers.now
+        × (0 < length vectors.now) × (length vectors.now ≤ 64)
+        × (clock_count (length vectors.now) cells ≤ length out.old) }
+    ensures { out.new ≡ lent_after (full (clocks cells drivers.now all_zero vectors.now)) out.old }
+{
+    let chain = Chain {
+        cells,
+        drivers,
+        receivers: &[],
+    };
+    for t in 0..vectors.len() + 1 {
+        chain.put_scan(scanned(vectors, t), out, t * chain.scan_length());
+    }
+}
+
 impl Chain<'_> {
     // The scan by which every cell gets 0: TMS 1 on the first clock, on the last of the shift and on the one after it.
-    fn zero_scan(self) -> [u8; 205]
-        ensures size { length result ≡ 205 }
-        ensures scan { BeginsWith result (scan (cells_by self.entry.cells (λ c. false))) }
+    fn zero_scan(self, bytes: &mut [u8; 205])
+        requires { bytes.old ≡ replicate 205 0 }
+        ensures size { length bytes.new ≡ 205 }
+        ensures scan { BeginsWith bytes.new (scan (cells_by self.entry.cells (λ c. false))) }
     {
-        let mut scan = [0u8; 205];
-        scan[0] = 1;
-        scan[self.cells + 2] = 1;
-        scan[self.cells + 3] = 1;
-        scan
+        bytes[0] = 1;
+        bytes[self.cells + 2] = 1;
+        bytes[self.cells + 3] = 1;
     }
 
     // The scan of a vector.
-    fn scan_of(self, vector: u64) -> [u8; 205]
-        ensures size { length result ≡ 205 }
-        ensures scan { BeginsWith result (scan (contents self.entry.cells self.entry.drivers.now all_zero vector)) }
+    fn scan_of(self, vector: u64, bytes: &mut [u8; 205])
+        requires { bytes.old ≡ replicate 205 0 }
+        ensures size { length bytes.new ≡ 205 }
+        ensures scan { BeginsWith bytes.new (scan (contents self.entry.cells self.entry.drivers.now all_zero vector)) }
     {
-        let mut scan = self.zero_scan();
+        self.zero_scan(bytes);
         for (i, &cell) in self.drivers.iter().enumerate() {
             let cell = cell as usize;
-            scan[3 + cell] = clock(cell + 1 == self.cells, (vector >> i) % 2 == 1);
+            bytes[3 + cell] = clock(cell + 1 == self.cells, (vector >> i) % 2 == 1);
         }
-        scan
     }
 
     // A scan into a list from an index on.
@@ -63,7 +79,8 @@ impl Chain<'_> {
         ensures { out.new ≡ written out.old start (scan (contents self.entry.cells self.entry.drivers.now all_zero vector)) }
     {
         let size = self.scan_length();
-        let scan = self.scan_of(vector);
+        let mut scan = [0; 205];
+        self.scan_of(vector, &mut scan);
         out[start..start + size].copy_from_slice(&scan[..size]);
     }
 
@@ -73,8 +90,6 @@ impl Chain<'_> {
             × (clock_count (length vectors.now) self.cells ≤ length out.old) }
         ensures { out.new ≡ lent_after (full (clocks self.entry.cells self.entry.drivers.now all_zero vectors.now)) out.old }
     {
-        for t in 0..=vectors.len() {
-            self.put_scan(scanned(vectors, t), out, t * self.scan_length());
-        }
+        put_clocks(self.cells, self.drivers, vectors, out);
     }
 }

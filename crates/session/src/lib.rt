@@ -7,6 +7,7 @@ ghost use Rattle.words.specs.Answers.{lent_after};
 ghost use Rattle.session.specs.Calls.{begin_answer, begun, first_answer, first_answered, second_answered};
 ghost use Rattle.session.specs.Calls.{after_step, code_of};
 
+pub mod by_value;
 pub mod drive;
 mod new_record;
 mod record;

@@ -17,6 +17,7 @@ use record::Record;
 use std::io;
 
 fn main(rt: HostRuntime) -> io::Result<()> {
-    let table = trials::input(&rt);
-    trials::try_each(&rt, &mut Record::junk(), table.as_slice())
+    let mut buffer = [0; 65536];
+    let count = trials::input(&rt, &mut buffer);
+    trials::try_each(&rt, &mut Record::junk(), &buffer[..count])
 }

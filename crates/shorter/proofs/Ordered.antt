@@ -1,7 +1,8 @@
 -- Lists without an entry, and entries in the order given.
-use Rattle.std.proofs.Common.{◌≡◌, refl, sym, ap, ◌∙◌, inl, inr, List, [], ◌∷◌, ℕ, zero, suc, ◌≤◌, ◌<◌, zero-le}
+use Rattle.std.proofs.Common.{◌≡◌, refl, sym, ap, ◌∙◌, inl, inr, List, [], ◌∷◌, ◌++◌, ℕ, zero, suc, ◌≤◌, ◌<◌, zero-le}
 use Rattle.std.proofs.Common.{not-suc-le-zero, le_of_suc-le-suc, arith, length, get_or}
 use Rattle.std.specs.List.{insert, remove}
+use Rattle.words.specs.Bits.{at}
 use Rattle.checker.specs.Passed.{Within}
 use Rattle.shorter.specs.Shorter.{without, InOrder}
 
@@ -57,6 +58,41 @@ unfolding without
 without_length i [] l = absurd (not-suc-le-zero l)
 without_length zero (x ∷ xs) l = refl
 without_length (suc i) (x ∷ xs) l = ap suc (without_length i xs (le_of_suc-le-suc l))
+
+-- the entries of a list without one
+pub without_before : (i t : ℕ) (xs : List ℕ) → t < i → at (without i xs) t ≡ at xs t
+unfolding without
+without_before i t [] l = refl
+without_before zero t (x ∷ xs) l = absurd (not-suc-le-zero l)
+without_before (suc i) zero (x ∷ xs) l = refl
+without_before (suc i) (suc t) (x ∷ xs) l = without_before i t xs (le_of_suc-le-suc l)
+
+pub without_after : (i t : ℕ) (xs : List ℕ) → i ≤ t → at (without i xs) t ≡ at xs (suc t)
+unfolding without
+without_after i zero [] l = refl
+without_after i (suc t) [] l = refl
+without_after zero t (x ∷ xs) l = refl
+without_after (suc i) zero (x ∷ xs) l = absurd (not-suc-le-zero l)
+without_after (suc i) (suc t) (x ∷ xs) l = without_after i t xs (le_of_suc-le-suc l)
+
+-- a list with one entry more at its end, without another entry, or without that one
+pub without_kept : (i : ℕ) (xs : List ℕ) (w : ℕ) → (length xs ≡ i → ⊥)
+    → without i (xs ++ w ∷ []) ≡ without i xs ++ w ∷ []
+unfolding without
+without_kept zero [] w d = absurd (d refl)
+without_kept (suc i) [] w d = refl
+without_kept zero (x ∷ xs) w d = refl
+without_kept (suc i) (x ∷ xs) w d =
+    ap (λ (rest : List ℕ). x ∷ rest) (without_kept i xs w (λ e. d (ap suc e)))
+
+pub without_last : (xs : List ℕ) (w : ℕ) → without (length xs) (xs ++ w ∷ []) ≡ without (length xs) xs
+unfolding without
+without_last [] w = refl
+without_last (x ∷ xs) w = ap (λ (rest : List ℕ). x ∷ rest) (without_last xs w)
+
+-- it has no more entries than the whole
+pub without_most : (i : ℕ) (xs : List ℕ) → length (without i xs) ≤ length xs
+without_most i xs = in_order_length (without i xs) xs (without_in_order i xs)
 
 -- an entry taken out of a list, and put back
 pub remove_is_without : (i : ℕ) (xs : List ℕ) → remove xs i ≡ without i xs

@@ -1,6 +1,6 @@
 // Vectors dropped from a passed set, one after the other.
 ghost use Rattle.std.specs.Prelude.{◌≡◌, ◌≤◌, length};
-ghost use Rattle.shorter.specs.Shorter.{tried};
+ghost use Rattle.shorter.specs.Shorter.{without, tried};
 
 use arrayvec::ArrayVec;
 use checker::PassedSet;
@@ -25,8 +25,21 @@ fn list_of(words: &[u64]) -> ArrayVec<u64, 64>
     list
 }
 
-// The trials from the last vector to the first, as long as checks are left: a vector is taken out, and put back where
-// the others do not pass. A set that is passed has two vectors or more, so no trial is on an empty one.
+// A list without its entry i.
+fn without(i: usize, words: &ArrayVec<u64, 64>) -> ArrayVec<u64, 64>
+    ensures { result.items ≡ without i words.now.items }
+{
+    let mut less = ArrayVec::new();
+    for (t, &word) in words.as_slice().iter().enumerate() {
+        if t != i {
+            less.push(word);
+        }
+    }
+    less
+}
+
+// The trials from the last vector to the first, as long as checks are left. A set that is passed has two vectors or
+// more, so no trial is on an empty one.
 pub fn drop_vectors(passed: PassedSet, allowed: u64) -> Left
     ensures kept { result.vectors.items
         ≡ (tried passed.entry.set.nets.network passed.entry.set.class passed.entry.set.vectors.now allowed).kept }
@@ -41,14 +54,14 @@ pub fn drop_vectors(passed: PassedSet, allowed: u64) -> Left
     while (0 < t) & (0 < left) {
         t -= 1;
         left -= 1;
-        let vector = kept.remove(t);
+        let less = without(t, &kept);
         let others = TestSet {
             nets: set.nets,
             class: set.class,
-            vectors: kept.as_slice(),
+            vectors: less.as_slice(),
         };
-        if checker::passed(others).is_err() {
-            kept.insert(t, vector);
+        if checker::passed(others).is_ok() {
+            kept = less;
         }
     }
     Left {

@@ -1,6 +1,6 @@
 -- The loop that gathers the sequential words of step one: each number is tried, and taken if it has half ones and words
 -- are missing.
-use Rattle.std.proofs.Common.{◌≡◌, sym, ◌∙◌, refl, List, [], ◌∷◌, ◌++◌, ℕ, ◌+◌, ◌/◌, ◌^◌, ◌<◌, ◌≤◌, length, take}
+use Rattle.std.proofs.Common.{◌≡◌, sym, ap, subst, ◌∙◌, refl, List, [], ◌∷◌, ◌++◌, ℕ, zero, suc, ◌+◌, ◌-◌, ◌/◌, ◌^◌, ◌<◌, ◌≤◌, length, take}
 use Rattle.std.proofs.Common.{arith, add-one, eq-eqb, length-append, length-take, ne_eqb, take_all, ⊎_elim}
 use lib.Count.{ones}
 use lib.Seq.{take-append-le}
@@ -55,6 +55,27 @@ module _ (net : Network) where
       (sym (take-append-le net.nets (passing (balanced net) word) (word ∷ []) enough)))
       (λ e. rw (passing_no (balanced net) word e)) (cases (balanced net word)))
 
+  pub taken_most : (word : ℕ) → length (words_taken net word) ≤ net.nets
+  unfolding words_taken
+  taken_most word = omega (arith, length-take net.nets (passing (balanced net) word))
+
   pub all_taken : words_taken net (2 ^ word_length net) ≡ sequential_words net
   unfolding words_taken sequential_words balanced_words
   all_taken = refl
+
+  -- so once none is missing, these are all
+  enough_kept : (d word : ℕ) → net.nets ≤ length (words_taken net word)
+      → words_taken net word ≡ words_taken net (word + d)
+  enough_kept zero word many = ap (words_taken net) (omega arith)
+  enough_kept (suc d) word many =
+      let one = none_missing word many in
+      let more : net.nets ≤ length (words_taken net (word + 1)) =
+      subst (λ (words : List ℕ). net.nets ≤ length words) one many in
+      let same : word + 1 + d ≡ word + suc d = omega arith in
+      one ∙ enough_kept d (word + 1) more ∙ ap (words_taken net) same
+
+  pub enough_taken : (word : ℕ) → word ≤ 2 ^ word_length net → net.nets ≤ length (words_taken net word)
+      → words_taken net word ≡ sequential_words net
+  enough_taken word l many =
+      let end : word + (2 ^ word_length net - word) ≡ 2 ^ word_length net = omega arith in
+      enough_kept (2 ^ word_length net - word) word many ∙ ap (words_taken net) end ∙ all_taken

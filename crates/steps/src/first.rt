@@ -29,7 +29,10 @@ pub fn sequential_words(nets: Nets) -> ArrayVec<u64, 48>
     let n = nets.network.nets as usize;
     let mut words = ArrayVec::new();
     for word in 0..words::sets::bit_word(p) {
-        if words.len() < n && words::sets::count_of_ones(word) == half {
+        if words.len() == n {
+            return words;
+        }
+        if words::sets::count_of_ones(word) == half {
             words.push(word);
         }
     }

@@ -3,7 +3,8 @@
 
 #![tactic(auto)]
 
-ghost use Rattle.std.specs.Prelude.{◌≤◌, vec_len};
+ghost use Rattle.std.specs.Counts.{IsPrefixLen};
+ghost use Rattle.std.specs.Prelude.{IfOk, IfSome};
 
 use setting::Setting;
 use std::io;
@@ -14,9 +15,6 @@ pub mod read;
 pub mod receivers;
 pub mod setting;
 pub mod show;
-
-// The most bytes of a table.
-const MOST: usize = 65536;
 
 // What a line of a table is.
 #[derive(Clone, Copy, Debug, PartialEq, Eq)]
@@ -70,16 +68,31 @@ pub fn try_each<T: Trial>(rt: &impl Print, trial: &mut T, table: &[u8]) -> io::R
     Ok(())
 }
 
-// Reads standard input to its end: a table, or nothing where it is too long for one or a read fails, which is said on
-// standard error.
-pub fn input<R: Input + Eprint + AllocGlobal>(rt: &R) -> Vec<u8>
-    ensures { vec_len result ≤ 65536 }
+// Reads to the end, and returns how many bytes there are; nothing where the buffer is too short for them. A read after
+// the end answers 0.
+fn read_to_end(reader: &mut impl Read, buffer: &mut [u8]) -> io::Result<Option<usize>>
+    ensures { IfOk result (λ read. IfSome read (λ count. IsPrefixLen count buffer.new)) }
 {
-    let mut table = Vec::new(rt.alloc());
-    let read = rt.reader().take(MOST as u64 + 1).read_to_end(&mut table);
-    if read.is_err() || MOST < table.len() {
-        let _ = eprintln!(rt; "standard input cannot be read to its end");
-        table.clear();
+    let mut count: usize = 0;
+    // A `while`: each read says how far it came.
+    while count < buffer.len() {
+        match reader.read(&mut buffer[count..])? {
+            0 => return Ok(Some(count)),
+            more => count += more,
+        }
     }
-    table
+    let past = reader.read(&mut [0])?;
+    Ok((past == 0).then_some(count))
+}
+
+// Reads standard input to its end, and returns how many bytes it has; none where the buffer is too short for it or a
+// read fails, which is said on standard error.
+pub fn input(rt: &(impl Input + Eprint), buffer: &mut [u8]) -> usize
+    ensures { IsPrefixLen result buffer.new }
+{
+    if let Ok(Some(count)) = read_to_end(&mut rt.reader(), buffer) {
+        return count;
+    }
+    let _ = eprintln!(rt; "standard input cannot be read to its end");
+    0
 }

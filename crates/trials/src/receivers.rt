@@ -1,14 +1,40 @@
 // The receivers of the calls of a table.
+ghost use Rattle.std.specs.Prelude.{◌≤◌, length};
+
 use crate::read::Words;
 use crate::{read, show};
 use std::fmt;
 
-// One receiver a net, whatever the nets are; or a list with the net of each receiver. The names say more than an
-// `Option` of a list would.
-#[derive(Drop)]
+// A list with the net of each receiver, the first `count` of an array: unlike `Words`, it is copied, as a setting is.
+#[derive(Clone, Copy)]
+pub struct Owners {
+    count: usize,
+    nets: [u64; 65],
+    ghost within: { count ≤ 65 },
+}
+
+impl Owners {
+    fn of(list: &[u64]) -> Owners
+        requires { length list.now ≤ 65 }
+    {
+        let mut nets = [0; 65];
+        nets[..list.len()].copy_from_slice(list);
+        Owners {
+            count: list.len(),
+            nets,
+        }
+    }
+
+    pub(crate) fn as_slice(&self) -> &[u64] {
+        &self.nets[..self.count]
+    }
+}
+
+// One receiver a net, whatever the nets are; or a list. The names say more than an `Option` of a list would.
+#[derive(Clone, Copy)]
 pub enum Receivers {
     Own,
-    Given(Words),
+    Given(Owners),
 }
 
 // The list of one receiver a net by the call *own receivers*; none if the call refuses n.
@@ -24,7 +50,10 @@ impl Receivers {
     pub fn read(line: &[u8]) -> Option<Receivers> {
         match line.strip_prefix(b"receivers")? {
             b" own" => Some(Receivers::Own),
-            list @ ([] | [b' ', ..]) => Some(Receivers::Given(read::numbers(list)?)),
+            list @ ([] | [b' ', ..]) => {
+                let list: Words = read::numbers(list)?;
+                Some(Receivers::Given(Owners::of(list.as_slice())))
+            }
             _ => None,
         }
     }
@@ -33,7 +62,11 @@ impl Receivers {
     pub fn list(&self, nets: u64) -> Words {
         match self {
             Receivers::Own => own(nets),
-            Receivers::Given(list) => list.clone().unwrap(),
+            Receivers::Given(owners) => {
+                let mut list = Words::from(owners.nets);
+                list.truncate(owners.count);
+                list
+            }
         }
     }
 }
@@ -43,7 +76,7 @@ impl fmt::Display for Receivers {
     fn fmt<W: fmt::Write>(&self, f: &mut fmt::Formatter<W>) -> fmt::Result {
         match self {
             Receivers::Own => Ok(()),
-            Receivers::Given(list) => write!(f, "{}", show::Receivers(list.as_slice())),
+            Receivers::Given(owners) => write!(f, "{}", show::Receivers(owners.as_slice())),
         }
     }
 }

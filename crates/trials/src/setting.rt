@@ -6,7 +6,7 @@ use network::Network;
 use std::io;
 
 // All that a call takes of a board but the number of its nets: the soft level, the gate and the receivers.
-#[derive(Drop)]
+#[derive(Clone, Copy)]
 pub struct Setting {
     pub level: u64,
     pub gate: u64,
@@ -66,7 +66,7 @@ impl Setting {
         self.receivers = receivers;
         match &self.receivers {
             Receivers::Own => println!(rt; "receivers own"),
-            Receivers::Given(list) => println!(rt; "receivers{}", Spaced(list.as_slice())),
+            Receivers::Given(owners) => println!(rt; "receivers{}", Spaced(owners.as_slice())),
         }
     }
 }

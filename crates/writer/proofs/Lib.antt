@@ -1,4 +1,4 @@
 pub mod WriterLaws
-pub mod Appending
+pub mod FileParts
 pub mod ContentLaws
 pub mod WriteRows

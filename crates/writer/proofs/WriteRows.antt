@@ -1,5 +1,5 @@
 -- What the call *write a job file* owes, row by row, and where it writes the file.
-use Rattle.std.proofs.Common.{◌≡◌, ℕ, Bool, true, false, List, ◌++◌, length, drop, sym, ap, ap₂, ◌∙◌, ◌&&◌, ltb}
+use Rattle.std.proofs.Common.{◌≡◌, ℕ, Bool, true, false, List, ◌++◌, length, sym, ap, ap₂, ◌∙◌, ◌&&◌, ltb}
 use Rattle.words.specs.Answers.{Answer, refused, full, by_tests, count_of, lent_after}
 use Rattle.words.proofs.Answers.{owed_refused, owed_full}
 use Rattle.network.specs.declared.Network.{Network}
@@ -70,14 +70,8 @@ pub tested_room : {size : ℕ} (bytes : List ℕ) (room : ℕ) {result outcome :
     → result ≡ no_room size room → result ≡ outcome → no_room (length bytes) room ≡ outcome
 tested_room bytes room s e f = ap (λ (n : ℕ). no_room n room) (sym s) ∙ sym e ∙ f
 
--- what is written is the file of the call's arguments
-pub same_file : (bytes responses : List ℕ) {n kind class k : ℕ} {nets net : Network} {set vectors : List ℕ}
+-- the file of the content is that of the call's arguments
+pub same_file : (responses : List ℕ) {n kind class k : ℕ} {nets net : Network} {set vectors : List ℕ}
     → n ≡ kind → nets ≡ net → class ≡ k → set ≡ vectors
-    → bytes ≡ file_of n nets class set responses → bytes ≡ file_of kind net k vectors responses
-same_file bytes responses a b c d e = e ∙ rw (a, b, c, d)
-
--- bytes at the front of a lent file
-pub in_front : (part bytes lent : List ℕ) (size : ℕ) → part ≡ bytes → size ≡ length bytes
-    → part ++ drop size lent ≡ lent_after (full bytes) lent
-unfolding lent_after
-in_front part bytes lent size e f = ap₂ (λ (p : List ℕ) (n : ℕ). p ++ drop n lent) e f
+    → file_of n nets class set responses ≡ file_of kind net k vectors responses
+same_file responses a b c d = rw (a, b, c, d)

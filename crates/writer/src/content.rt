@@ -1,13 +1,14 @@
-// What a job file says, and its bytes. Helpers: those that append ask for room.
-ghost use Rattle.std.specs.Prelude.{◌≡◌, [], ◌∷◌, ◌+◌, ◌*◌, ◌≤◌, ◌++◌, length};
-ghost use Rattle.arrayvec.specs.ArrayVec.{array_vec_len};
+// What a job file says, and its bytes. Helpers: those that put bytes into the front of a lent file, or of a part of one,
+// ask for room.
+ghost use Rattle.std.specs.Prelude.{◌≡◌, ◌∷◌, ◌+◌, ◌*◌, ◌≤◌, length};
+ghost use Rattle.words.specs.Answers.{full, lent_after};
 ghost use Rattle.words.specs.Turning.{transpose};
 ghost use Rattle.jobfile.specs.Bytes.{word_bytes};
-ghost use Rattle.jobfile.specs.Layout.{nets_bytes};
-ghost use Rattle.writer.specs.Writer.{entries_for, response_entry, head_of};
+ghost use Rattle.jobfile.specs.Layout.{bodies_at, nets_bytes, nets_size};
+ghost use Rattle.writer.specs.Writer.{entries_for, response_entry, head_of, bodies_of};
 ghost use Rattle.jobfile.specs.BodyKind.{number_of_kind};
 
-use crate::putting::{Bytes, put_entry, put_words};
+use crate::putting::{put_entry, put_words};
 use jobfile::NETS_SIZE;
 use jobfile::kind::BodyKind;
 use network::admitting::TestSet;
@@ -32,6 +33,13 @@ impl Content<'_> {
         if self.responses.is_empty() { 2 } else { 3 }
     }
 
+    // Where the bodies begin.
+    fn start(&self) -> usize
+        ensures { (result ≡ bodies_at (entries_for self.now.responses.now)) × (result ≤ 32) }
+    {
+        5 + 9 * self.entries()
+    }
+
     // How many bytes the vectors' body has.
     fn vectors_size(&self) -> usize
         ensures { (result ≡ length (body_of self.now)) × (result ≤ 512) }
@@ -42,83 +50,103 @@ impl Content<'_> {
         }
     }
 
-    // The entry of the responses, if there are any, with their body from here on.
-    fn put_response_entry(&self, bytes: &mut Bytes, body: usize)
-        requires { array_vec_len bytes.old + 9 ≤ 2048 }
-        ensures items { bytes.new.items ≡ bytes.old.items ++ response_entry body self.now.responses.now }
-        ensures len { array_vec_len bytes.new ≤ array_vec_len bytes.old + 9 }
+    // How many bytes the file has.
+    pub fn size(&self) -> usize
+        ensures { result ≡ length (bytes_of_content self.now) }
+    {
+        self.start() + NETS_SIZE + self.vectors_size() + 8 * self.responses.len()
+    }
+
+    // The entry of the responses, if there are any, with their body from `body` on.
+    fn put_response_entry(&self, file: &mut [u8], body: usize)
+        requires { length (response_entry body self.now.responses.now) ≤ length file.old }
+        ensures { file.new ≡ lent_after (full (response_entry body self.now.responses.now)) file.old }
     {
         let count = self.responses.len();
         if 0 < count {
-            put_entry(bytes, 3, body, 8 * count);
+            put_entry(file, 3, body, 8 * count);
         }
     }
 
     // What stands before the bodies.
-    fn put_head(&self, bytes: &mut Bytes)
-        requires { bytes.old.items ≡ [] }
-        ensures items { bytes.new.items
-            ≡ head_of (number_of_kind self.now.kind) (length (body_of self.now)) self.now.responses.now }
-        ensures len { array_vec_len bytes.new ≤ 32 }
+    fn put_head(&self, file: &mut [u8])
+        requires { bodies_at (entries_for self.now.responses.now) ≤ length file.old }
+        ensures { let size = length (body_of self.now) in file.new
+            ≡ lent_after (full (head_of (number_of_kind self.now.kind) size self.now.responses.now)) file.old }
     {
         let entries = self.entries();
-        let start = 5 + 9 * entries;
+        let start = self.start();
         let size = self.vectors_size();
-        jobfile::append_mark(bytes);
-        bytes.push(entries as u8);
-        put_entry(bytes, 1, start, NETS_SIZE);
-        put_entry(bytes, u8::from(self.kind), start + NETS_SIZE, size);
-        self.put_response_entry(bytes, start + NETS_SIZE + size);
+        jobfile::put_mark(file);
+        file[4] = entries as u8;
+        put_entry(&mut file[5..], 1, start, NETS_SIZE);
+        put_entry(
+            &mut file[14..],
+            u8::from(self.kind),
+            start + NETS_SIZE,
+            size,
+        );
+        self.put_response_entry(&mut file[23..], start + NETS_SIZE + size);
     }
 
     // The nets body.
-    fn put_nets(&self, bytes: &mut Bytes)
-        requires { array_vec_len bytes.old + 4 ≤ 2048 }
-        ensures items { bytes.new.items ≡ bytes.old.items ++ nets_bytes self.now.set.nets.network self.now.set.class }
-        ensures len { array_vec_len bytes.new ≡ array_vec_len bytes.old + 4 }
+    fn put_nets(&self, file: &mut [u8])
+        requires { nets_size ≤ length file.old }
+        ensures { file.new ≡ lent_after (full (nets_bytes self.now.set.nets.network self.now.set.class)) file.old }
     {
         let net = self.set.nets.network;
-        bytes.push(net.nets as u8);
-        bytes.push(self.set.class as u8);
-        bytes.push(net.level as u8);
-        bytes.push(net.gate as u8);
+        let bytes = [
+            net.nets as u8,
+            self.set.class as u8,
+            net.level as u8,
+            net.gate as u8,
+        ];
+        file[..NETS_SIZE].copy_from_slice(&bytes);
     }
 
     // The vectors' body net by net: their number, then the sequential words.
-    fn put_turned(&self, bytes: &mut Bytes)
-        requires { array_vec_len bytes.old + 512 ≤ 2048 }
-        ensures items { let set = self.now.set in bytes.new.items ≡ bytes.old.items
-            ++ length set.vectors.now ∷ word_bytes (transpose set.nets.network.nets set.vectors.now) }
-        ensures len { array_vec_len bytes.new ≡ array_vec_len bytes.old + 1 + 8 * self.now.set.nets.network.nets }
+    fn put_turned(&self, file: &mut [u8])
+        requires { 1 + 8 * self.now.set.nets.network.nets ≤ length file.old }
+        ensures { let set = self.now.set in file.new ≡ lent_after
+            (full (length set.vectors.now ∷ word_bytes (transpose set.nets.network.nets set.vectors.now))) file.old }
     {
         let nets = self.set.nets.network.nets;
         let mut turned = [0u64; 48];
         turning::fill::<Ptv>(self.set.vectors, nets, &mut turned);
-        bytes.push(self.set.vectors.len() as u8);
-        put_words(bytes, &turned[..nets as usize]);
+        file[0] = self.set.vectors.len() as u8;
+        put_words(&mut file[1..], &turned[..nets as usize]);
     }
 
     // The vectors' body.
-    fn put_vectors(&self, bytes: &mut Bytes)
-        requires { array_vec_len bytes.old + 512 ≤ 2048 }
-        ensures items { bytes.new.items ≡ bytes.old.items ++ body_of self.now }
-        ensures len { array_vec_len bytes.new ≤ array_vec_len bytes.old + 512 }
+    fn put_vectors(&self, file: &mut [u8])
+        requires { length (body_of self.now) ≤ length file.old }
+        ensures { file.new ≡ lent_after (full (body_of self.now)) file.old }
     {
         match self.kind {
-            BodyKind::Vectors => put_words(bytes, self.set.vectors),
-            BodyKind::NetByNet => self.put_turned(bytes),
+            BodyKind::Vectors => put_words(file, self.set.vectors),
+            BodyKind::NetByNet => self.put_turned(file),
         }
     }
 
-    // The whole file.
-    pub fn bytes(&self) -> Bytes
-        ensures { result.items ≡ bytes_of_content self.now }
+    // The bodies.
+    fn put_bodies(&self, file: &mut [u8])
+        requires { nets_size + length (body_of self.now) + 8 * length self.now.responses.now ≤ length file.old }
+        ensures { let set = self.now.set in file.new ≡ lent_after
+            (full (bodies_of set.nets.network set.class (body_of self.now) self.now.responses.now)) file.old }
     {
-        let mut bytes = Bytes::new();
-        self.put_head(&mut bytes);
-        self.put_nets(&mut bytes);
-        self.put_vectors(&mut bytes);
-        put_words(&mut bytes, self.responses);
-        bytes
+        let size = self.vectors_size();
+        self.put_nets(file);
+        self.put_vectors(&mut file[NETS_SIZE..]);
+        put_words(&mut file[NETS_SIZE + size..], self.responses);
+    }
+
+    // The whole file.
+    pub fn put(&self, file: &mut [u8])
+        requires { length (bytes_of_content self.now) ≤ length file.old }
+        ensures { file.new ≡ lent_after (full (bytes_of_content self.now)) file.old }
+    {
+        let start = self.start();
+        self.put_head(file);
+        self.put_bodies(&mut file[start..]);
     }
 }

@@ -49,9 +49,8 @@ pub fn write_job(
         set,
         responses,
     };
-    let bytes = content.bytes();
-    let size = bytes.len();
+    let size = content.size();
     refuse_if(network::refusals::no_room(size, file.len()), Refusal::Room)?;
-    file[..size].copy_from_slice(bytes.as_slice());
+    content.put(file);
     Ok(size as u64)
 }

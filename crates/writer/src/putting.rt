@@ -1,43 +1,36 @@
-// Bytes appended to those of a file. Helpers: each asks for room.
-ghost use Rattle.std.specs.Prelude.{◌≡◌, ◌+◌, ◌*◌, ◌≤◌, ◌++◌, length};
-ghost use Rattle.arrayvec.specs.ArrayVec.{array_vec_len};
+// Bytes put into the front of a lent file, or of a part of one. Helpers: each asks for room.
+ghost use Rattle.std.specs.Prelude.{◌≡◌, ◌*◌, ◌<◌, ◌≤◌, length};
+ghost use Rattle.words.specs.Answers.{full, lent_after};
 ghost use Rattle.jobfile.specs.Bytes.{bytes_of, word_bytes};
 ghost use Rattle.writer.specs.Writer.{entry_bytes};
 
-use arrayvec::ArrayVec;
-
-// The bytes of a job file so far, of which it has at most 2,048.
-pub type Bytes = ArrayVec<u8, 2048>;
-
 // This many bytes of a number, low byte first.
-fn put_number(bytes: &mut Bytes, count: usize, number: u64)
-    requires { (count ≤ 8) × (array_vec_len bytes.old + count ≤ 2048) }
-    ensures items { bytes.new.items ≡ bytes.old.items ++ bytes_of count number }
-    ensures len { array_vec_len bytes.new ≡ array_vec_len bytes.old + count }
+fn put_number(file: &mut [u8], count: usize, number: u64)
+    requires { (0 < count) × (count ≤ 8) × (count ≤ length file.old) }
+    ensures { file.new ≡ lent_after (full (bytes_of count number)) file.old }
 {
-    bytes
-        .try_extend_from_slice(&number.to_le_bytes()[..count])
-        .unwrap();
+    let bytes = number.to_le_bytes();
+    file[..count].copy_from_slice(&bytes[..count]);
 }
 
 // Each word in 8 bytes.
-pub fn put_words(bytes: &mut Bytes, words: &[u64])
-    requires { array_vec_len bytes.old + 8 * length words.now ≤ 2048 }
-    ensures items { bytes.new.items ≡ bytes.old.items ++ word_bytes words.now }
-    ensures len { array_vec_len bytes.new ≡ array_vec_len bytes.old + 8 * length words.now }
+pub fn put_words(file: &mut [u8], words: &[u64])
+    requires { 8 * length words.now ≤ length file.old }
+    ensures { file.new ≡ lent_after (full (word_bytes words.now)) file.old }
 {
+    let mut at = 0;
     for &word in words {
-        put_number(bytes, 8, word);
+        put_number(&mut file[at..], 8, word);
+        at += 8;
     }
 }
 
 // An entry of the table: its kind, where its body begins and how long that is.
-pub fn put_entry(bytes: &mut Bytes, kind: u8, body: usize, size: usize)
-    requires { array_vec_len bytes.old + 9 ≤ 2048 }
-    ensures items { bytes.new.items ≡ bytes.old.items ++ entry_bytes kind body size }
-    ensures len { array_vec_len bytes.new ≡ array_vec_len bytes.old + 9 }
+pub fn put_entry(file: &mut [u8], kind: u8, body: usize, size: usize)
+    requires { 9 ≤ length file.old }
+    ensures { file.new ≡ lent_after (full (entry_bytes kind body size)) file.old }
 {
-    bytes.push(kind);
-    put_number(bytes, 4, body as u64);
-    put_number(bytes, 4, size as u64);
+    file[0] = kind;
+    put_number(&mut file[1..], 4, body as u64);
+    put_number(&mut file[5..], 4, size as u64);
 }

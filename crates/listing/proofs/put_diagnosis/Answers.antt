@@ -1,4 +1,6 @@
-use Rattle.std.proofs.Common.{ℕ, Result, Ok, Err, ◌≡◌, sym, subst, List, length, take, replicate}
+use Rattle.std.proofs.Common.{ℕ, ◌+◌, ◌≤◌, Result, Ok, Err, ◌≡◌, ◌∙◌, sym, ap, subst, arith, List, ◌++◌, length, take}
+use Rattle.std.proofs.Common.{replicate}
+use Rattle.arrayvec.specs.ArrayVec.{array_vec_len}
 use Rattle.words.specs.Answers.{Answer, refused, full, lent_after, count_of}
 use Rattle.network.specs.declared.Network.{Network}
 use Rattle.network.specs.States.{State}
@@ -8,6 +10,7 @@ use Rattle.network.specs.OwnReceivers.{own_receivers}
 use Rattle.network.specs.declared.refusal.Refusal.{Refusal}
 use Rattle.network.specs.Refusing.{row_number, answer_of}
 use Rattle.diagnosis.specs.Diagnosis.{diagnosis_answer}
+use Rattle.listing.specs.Report.{refused_line}
 use Rattle.listing.proofs.Reporting.{own_front, diagnosis_refused, diagnosis_wrote}
 use Rattle.listing.proofs.put_diagnosis.Goals as goal
 
@@ -41,11 +44,10 @@ pub put_refused-requires : goal.put_refused-requires
 put_refused-requires c =
     let set = c.args.set in
     let d = c.diagnose-answer in
-    rw (
-      refused_so set.nets.network set.class set.vectors.now c.args.responses.now d.result d.new.out
-          c.fill_own.new.out c.fill_own.ensures (d.ensures.answer, d.ensures.list) c.in-Err.refusal c.in-Err.is,
-      sym c.from.ensures,
-    ) at c.requires
+    subst (λ (n : ℕ). array_vec_len c.args.text.now + length (refused_line n) ≤ 4142) (omega (arith, c.from.ensures))
+    (rw (refused_so set.nets.network set.class set.vectors.now c.args.responses.now d.result d.new.out
+    c.fill_own.new.out c.fill_own.ensures (d.ensures.answer, d.ensures.list) c.in-Err.refusal c.in-Err.is)
+    at c.requires)
 
 pub invariant_of-put_nets : goal.invariant_of-put_nets
 invariant_of-put_nets c =
@@ -86,7 +88,8 @@ returns-in-Err c =
     let d = c.diagnose-answer in
     rw (refused_so set.nets.network set.class set.vectors.now c.args.responses.now d.result d.new.out
     c.fill_own.new.out c.fill_own.ensures (d.ensures.answer, d.ensures.list) c.in-Err.refusal c.in-Err.is)
-    (rw c.from.ensures at c.put_refused.ensures)
+    (c.put_refused.ensures
+    ∙ ap (λ (n : ℕ). c.args.text.now.items ++ refused_line n) (omega (arith, c.from.ensures)))
 
 pub returns-in-Ok : goal.returns-in-Ok
 returns-in-Ok c =

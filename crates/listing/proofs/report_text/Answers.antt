@@ -1,14 +1,18 @@
-use Rattle.std.proofs.Common.{ℕ, ◌∙◌, sym, ap, arith, List, ◌++◌, length, take, length-take-le}
+use Rattle.std.proofs.Common.{ℕ, ◌≡◌, ◌∙◌, sym, ap, ap₂, arith, List, [], ◌++◌, length, take, length-take-le}
 use Rattle.network.proofs.Rows.{nets_admitted}
+use Rattle.network.specs.Refusing.{row_number}
 use Rattle.listing.specs.Report.{refused_line, content_text}
 use Rattle.listing.proofs.Reporting.{read_refused, read_content, refused_most, content_most}
 use Rattle.listing.proofs.report_text.Goals as goal
 
+-- the line of a number, at the end of no text
+alone : (text after : List ℕ) (n row : ℕ) → after ≡ text ++ refused_line n → text ≡ [] → n ≡ row → after ≡ refused_line row
+alone text after n row put none same = put ∙ ap₂ (λ (front : List ℕ) (k : ℕ). front ++ refused_line k) none same
+
 pub put_refused-requires : goal.put_refused-requires
 put_refused-requires c =
     let none = ap length c.new-text.ensures in
-    let most = refused_most c.from.result in
-    omega arith
+    omega (arith, none, refused_most)
 
 pub slice_bounds-vectors-end : goal.slice_bounds-vectors-end
 slice_bounds-vectors-end c =
@@ -55,8 +59,8 @@ put_content-requires c =
 pub returns-in-Err : goal.returns-in-Err
 returns-in-Err c =
     let refusal = c.in-Err.refusal in
-    c.put_refused.ensures ∙ ap (λ (text : List ℕ). text ++ refused_line c.from.result) c.new-text.ensures
-    ∙ ap refused_line c.from.ensures ∙ sym (read_refused _ _ refusal c.in-Err.is c.read_job.ensures.answer)
+    alone _ _ _ (row_number refusal) c.put_refused.ensures c.new-text.ensures (omega (arith, c.from.ensures))
+    ∙ sym (read_refused _ _ refusal c.in-Err.is c.read_job.ensures.answer)
 
 pub returns-in-Ok : goal.returns-in-Ok
 returns-in-Ok c =

@@ -1,6 +1,7 @@
-use Rattle.std.proofs.Common.{sym, ap, ◌∙◌, length}
+use Rattle.std.proofs.Common.{List, ℕ, sym, ap, ◌∙◌, length, ltb-false}
+use Rattle.words.specs.Answers.{full, lent_after}
 use Rattle.std.proofs.lemmas.Result.{err_from_is_err_and}
-use Rattle.writer.proofs.WriteRows.{by_row_2, by_set, by_row_9, by_row_10, by_row_12, by_none, asked, tested_room, same_file, in_front}
+use Rattle.writer.proofs.WriteRows.{by_row_2, by_set, by_row_9, by_row_10, by_row_12, by_none, asked, tested_room, same_file}
 use Rattle.writer.proofs.write_job.Goals as goal
 
 pub returns-in_err-kind : goal.returns-in_err-kind
@@ -45,25 +46,30 @@ returns-in_err-refuse_if-3 c =
     let p = err_from_is_err_and c.from_residual-in_err-refuse_if-3.result c.from_residual-in_err-refuse_if-3.ensures.1 in
     let refused = c.in_err-refuse_if-3.ensures.refused in
     let set = c.in_ok-set.ensures.admitted in
-    let file = same_file _ a.responses.now c.in_ok-kind.ensures.0 set.0 set.1 set.2 c.bytes-bytes.ensures in
+    let file = same_file a.responses.now c.in_ok-kind.ensures.0 set.0 set.1 set.2 in
     let owed = by_row_12 a.kind a.net a.class a.vectors.now a.responses.now a.file.now c.in_ok-kind.ensures.1
     (sym c.in_ok-set.ensures.rows)
     (asked a.responses.now c.bad_response_count.ensures c.in_ok-refuse_if.ensures.passed)
     (asked a.responses.now c.has_high_bit.ensures c.in_ok-refuse_if-2.ensures.passed)
-    (tested_room _ _ (c.len-size.ensures.value ∙ ap length file) c.no_room.ensures refused.1) in
+    (tested_room _ _ (c.size-size.ensures ∙ ap length file) c.no_room.ensures refused.1) in
     record { answer = rw (p.1, p.2, refused.0) owed.0; list = owed.1 }
+
+pub put-requires : goal.put-requires
+put-requires c =
+    ltb-false (length c.args.file.now) _
+    (tested_room _ (length c.args.file.now) c.size-size.ensures c.no_room.ensures c.in_ok-refuse_if-3.ensures.passed)
 
 pub returns : goal.returns
 returns c =
     let a = c.args in
     let set = c.in_ok-set.ensures.admitted in
-    let file = same_file _ a.responses.now c.in_ok-kind.ensures.0 set.0 set.1 set.2 c.bytes-bytes.ensures in
-    let size = c.len-size.ensures.value ∙ ap length file in
+    let file = same_file a.responses.now c.in_ok-kind.ensures.0 set.0 set.1 set.2 in
+    let size = c.size-size.ensures ∙ ap length file in
     let owed = by_none a.kind a.net a.class a.vectors.now a.responses.now a.file.now c.in_ok-kind.ensures.1
     (sym c.in_ok-set.ensures.rows)
     (asked a.responses.now c.bad_response_count.ensures c.in_ok-refuse_if.ensures.passed)
     (asked a.responses.now c.has_high_bit.ensures c.in_ok-refuse_if-2.ensures.passed)
     (tested_room _ _ size c.no_room.ensures c.in_ok-refuse_if-3.ensures.passed)
-    c.len-size.result _ size
-    (in_front _ _ a.file.now c.len-size.result (c.copy_from_slice.ensures.after ∙ c.as_slice.ensures.value ∙ file) size) in
+    c.size-size.result _ size
+    (c.put.ensures ∙ ap (λ (bytes : List ℕ). lent_after (full bytes) a.file.now) file) in
     record { answer = owed.0; list = owed.1 }

@@ -1,4 +1,4 @@
-use Rattle.std.proofs.Common.{ℕ, ◌+◌, ◌<◌, List, [], ◌∷◌, ◌++◌, length, arith, sym, subst, below_more}
+use Rattle.std.proofs.Common.{ℕ, ◌+◌, ◌<◌, List, [], ◌∷◌, ◌++◌, length, ◌≡◌, ◌∙◌, ap, arith, sym, subst, below_more}
 use Rattle.std.proofs.Math.ListN.{get_or-append}
 use Rattle.std.proofs.Math.Seq.{get_or-append_seam}
 use Rattle.words.specs.Bits.{at}
@@ -29,9 +29,11 @@ loop-answered-preserved c =
     let only = walked_only net t.vectors.now _ _
     (full_of_rule net t.vectors.now
     (rw c.requires.0 at (passed_by net t.class t.vectors.now t.admitted c.args.passed.passed).1))
-    c.walking_reach.ensures in (
+    c.walking_reach.ensures in
+    let pushed : c.push.new.self.items ≡ l.reaches.items ++ c.walking_reach.result ∷ [] =
+    c.push.ensures.items ∙ ap (λ (x : ℕ). l.reaches.items ++ x ∷ []) (omega arith) in (
       omega (arith, c.push.ensures.len, l.invariant.0),
-      rw c.push.ensures.items (rw (sym l.invariant.0)
+      rw pushed (rw (sym l.invariant.0)
           (one_more (λ z reach. OnlyAnswer net t.class t.vectors.now (at c.args.answers.now z) reach) l.reaches.items _
           (rw l.invariant.0 l.invariant.1) (rw (l.invariant.0, c.requires.0) only))),
     )

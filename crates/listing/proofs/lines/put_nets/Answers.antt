@@ -1,11 +1,16 @@
 use Rattle.std.proofs.Common.{ℕ, ◌≡◌, ◌+◌, ◌<◌, ◌≤◌, ◌-◌, ◌∙◌, sym, ap, arith, List, ◌++◌, length, length-append}
 use Rattle.std.proofs.Common.{append_assoc, append-nil}
+use Rattle.std.proofs.Common.{get_or, subst}
+use Rattle.arrayvec.specs.ArrayVec.{array_vec_len}
+use Rattle.words.specs.Answers.{lent_after}
 use Rattle.network.specs.declared.Network.{Network}
-use Rattle.network.proofs.OwnReceivers.{own_size}
+use Rattle.network.specs.States.{State}
+use Rattle.network.specs.Rows.{AdmittedBoard}
+use Rattle.network.specs.OwnReceivers.{own_receivers}
 use Rattle.findings.specs.declared.Finding.{Finding}
-use Rattle.findings.specs.Findings.{finding}
+use Rattle.findings.specs.FindingsTable.{findings_answer, blank, blank_table}
 use Rattle.listing.specs.Report.{net_line, net_lines}
-use Rattle.listing.proofs.NetsPut.{found_at, lines_next, lines_end}
+use Rattle.listing.proofs.NetsPut.{found_at, record_at, lines_next, lines_end}
 use Rattle.listing.proofs.lines.put_nets.Goals as goal
 
 -- The text up to the lines of the nets from net i on; with them it is the whole, which has room.
@@ -28,31 +33,40 @@ module _ (net : Network) (state text whole : List ℕ) (i : ℕ)
   last : net.nets ≤ i → text ≡ whole
   last l = sym (append-nil text) ∙ ap (λ (rest : List ℕ). text ++ rest) (sym (lines_end net state i l)) ∙ e
 
-pub finding_of-requires : goal.finding_of-requires
-finding_of-requires c =
-    let b = c.args.board in
-    let size = ap length c.requires.own ∙ own_size b.nets.network.nets in
-    let here : c.loop-i.i < length b.receivers.now = omega (arith, size, c.loop-i-test.true) in
-    (here, c.requires.state)
+-- the table has what is found on net i
+module _ (net : Network) (owners state : List ℕ) (table : List Finding) (own : owners ≡ own_receivers net.nets)
+    (board : AdmittedBoard net owners) (is_state : State net (length owners) net.nets state)
+    (e : table ≡ lent_after (findings_answer net owners state 64) blank_table) where
+  line_of : (i j : ℕ) → j ≡ i → i < net.nets → net_line i (get_or table j blank) ≡ net_line i (found_at net state i)
+  line_of i j same l =
+      ap (net_line i) (ap (λ (k : ℕ). get_or table k blank) same ∙ record_at net owners state table own board is_state e i l)
 
 pub put_net-requires : goal.put_net-requires
 put_net-requires c =
-    let net = c.args.board.nets.network in
+    let b = c.args.board in
+    let net = b.nets.network in
     let state = c.args.state.now in
     let l = c.loop-i in
-    let found = c.finding_of.ensures ∙ ap (λ (owners : List ℕ). finding net owners state l.i) c.requires.own in
+    let f = c.findings-accepted in
     let all = length-append c.args.text.now.items (net_lines net state 0 net.nets) in
     let size = next_size net state _ _ l.i l.invariant c.loop-i-test.true in
-    rw found (omega (arith, c.requires.room))
+    let room : array_vec_len l.text + length (net_line l.i (found_at net state l.i)) ≤ 4142 =
+    omega (arith, c.requires.room, all, size) in
+    subst (λ (line : List ℕ). array_vec_len l.text + length line ≤ 4142)
+    (sym (line_of net b.receivers.now state f.new.table c.requires.own b.admitted c.requires.state f.ensures.table l.i _
+    (omega arith) c.loop-i-test.true)) room
 
 pub loop-i-preserved : goal.loop-i-preserved
 loop-i-preserved c =
-    let net = c.args.board.nets.network in
+    let b = c.args.board in
+    let net = b.nets.network in
     let state = c.args.state.now in
     let l = c.loop-i in
-    let found = c.finding_of.ensures ∙ ap (λ (owners : List ℕ). finding net owners state l.i) c.requires.own in
+    let f = c.findings-accepted in
+    let line = line_of net b.receivers.now state f.new.table c.requires.own b.admitted c.requires.state f.ensures.table l.i _
+    (omega arith) c.loop-i-test.true in
     next net state _ _ l.i l.invariant c.loop-i-test.true _
-    (c.put_net.ensures ∙ ap (λ (x : Finding). l.text.items ++ net_line l.i x) found)
+    (c.put_net.ensures ∙ ap (λ (line : List ℕ). l.text.items ++ line) line)
 
 pub returns : goal.returns
 returns c =

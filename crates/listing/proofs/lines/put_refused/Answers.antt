@@ -1,10 +1,10 @@
 use Rattle.listing.specs.Report.{refused_line}
 use Rattle.listing.proofs.lines.put_refused.Goals as goal
 
-pub put_line-requires : goal.put_line-requires
+pub append_line-requires : goal.append_line-requires
 unfolding refused_line
-put_line-requires c = c.requires
+append_line-requires c = c.requires
 
 pub returns : goal.returns
 unfolding refused_line
-returns c = c.put_line.ensures
+returns c = c.append_line.ensures

@@ -9,7 +9,7 @@ loop-written-preserved c =
     let a = c.args in
     let l = c.loop-written in (
       search rules,
-      ap₂ (λ (m : List ℕ) (r : ℕ). set m l.written r) l.invariant.1 c.response_word-word.ensures
+      ap₂ (λ (m : List ℕ) (r : ℕ). set m l.written r) l.invariant.1 (omega (arith, c.response_word-word.ensures))
           ∙ map_fill (response_word a.net a.state.now) a.vectors.now a.out.now l.written (omega arith) (omega arith),
     )
 

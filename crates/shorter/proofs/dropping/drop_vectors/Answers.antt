@@ -1,7 +1,6 @@
 use Rattle.std.proofs.Common.{◌≡◌, ℕ, ◌-◌, ◌≤◌, ◌<◌, Bool, true, false, cond, ◌&&◌, List, length, Result, Ok, Err}
 use Rattle.std.proofs.Common.{IfOk, IfErr, arith, refl, sym, ap, ◌∙◌, subst, ltb, ltb-true}
-use Rattle.std.specs.List.{insert, remove}
-use Rattle.std.specs.Result.{is_err}
+use Rattle.std.specs.Result.{is_ok}
 use Rattle.std.proofs.lemmas.Result.{IfOk-weaker}
 use Rattle.words.proofs.Tests.{and_left, and_right, contrary}
 use Rattle.words.specs.Answers.{NoneHolds}
@@ -10,7 +9,7 @@ use Rattle.network.specs.Rows.{SetRows}
 use Rattle.network.proofs.Rows.{admitted_set}
 use Rattle.checker.specs.Passed.{passes}
 use Rattle.shorter.specs.Shorter.{InOrder, without}
-use Rattle.shorter.proofs.Ordered.{in_order_both, in_order_length, without_in_order, without_length, remove_is_without, put_back}
+use Rattle.shorter.proofs.Ordered.{in_order_both, in_order_length, without_in_order, without_length}
 use Rattle.shorter.proofs.Trying.{Going, going_first, going_on, going_last}
 use Rattle.shorter.proofs.Parts.{part_admitted, part_size}
 use Rattle.shorter.proofs.dropping.drop_vectors.Goals as goal
@@ -64,17 +63,17 @@ module _ (net : Network) (k : ℕ) (vectors : List ℕ) (admitted : NoneHolds (S
 
 -- what the answer on the others tells of the test
 refused_fails : {T E : Type 0} (Q : E → Type 0) (b : Bool) (r : Result T E) → IfErr r (λ e. Q e × (b ≡ false))
-    → is_err r ≡ true → b ≡ false
-refused_fails Q b (Ok x) h e = contrary e refl
+    → is_ok r ≡ false → b ≡ false
+refused_fails Q b (Ok x) h e = contrary refl e
 refused_fails Q b (Err y) h e = h.1
 
-passed_holds : {T E : Type 0} (b : Bool) (r : Result T E) → IfOk r (λ _. b ≡ true) → is_err r ≡ false → b ≡ true
+passed_holds : {T E : Type 0} (b : Bool) (r : Result T E) → IfOk r (λ _. b ≡ true) → is_ok r ≡ true → b ≡ true
 passed_holds b (Ok x) h e = h
-passed_holds b (Err y) h e = contrary refl e
+passed_holds b (Err y) h e = contrary e refl
 
--- the others, where vector t - 1 is taken out
-others : (less new kept : List ℕ) (i : ℕ) → less ≡ new → new ≡ remove kept i → less ≡ without i kept
-others less new kept i e f = e ∙ f ∙ remove_is_without i kept
+-- the others: vector t - 1 is left out of what is kept so far
+others : (slice less kept : List ℕ) (i : ℕ) → slice ≡ less → less ≡ without i kept → slice ≡ without i kept
+others slice less kept i e f = e ∙ f
 
 pub invariant_of-others : goal.invariant_of-others
 invariant_of-others c =
@@ -83,39 +82,22 @@ invariant_of-others c =
     record {
       admitted = less_admitted p.set.nets.network p.set.class p.set.vectors.now p.set.admitted c.args.allowed l.kept.items l.t l.left
           l.invariant c.loop-t-test.true _
-          (others _ _ l.kept.items _ c.as_slice.ensures.value c.remove-vector.ensures.items);
+          (others _ _ l.kept.items _ c.as_slice.ensures.value c.without-less.ensures);
     }
 
-pub insert-requires : goal.insert-requires
-insert-requires c =
-    let p = c.args.passed in
-    let l = c.loop-t in
-    let inside = tried_inside p.set.nets.network p.set.class p.set.vectors.now p.set.admitted c.args.allowed l.kept.items l.t l.left
-    l.invariant c.loop-t-test.true in
-    let most = kept_most p.set.nets.network p.set.class p.set.vectors.now p.set.admitted c.args.allowed l.kept.items l.t l.left
-    l.invariant c.loop-t-test.true in
-    let one_less = c.remove-vector.ensures.len in
-    (omega arith, (omega arith, omega arith))
-
-pub loop-t-preserved-then-is_err : goal.loop-t-preserved-then-is_err
-loop-t-preserved-then-is_err c =
+pub loop-t-preserved-then-is_ok : goal.loop-t-preserved-then-is_ok
+loop-t-preserved-then-is_ok c =
     let p = c.args.passed in
     let net = p.set.nets.network in
     let k = p.set.class in
     let l = c.loop-t in
-    let less = others _ _ l.kept.items _ c.as_slice.ensures.value c.remove-vector.ensures.items in
-    let inside = tried_inside net k p.set.vectors.now p.set.admitted c.args.allowed l.kept.items l.t l.left
-    l.invariant c.loop-t-test.true in
-    let fails = refused_fails _ _ c.passed.result c.passed.ensures.refused (sym c.is_err.ensures.value ∙ c.if-is_err.true) in
-    let back : insert (without (l.t - 1) l.kept.items) (l.t - 1) c.remove-vector.result ≡ l.kept.items =
-    ap (insert (without (l.t - 1) l.kept.items) (l.t - 1)) c.remove-vector.ensures.value
-    ∙ put_back (l.t - 1) l.kept.items c.remove-vector.result inside in
-    let same : c.insert.new.self.items ≡ l.kept.items =
-    c.insert.ensures.items
-    ∙ ap (λ (xs : List ℕ). insert xs (l.t - 1) c.remove-vector.result)
-    (c.remove-vector.ensures.items ∙ remove_is_without (l.t - 1) l.kept.items) ∙ back in
-    rw same (goes_on net k p.set.vectors.now p.set.admitted c.args.allowed l.kept.items l.t l.left l.invariant
-    c.loop-t-test.true _ less false fails)
+    let less = others _ _ l.kept.items _ c.as_slice.ensures.value c.without-less.ensures in
+    let holds = passed_holds _ c.passed.result (IfOk-weaker c.passed.result _ _ (λ _ h. h.3) c.passed.ensures.passed)
+    (sym c.is_ok.ensures.value ∙ c.if-is_ok.true) in
+    let dropped : _ ≡ without (l.t - 1) l.kept.items = grind arith in
+    subst (λ (kept : List ℕ). Going (passes net k) p.set.vectors.now c.args.allowed kept (l.t - 1) (l.left - 1)) (sym dropped)
+    (goes_on net k p.set.vectors.now p.set.admitted c.args.allowed l.kept.items l.t l.left l.invariant
+    c.loop-t-test.true _ less true holds)
 
 pub loop-t-preserved : goal.loop-t-preserved
 loop-t-preserved c =
@@ -123,12 +105,10 @@ loop-t-preserved c =
     let net = p.set.nets.network in
     let k = p.set.class in
     let l = c.loop-t in
-    let less = others _ _ l.kept.items _ c.as_slice.ensures.value c.remove-vector.ensures.items in
-    let holds = passed_holds _ c.passed.result (IfOk-weaker c.passed.result _ _ (λ _ h. h.3) c.passed.ensures.passed)
-    (sym c.is_err.ensures.value ∙ c.if-is_err.false) in
-    rw (c.remove-vector.ensures.items ∙ remove_is_without (l.t - 1) l.kept.items)
-    (goes_on net k p.set.vectors.now p.set.admitted c.args.allowed l.kept.items l.t l.left l.invariant
-    c.loop-t-test.true _ less true holds)
+    let less = others _ _ l.kept.items _ c.as_slice.ensures.value c.without-less.ensures in
+    let fails = refused_fails _ _ c.passed.result c.passed.ensures.refused (sym c.is_ok.ensures.value ∙ c.if-is_ok.false) in
+    goes_on net k p.set.vectors.now p.set.admitted c.args.allowed l.kept.items l.t l.left l.invariant
+    c.loop-t-test.true _ less false fails
 
 pub returns-clause-kept : goal.returns-clause-kept
 returns-clause-kept c =

@@ -1,6 +1,6 @@
-use Rattle.std.proofs.Common.{rules, arith}
+use Rattle.std.proofs.Common.{◌≡◌, rules, arith, bit_and}
 use Rattle.std.proofs.Math.ListN.{get_or-replicate}
-use Rattle.words.specs.Bits.{word}
+use Rattle.words.specs.Bits.{word, at}
 use Rattle.words.proofs.Adding.{added_small, added_more, added_whole}
 use Rattle.words.proofs.turning.columns.Goals as goal
 
@@ -17,9 +17,11 @@ add_row-requires g c =
 pub loop-t-preserved : goal.loop-t-preserved
 loop-t-preserved g c =
     let l = c.loop-t in
-    let a = c.args in (
+    let a = c.args in
+    let added : g.W.Word.bits_of c.of_bits.result ≡ bit_and (at a.words.now l.t) c.low_ones-inside.result =
+    omega (arith, c.of_bits.ensures) in (
       c.add_row.ensures.0,
-      λ i m. added_more a.words.now _ l.t l.columns l.invariant.1 i m _ (rw (← c.of_bits.ensures) (c.add_row.ensures.1 i m)) (omega arith),
+      λ i m. added_more a.words.now _ l.t l.columns l.invariant.1 i m _ (rw (← added) (c.add_row.ensures.1 i m)) (omega arith),
     )
 
 pub returns : goal.returns

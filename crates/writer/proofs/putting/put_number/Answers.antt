@@ -1,12 +1,14 @@
-use Rattle.std.proofs.Common.{ℕ, List, ◌≡◌, ◌++◌, ap, ◌∙◌, take}
-use Rattle.std.proofs.lemmas.Result.{IfOk-at_ok}
-use Rattle.jobfile.proofs.ByteLaws.{low_bytes}
+use Rattle.std.proofs.Common.{ap, ◌∙◌, take, arith}
+use Rattle.std.specs.Int.{w64, to_le_bytes}
+use Rattle.jobfile.specs.Bytes.{bytes_of}
+use Rattle.jobfile.proofs.ByteLaws.{bytes_count, low_bytes}
+use Rattle.writer.proofs.FileParts.{front_put}
 use Rattle.writer.proofs.putting.put_number.Goals as goal
 
-pub returns-clause-items : goal.returns-clause-items
-returns-clause-items c =
+pub returns : goal.returns
+returns c =
     let a = c.args in
-    let put = c.try_extend_from_slice in
-    IfOk-at_ok (λ _. put.new.self.items ≡ a.bytes.now.items ++ take a.count c.to_le_bytes.result) c.unwrap.ensures put.ensures.ok
-    ∙ ap (λ (xs : List ℕ). a.bytes.now.items ++ xs)
-    (ap (take a.count) c.to_le_bytes.ensures ∙ low_bytes a.count a.number c.requires.0)
+    front_put a.count a.file.now _ (bytes_of a.count a.number)
+    (c.copy_from_slice.ensures.after ∙ ap (take a.count) (c.to_le_bytes-bytes.ensures ∙ ap (to_le_bytes w64) (omega arith))
+    ∙ low_bytes a.count a.number c.requires.1)
+    (bytes_count a.count a.number)

@@ -1,6 +1,0 @@
-use Rattle.std.proofs.Common.{◌≡◌, ◌++◌, take, drop}
-use Rattle.scan_chain.specs.Responses.{responses}
-use Rattle.scan_chain.proofs.cells.Chain.fill_responses.Given as goal
-
-abbrev pub invariant-loop-t : goal.invariant-loop-t
-invariant-loop-t l = l.out ≡ take l.t (responses l.self.cells l.self.receivers.now l.count l.tdo) ++ drop l.t l.initial.out

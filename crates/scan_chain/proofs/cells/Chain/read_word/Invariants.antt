@@ -1,7 +1,0 @@
-use Rattle.std.proofs.Common.{◌≡◌, map, take}
-use Rattle.words.specs.Bits.{word}
-use Rattle.scan_chain.specs.Responses.{shifted_out}
-use Rattle.scan_chain.proofs.cells.Chain.read_word.Given as goal
-
-abbrev pub invariant-loop-r : goal.invariant-loop-r
-invariant-loop-r l = l.word ≡ word (map (shifted_out l.self.cells l.tdo l.scan) (take l.r l.self.receivers.now))
