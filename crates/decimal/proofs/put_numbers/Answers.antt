@@ -14,8 +14,9 @@ module _ (numbers text whole : List ℕ) (end i : ℕ) (inside : end < length te
       → written after to (numbers_end (drop (i + 1) numbers)) ≡ whole
   next l after to f g =
       let n = get_or numbers i 0 in
+      let first = written_one text end space inside in
       let put : after ≡ written text end (spaced n) =
-      written_next text (set text end space) after end (end + 1) (space ∷ []) (decimal n) (written_one text end space inside) f refl (omega arith) in
+      written_next text (set text end space) after end (end + 1) (space ∷ []) (decimal n) first f refl (omega arith) in
       let place : to ≡ end + length (spaced n) = omega arith in
       written_next text after _ end to (spaced n) (numbers_end (drop (i + 1) numbers)) put refl place (omega arith)
       ∙ ap (written text end) (sym (numbers_next numbers i l)) ∙ e

@@ -10,5 +10,6 @@ returns c =
     let size = scan_size (contents chain.cells chain.drivers.now all_zero c.args.vector) in
     let cells = cells_size chain.cells (cell_bit chain.drivers.now all_zero c.args.vector) in
     let put = c.copy_from_slice.ensures.after in
-    rw put (front_put c.args.out.now c.scan_of.new.bytes _ c.args.start c.scan_length-size.result _ (omega arith) (omega arith) (omega arith)
-    c.scan_of.ensures.scan)
+    let start = c.args.start in
+    rw put (front_put c.args.out.now c.scan_of.new.bytes _ start c.scan_length-size.result _ (omega arith) (omega arith)
+    (omega arith) c.scan_of.ensures.scan)
